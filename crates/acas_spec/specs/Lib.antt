@@ -1,0 +1,4 @@
+pub mod Steps
+pub mod Axis
+pub mod Model
+pub mod Accepted
