@@ -21,12 +21,7 @@ fn find<'t>(table: &'t Table, key: &str) -> Result<&'t Value, DocKind>
 }
 
 /// The whole number at a key, from least to greatest.
-fn find_whole(
-    table: &Table,
-    key: &str,
-    least: i64,
-    greatest: i64,
-) -> Result<i64, DocKind>
+fn find_whole(table: &Table, key: &str, least: i64, greatest: i64) -> Result<i64, DocKind>
     ensures value { result ≡ found_whole (table_view table.now) key.now least greatest }
     ensures range { IfOk result (λ z. (least ≤ℤ z) × (z ≤ℤ greatest)) }
 {

@@ -61,14 +61,14 @@ fn values_are_found(alloc: Global, document: &Table) -> bool {
 #[test]
 fn finds_values(rt: HostRuntime) {
     let alloc = rt.alloc();
-    let document = toml::table_from_str(alloc, DOCUMENT)?;
+    let document = toml::table_from_str(alloc, DOCUMENT).expect(&rt, "a document");
     assert!(rt; values_are_found(alloc, &document));
 }
 
 #[test]
 fn names_faults(rt: HostRuntime) {
     let alloc = rt.alloc();
-    let document = toml::table_from_str(alloc, DOCUMENT)?;
+    let document = toml::table_from_str(alloc, DOCUMENT).expect(&rt, "a document");
     let wholes = [
         ("none", 0, 9, DocKind::Missing),
         ("text", 0, 9, DocKind::WrongKind),
@@ -81,15 +81,55 @@ fn names_faults(rt: HostRuntime) {
         ("whole", 0, 4, out_of_range(5, 0, 4)),
     ];
     for (key, least, greatest, kind) in wholes {
-        assert!(rt; is_fault(whole(alloc, &document, b"", key, least, greatest), key.as_bytes(), kind));
+        assert!(rt;
+            is_fault(
+                whole(alloc, &document, b"", key, least, greatest),
+                key.as_bytes(),
+                kind
+            )
+        );
     }
-    assert!(rt; is_fault(text(alloc, &document, b"a", "whole"), b"a.whole", DocKind::WrongKind));
-    assert!(rt; is_fault(table(alloc, &document, b"a[1]", "list"), b"a[1].list", DocKind::WrongKind));
-    assert!(rt; is_fault(list(alloc, &document, b"a", "list", 4, 9), b"a.list", out_of_range(3, 4, 9)));
-    assert!(rt; is_fault(list(alloc, &document, b"a", "list", 0, 2), b"a.list", out_of_range(3, 0, 2)));
-    assert!(rt; is_fault::<()>(Err(fault_at(alloc, b"a.b", "c", DocKind::Missing)), b"a.b.c", DocKind::Missing));
-    assert!(rt; path_of_key(alloc, b"", "horizon")?.bytes() == b"horizon");
-    assert!(rt; path_of_item(alloc, b"grid.altitude", 12)?.bytes() == b"grid.altitude[12]");
+    assert!(rt;
+        is_fault(
+            text(alloc, &document, b"a", "whole"),
+            b"a.whole",
+            DocKind::WrongKind
+        )
+    );
+    assert!(rt;
+        is_fault(
+            table(alloc, &document, b"a[1]", "list"),
+            b"a[1].list",
+            DocKind::WrongKind
+        )
+    );
+    assert!(rt;
+        is_fault(
+            list(alloc, &document, b"a", "list", 4, 9),
+            b"a.list",
+            out_of_range(3, 4, 9)
+        )
+    );
+    assert!(rt;
+        is_fault(
+            list(alloc, &document, b"a", "list", 0, 2),
+            b"a.list",
+            out_of_range(3, 0, 2)
+        )
+    );
+    assert!(rt;
+        is_fault::<()>(
+            Err(fault_at(alloc, b"a.b", "c", DocKind::Missing)),
+            b"a.b.c",
+            DocKind::Missing
+        )
+    );
+    assert!(rt;
+        matches!(path_of_key(alloc, b"", "horizon"), Ok(path) if path.bytes() == b"horizon".as_slice())
+    );
+    assert!(rt;
+        matches!(path_of_item(alloc, b"grid", 12), Ok(path) if path.bytes() == b"grid[12]".as_slice())
+    );
 }
 
 #[test]
@@ -104,10 +144,22 @@ fn names_the_least_unknown_key(rt: HostRuntime) {
         ("\"\" = 1\n", "a", b"t."),
     ];
     for (text, known, path) in cases {
-        let table = toml::table_from_str(alloc, text)?;
-        assert!(rt; is_fault(only_keys(alloc, &table, b"t", known), path, DocKind::UnknownKey));
+        let table = toml::table_from_str(alloc, text).expect(&rt, "a document");
+        assert!(rt;
+            is_fault(
+                only_keys(alloc, &table, b"t", known),
+                path,
+                DocKind::UnknownKey
+            )
+        );
     }
-    let table = toml::table_from_str(alloc, "b = 1\na = 1\n")?;
+    let table = toml::table_from_str(alloc, "b = 1\na = 1\n").expect(&rt, "a document");
     assert!(rt; only_keys(alloc, &table, b"t", "a b c").is_ok());
-    assert!(rt; is_fault(only_keys(alloc, &table, b"", "b"), b"a", DocKind::UnknownKey));
+    assert!(rt;
+        is_fault(
+            only_keys(alloc, &table, b"", "b"),
+            b"a",
+            DocKind::UnknownKey
+        )
+    );
 }
