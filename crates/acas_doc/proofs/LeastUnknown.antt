@@ -1,5 +1,5 @@
 -- In a table, whose keys ascend, the first key that is not known is the least.
-use Rattle.std.proofs.Common.{◌≡◌, ◌≢◌, ◌⊎◌, ◌↔◌, ℕ, true, false, List, [], ◌∷◌, ◌++◌, Option, Some, None, IsSome, Result, Ok, Err, String, Global, string_bytes, string_cmp, nat_cmp, is_eq, Ordering, Less, Equal, Greater, inl, inr, refl, sym, subst, ap, ◌∙◌}
+use Rattle.std.proofs.Common.{◌≡◌, ◌≢◌, ◌⊎◌, ◌↔◌, ℕ, true, List, [], ◌∷◌, Option, Some, None, IsSome, Result, Ok, Err, String, Global, string_bytes, string_cmp, nat_cmp, is_eq, Ordering, Less, Equal, Greater, inl, inr, refl, sym, subst, ap, ◌∙◌}
 use Rattle.std.specs.Cmp.Lexicographic.{slice_cmp}
 use Rattle.std.specs.List.{AllByRecursion}
 use Rattle.std.specs.List.Sorted.{IsStrictlySortedBy}
