@@ -1,7 +1,7 @@
 //! An axis: from 2 to 129 numbers that rise.
 ghost use Rattle.std.specs.Prelude.{◌≡◌, ◌<◌, length, IfNone, IfSome};
 ghost use Rattle.acas_spec.specs.Axis.{IsAxis, Rises, place_value};
-ghost use Rattle.acas_grid.specs.Axis.{axis_of, first_fall};
+ghost use Rattle.acas_grid.specs.Axis.{IsBetweenEnds, IsCell, axis_of, clamp_to, first_fall};
 
 use std::marker::Model;
 
@@ -85,5 +85,24 @@ impl Axis {
         ensures axis { IsAxis self.now }
     {
         self.values[place as usize]
+    }
+
+    /// The nearest number between the ends of the axis.
+    pub fn clamp(&self, x: i64) -> i64
+        ensures value { result ≡ clamp_to self.now x }
+        ensures between { IsBetweenEnds self.now result }
+    {
+        let last = self.value(self.len() - 1);
+        let first = self.value(0);
+        x.min(last).max(first)
+    }
+
+    /// The place where the cell of a number begins: the greatest whose number is at or below it, but never the last.
+    pub fn cell_of(&self, x: i64) -> u32
+        requires { IsBetweenEnds self.now x }
+        ensures { IsCell self.now result x }
+    {
+        let inner = &self.values[1..self.values.len() - 1];
+        inner.partition_point(|&value| value <= x) as u32
     }
 }
