@@ -86,7 +86,7 @@ fn advisory_item(alloc: Global, items: &[Value], place: u32) -> Result<Advisory,
 }
 
 /// The advisories of a list.
-fn advisory_items(alloc: Global, items: &[Value]) -> Result<Vec<Advisory>, ModelFault>
+pub(crate) fn advisory_items(alloc: Global, items: &[Value]) -> Result<Vec<Advisory>, ModelFault>
     requires { length items.now < 2 ^ 32 }
     ensures value { Gives (λ v. v.items) result (rules.advisory_items (map view items.now)) }
     ensures count { IfOk result (λ v. length v.items ≡ length items.now) }
