@@ -1,9 +1,8 @@
 -- The table `grid`: the three axes.
 use Rattle.std.specs.Prelude.{ℕ, ◌-◌, ◌^◌, List, [], length, codes, ℤ, pos, negsuc, ◌*ℤ◌, Result, Ok}
 use Rattle.toml.specs.Data.{Data, Members}
-use Rattle.acas_spec.specs.Steps.{◌>>=◌, ◌>>◌, fault_as, each}
-use Rattle.acas_doc.specs.Keys.{list_at, table_at, whole_item}
-use Rattle.acas_doc.specs.Known.{only_known}
+use Rattle.acas_spec.specs.Steps.{◌>>=◌, fault_as, each}
+use Rattle.acas_doc.specs.Keys.{list_at, whole_item}
 use Rattle.acas_doc.specs.Paths.{key_path}
 use Rattle.acas_grid.specs.Axis.{axis_of}
 use Rattle.acas_model.specs.declared.axes.Axes.{Axes}
@@ -11,7 +10,7 @@ use Rattle.acas_model.specs.declared.fault.AxisName.{AxisName}
 use Rattle.acas_model.specs.declared.fault.AxisName.TheVariants.{Altitude, OwnRate, IntruderRate}
 use Rattle.acas_model.specs.declared.fault.ModelFault.{ModelFault}
 use Rattle.acas_model.specs.declared.fault.ModelFault.TheVariants.{Axis}
-use Rattle.acas_model.specs.Document.{in_doc}
+use Rattle.acas_model.specs.Document.{in_doc, closed_table}
 
 -- a whole number from -10000 to 10000, in units of which so many make one of the file's
 unfoldable pub scaled_item : List ℕ → ℕ → ℕ → Data → Result ℤ ModelFault
@@ -32,10 +31,7 @@ axis_at grid key scale name = do
 
 -- `grid` is a table that has no other keys
 unfoldable pub grid_table : Members → Result Members ModelFault
-grid_table doc = do
-  grid ← in_doc (table_at doc [] (codes "grid"))
-  in_doc (only_known (codes "grid") (codes "altitude own_rate intruder_rate") grid)
-  Ok grid
+grid_table doc = closed_table doc (codes "grid") (codes "altitude own_rate intruder_rate")
 
 -- altitudes are feet in the file and ticks in the model, 120 to the foot
 unfoldable pub altitudes : Members → Result (List ℤ) ModelFault

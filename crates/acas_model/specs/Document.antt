@@ -1,11 +1,12 @@
 -- The document of a text, and the whole numbers at its keys.
-use Rattle.std.specs.Prelude.{ℕ, List, pos, unsigned_abs, if◌then◌else◌, Option, Some, None, Result, Ok, Err}
+use Rattle.std.specs.Prelude.{ℕ, List, [], pos, unsigned_abs, if◌then◌else◌, Option, Some, None, Result, Ok, Err}
 use Rattle.std.specs.Str.{is_utf8}
 use Rattle.toml.specs.Data.{Members}
 use Rattle.toml.specs.Parse.{parse_document}
-use Rattle.acas_spec.specs.Steps.{◌>>=◌, fault_as}
+use Rattle.acas_spec.specs.Steps.{◌>>=◌, ◌>>◌, fault_as}
 use Rattle.acas_doc.specs.declared.fault.DocFault.{DocFault}
-use Rattle.acas_doc.specs.Keys.{whole_at}
+use Rattle.acas_doc.specs.Keys.{table_at, whole_at}
+use Rattle.acas_doc.specs.Known.{only_known}
 use Rattle.acas_model.specs.declared.fault.ModelFault.{ModelFault}
 use Rattle.acas_model.specs.declared.fault.ModelFault.TheVariants.{NotToml, Doc}
 
@@ -27,3 +28,10 @@ unfoldable pub number_at : Members → List ℕ → List ℕ → ℕ → ℕ →
 number_at ms path key least greatest = do
   z ← in_doc (whole_at ms path key (pos least) (pos greatest))
   Ok (unsigned_abs z)
+
+-- the table at a key of the document, which has no other keys than those named
+unfoldable pub closed_table : Members → List ℕ → List ℕ → Result Members ModelFault
+closed_table doc key known = do
+  table ← in_doc (table_at doc [] key)
+  in_doc (only_known key known table)
+  Ok table

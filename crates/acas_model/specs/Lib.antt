@@ -7,3 +7,4 @@ pub mod Choices
 pub mod Noise
 pub mod Whole
 pub mod View
+pub mod Text

@@ -61,7 +61,7 @@ fn advisory_of(
     path: &[u8],
     place: u32,
 ) -> Result<Advisory, ModelFault>
-    ensures value { Gives (λ a. a) result (rules.advisory_of (table_view table.now) path.now place) }
+    ensures { Gives (λ a. a) result (rules.advisory_of (table_view table.now) path.now place) }
 {
     only_keys(alloc, table, path, "name lo hi choices costs")?;
     let name = name_at(alloc, table, path)?;
@@ -78,7 +78,7 @@ fn advisory_of(
 #[tactic(auto, unfolding(crate::specs::Advisories::advisory_item))]
 fn advisory_item(alloc: Global, items: &[Value], place: u32) -> Result<Advisory, ModelFault>
     requires { place < length items.now }
-    ensures value { Gives (λ a. a) result (rules.advisory_item place (data_at (map view items.now) place)) }
+    ensures { Gives (λ a. a) result (rules.advisory_item place (data_at (map view items.now) place)) }
 {
     let table = table_item(alloc, items, b"advisory", place)?;
     let path = path_of_item(alloc, b"advisory", place)?;

@@ -6,8 +6,9 @@ ghost use Rattle.acas_doc.specs.Paths.{key_path};
 ghost use Rattle.acas_model.specs.Answers.{Gives};
 ghost use Rattle.acas_model.specs.Axes as rules;
 
+use crate::document::closed_table;
 use crate::fault::{AxisName, ModelFault};
-use acas_doc::{item, list, only_keys, table};
+use acas_doc::{item, list};
 use acas_grid::Axis;
 use std::alloc::Global;
 use toml::{Table, Value};
@@ -73,9 +74,7 @@ fn axis_at(
 fn grid_table<'t>(alloc: Global, document: &'t Table) -> Result<&'t Table, ModelFault>
     ensures { Gives (λ t. table_view t.now) result (rules.grid_table (table_view document.now)) }
 {
-    let grid = table(alloc, document, b"", "grid")?;
-    only_keys(alloc, grid, b"grid", "altitude own_rate intruder_rate")?;
-    Ok(grid)
+    closed_table(alloc, document, "grid", "altitude own_rate intruder_rate")
 }
 
 /// The altitudes, in ticks.

@@ -6,7 +6,7 @@ ghost use Rattle.acas_model.specs.Document.{number_at};
 ghost use Rattle.acas_model.specs.Document as rules;
 
 use crate::fault::ModelFault;
-use acas_doc::whole;
+use acas_doc::{only_keys, table, whole};
 use std::alloc::Global;
 use toml::Table;
 
@@ -54,6 +54,28 @@ pub(crate) fn number(
     ensures value { Gives (λ n. n) result (number_at (table_view table.now) path.now key.now least greatest) }
     ensures range { IfOk result (λ n. (least ≤ n) × (n ≤ greatest)) }
 {
-    let whole = whole(alloc, table, path, key, i64::from(least), i64::from(greatest))?;
+    let whole = whole(
+        alloc,
+        table,
+        path,
+        key,
+        i64::from(least),
+        i64::from(greatest),
+    )?;
     Ok(unsigned(whole))
+}
+
+/// The table at a key of the document, which has no other keys than those named.
+#[tactic(auto, unfolding(crate::specs::Document::closed_table))]
+pub(crate) fn closed_table<'t>(
+    alloc: Global,
+    document: &'t Table,
+    key: &str,
+    known: &str,
+) -> Result<&'t Table, ModelFault>
+    ensures { Gives (λ t. table_view t.now) result (rules.closed_table (table_view document.now) key.now known.now) }
+{
+    let inner = table(alloc, document, b"", key)?;
+    only_keys(alloc, inner, key.as_bytes(), known)?;
+    Ok(inner)
 }

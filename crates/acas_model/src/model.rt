@@ -35,7 +35,12 @@ impl std::marker::Model for Model {
 
 impl Model {
     /// The model of these parts.
-    pub(crate) fn new(grid: Grid, numbers: Numbers, advised: Advised, points: Vec<SigmaPoint>) -> Model
+    pub(crate) fn new(
+        grid: Grid,
+        numbers: Numbers,
+        advised: Advised,
+        points: Vec<SigmaPoint>,
+    ) -> Model
         requires { IsAccepted (model_with grid numbers advised.advisories.items (map (λ l. l.items) advised.choices.items) points.items) }
         ensures { result ≡ model_with grid numbers advised.advisories.items (map (λ l. l.items) advised.choices.items) points.items }
     {

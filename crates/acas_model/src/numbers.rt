@@ -4,9 +4,9 @@ ghost use Rattle.toml.specs.View.{table_view};
 ghost use Rattle.acas_model.specs.Answers.{Gives};
 ghost use Rattle.acas_model.specs.Numbers as rules;
 
-use crate::document::number;
+use crate::document::{closed_table, number};
 use crate::fault::ModelFault;
-use acas_doc::{only_keys, table, whole};
+use acas_doc::whole;
 use std::alloc::Global;
 use toml::Table;
 
@@ -17,19 +17,35 @@ pub(crate) struct Puck {
     pub half: u32,
 }
 
+/// The table `puck`.
+#[tactic(auto, unfolding(crate::specs::Numbers::puck_table))]
+fn puck_table<'t>(alloc: Global, document: &'t Table) -> Result<&'t Table, ModelFault>
+    ensures { Gives (λ t. table_view t.now) result (rules.puck_table (table_view document.now)) }
+{
+    closed_table(alloc, document, "puck", "radius half_height")
+}
+
+/// Half of the puck's height, in feet.
+#[tactic(auto, unfolding(crate::specs::Numbers::half_height))]
+fn half_height(alloc: Global, puck: &Table) -> Result<u32, ModelFault>
+    ensures value { Gives (λ n. n) result (rules.half_height (table_view puck.now)) }
+    ensures range { IfOk result (λ n. n ≤ 1000) }
+{
+    number(alloc, puck, b"puck", "half_height", 1, 1000)
+}
+
 /// What the table `puck` says.
 #[tactic(auto, unfolding(crate::specs::Numbers::puck_of))]
 fn puck_of(alloc: Global, document: &Table) -> Result<Puck, ModelFault>
     ensures value { Gives (λ p. p) result (rules.puck_of (table_view document.now)) }
     ensures range { IfOk result (λ p. p.radius ≤ 5000) }
 {
-    let puck = table(alloc, document, b"", "puck")?;
-    only_keys(alloc, puck, b"puck", "radius half_height")?;
+    let puck = puck_table(alloc, document)?;
     let radius = number(alloc, puck, b"puck", "radius", 1, 5000)?;
-    let half = number(alloc, puck, b"puck", "half_height", 1, 1000)?;
+    let feet = half_height(alloc, puck)?;
     Ok(Puck {
         radius,
-        half: 120 * half,
+        half: 120 * feet,
     })
 }
 
@@ -46,8 +62,7 @@ fn closing_of(alloc: Global, document: &Table) -> Result<Closing, ModelFault>
     ensures value { Gives (λ c. c) result (rules.closing_of (table_view document.now)) }
     ensures range { IfOk result (λ c. c.least ≤ 5000) }
 {
-    let closing = table(alloc, document, b"", "closing")?;
-    only_keys(alloc, closing, b"closing", "least greatest")?;
+    let closing = closed_table(alloc, document, "closing", "least greatest")?;
     let least = number(alloc, closing, b"closing", "least", 1, 5000)?;
     let greatest = number(alloc, closing, b"closing", "greatest", least, 5000)?;
     Ok(Closing { least, greatest })
@@ -65,8 +80,7 @@ pub(crate) struct Pilot {
 fn pilot_of(alloc: Global, document: &Table) -> Result<Pilot, ModelFault>
     ensures { Gives (λ p. p) result (rules.pilot_of (table_view document.now)) }
 {
-    let pilot = table(alloc, document, b"", "pilot")?;
-    only_keys(alloc, pilot, b"pilot", "pull limit")?;
+    let pilot = closed_table(alloc, document, "pilot", "pull limit")?;
     let pull = number(alloc, pilot, b"pilot", "pull", 1, 2000)?;
     let limit = number(alloc, pilot, b"pilot", "limit", pull, 2000)?;
     Ok(Pilot { pull, limit })
@@ -77,9 +91,15 @@ fn pilot_of(alloc: Global, document: &Table) -> Result<Pilot, ModelFault>
 fn contact_of(alloc: Global, document: &Table) -> Result<i64, ModelFault>
     ensures { Gives (λ z. z) result (rules.contact_of (table_view document.now)) }
 {
-    let cost = table(alloc, document, b"", "cost")?;
-    only_keys(alloc, cost, b"cost", "contact")?;
-    Ok(whole(alloc, cost, b"cost", "contact", -1_000_000_000, 1_000_000_000)?)
+    let cost = closed_table(alloc, document, "cost", "contact")?;
+    Ok(whole(
+        alloc,
+        cost,
+        b"cost",
+        "contact",
+        -1_000_000_000,
+        1_000_000_000,
+    )?)
 }
 
 /// What the four tables say.
