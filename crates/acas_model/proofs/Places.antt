@@ -76,3 +76,13 @@ none_at p (x ∷ xs) (suc k) d is within =
 pub none_from : {A : Type 0} (p : A → Bool) (xs : List A) (d : A) → ((k : ℕ) → k < length xs → p (get_or xs k d) ≡ false) → list_any p xs ≡ false
 none_from p [] d h = refl
 none_from p (x ∷ xs) d h = rw (h 0 (omega arith)) (none_from p xs d (λ k within. h (suc k) (omega (arith, within))))
+
+-- two lists that agree at each place are one
+pub same_lists : {A : Type 0} (xs ys : List A) (d : A) → length xs ≡ length ys → ((k : ℕ) → k < length xs → get_or xs k d ≡ get_or ys k d) → xs ≡ ys
+same_lists [] [] d long at = refl
+same_lists [] (y ∷ ys) d long at = absurd (omega (arith, long))
+same_lists (x ∷ xs) [] d long at = absurd (omega (arith, long))
+same_lists (x ∷ xs) (y ∷ ys) d long at =
+    let first = at 0 (omega arith) in
+    let more = same_lists xs ys d (omega (arith, long)) (λ k within. at (suc k) (omega (arith, within))) in
+    λ i. first i ∷ more i

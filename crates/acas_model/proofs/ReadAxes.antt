@@ -10,14 +10,17 @@ use Rattle.acas_doc.specs.Known.{only_known}
 use Rattle.acas_doc.specs.Paths.{key_path}
 use Rattle.acas_doc.proofs.Holds.{fault_as_ok, list_at_ok, whole_item_ok, table_at_ok}
 use Rattle.acas_grid.specs.Axis.{axis_of}
+use Rattle.acas_model.specs.declared.axes.Axes.{Axes}
 use Rattle.acas_model.specs.declared.fault.AxisName.{AxisName}
+use Rattle.acas_model.specs.declared.fault.AxisName.TheVariants.{Altitude, OwnRate, IntruderRate}
 use Rattle.acas_model.specs.declared.fault.ModelFault.{ModelFault}
 use Rattle.acas_model.specs.declared.fault.ModelFault.TheVariants.{Axis}
 use Rattle.acas_model.specs.Document.{in_doc}
-use Rattle.acas_model.specs.Axes.{scaled_item, scaled_items, axis_at}
+use Rattle.acas_model.specs.Axes.{scaled_item, scaled_items, axis_at, grid_table, altitudes, own_rates, intruder_rates, axes_of}
 use Rattle.acas_model.specs.Text.{HoldsAxis}
 use Rattle.acas_model.proofs.Places.{each_places}
 use Rattle.acas_model.proofs.Numerals.{abs_within, abs_scaled}
+use Rattle.acas_model.proofs.ReadNumbers.{IsTable, table_ok}
 use Rattle.acas_model.proofs.Rising.{axis_is}
 
 -- an item that was read
@@ -72,3 +75,27 @@ axis_at_ok grid key scale name axis is =
       is_axis = subst IsAxis made.0 made.1;
       within = subst (IsWithin (scale * 10000)) made.0 (record { bounded = λ k within. (items k (omega (arith, within, read.long))).within });
     }
+
+pub record IsReadAxes (doc : Members) (a : Axes) : Type 0 where
+  pub inner : Members
+  pub is_table : IsTable doc (codes "grid") (codes "altitude own_rate intruder_rate") inner
+  pub h : IsReadAxis inner (codes "altitude") 120 a.h
+  pub v0 : IsReadAxis inner (codes "own_rate") 1 a.v0
+  pub v1 : IsReadAxis inner (codes "intruder_rate") 1 a.v1
+
+pub axes_ok : (doc : Members) (a : Axes) → axes_of doc ≡ Ok a → IsReadAxes doc a
+unfolding axes_of grid_table altitudes own_rates intruder_rates
+axes_ok doc a e =
+    let g = bind_ok (grid_table doc) _ a e in
+    let h = bind_ok (altitudes g.0) _ a g.2 in
+    let v0 = bind_ok (own_rates g.0) _ a h.2 in
+    let v1 = bind_ok (intruder_rates g.0) _ a v0.2 in
+    let made : Axes = record { h = h.0; v0 = v0.0; v1 = v1.0 } in
+    let same : made ≡ a = same_ok {E = ModelFault} _ _ v1.2 in
+    subst (IsReadAxes doc) same (record {
+      inner = g.0;
+      is_table = table_ok doc (codes "grid") (codes "altitude own_rate intruder_rate") g.0 g.1;
+      h = axis_at_ok g.0 (codes "altitude") 120 Altitude h.0 h.1;
+      v0 = axis_at_ok g.0 (codes "own_rate") 1 OwnRate v0.0 v0.1;
+      v1 = axis_at_ok g.0 (codes "intruder_rate") 1 IntruderRate v1.0 v1.1;
+    })
