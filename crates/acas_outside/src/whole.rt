@@ -71,6 +71,7 @@ fn read_more<F: Folder>(
     requires room { 0 < room }
     requires small { length bytes.old.items < 2 ^ 60 }
     ensures given { Given (F.holds folder.old) name.now (λ file. ReadsOn file bytes.old.items bytes.new.items result) }
+    ensures bytes { IfOk result (λ n. IsBytes bytes.new.items) }
     ensures grows { IfOk result (λ n. length bytes.new.items ≡ length bytes.old.items + n) }
     ensures bound { IfOk result (λ n. n ≤ room) }
     ensures limit { IsErrOf result ReadFault.TooLong → ⊥ }
