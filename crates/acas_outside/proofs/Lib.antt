@@ -1,5 +1,5 @@
 pub mod Inserted
-pub mod StoredFiles
+mod StoredFiles
 pub mod Appended
 pub mod Grown
 pub mod ReadSoFar

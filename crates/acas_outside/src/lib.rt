@@ -11,6 +11,8 @@ mod parts;
 mod real;
 mod sink;
 mod stored;
+#[cfg(test)]
+mod tests;
 mod whole;
 
 pub use folder::{Folder, ReadMiss, store_file, write_piece};
