@@ -1,8 +1,7 @@
 -- A document that passes each rule says a model that is within its limits.
-use Rattle.std.proofs.Common.{◌≡◌, ℕ, ◌+◌, ◌*◌, ◌<◌, ◌≤◌, List, [], length, map, get_or, codes, pos, nat_le, ◌==◌, sum_by, Result, Ok, Err, refl, sym, subst, ap, ◌∙◌, arith}
+use Rattle.std.proofs.Common.{◌≡◌, ℕ, ◌+◌, ◌*◌, ◌≤◌, List, [], length, map, codes, pos, nat_le, ◌==◌, sum_by, Ok, refl, sym, subst, ◌∙◌, arith}
 use Rattle.std.proofs.lemmas.Bool.{leb-true, eqb-true}
 use Rattle.toml.specs.Data.{Data, Members}
-use Rattle.acas_spec.specs.Steps.{◌>>=◌, ◌>>◌, fault_as}
 use Rattle.acas_spec.specs.Model.{GridData, entries, weight_of}
 use Rattle.acas_spec.specs.Accepted.{IsAccepted, AreDistinct}
 use Rattle.acas_spec.specs.declared.parts.SigmaPoint.{SigmaPoint}

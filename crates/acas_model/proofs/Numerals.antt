@@ -1,8 +1,8 @@
 -- Whole numbers without their sign.
-use Rattle.std.proofs.Common.{◌≡◌, ℕ, zero, suc, ◌+◌, ◌*◌, ◌<◌, ◌≤◌, T, ℤ, pos, negsuc, ◌≤ℤ◌, ◌*ℤ◌, unsigned_abs, leb, refl, sym, ap, subst, ◌∙◌, arith}
+use Rattle.std.proofs.Common.{◌≡◌, ℕ, suc, ◌*◌, ◌≤◌, ℤ, pos, negsuc, ◌≤ℤ◌, ◌*ℤ◌, unsigned_abs, refl, arith}
 use Rattle.std.proofs.lemmas.Bool.{leb-true, false≢true}
 use Rattle.std.proofs.lemmas.Int.{unsigned_abs-mul}
-use Rattle.acas_doc.proofs.Holds.{true-int_le, int_le-true}
+use Rattle.acas_doc.proofs.Holds.{true-int_le}
 
 -- a number from -(m + 1) to m + 1 is at most m + 1 without its sign
 pub abs_within : (m : ℕ) (z : ℤ) → negsuc m ≤ℤ z → z ≤ℤ pos (suc m) → unsigned_abs z ≤ suc m

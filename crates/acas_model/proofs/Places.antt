@@ -1,10 +1,9 @@
 -- Lists that are read item by item, place by place.
-use Rattle.std.proofs.Common.{◌≡◌, ◌≢◌, ℕ, zero, suc, ◌+◌, ◌<◌, ◌≤◌, Bool, true, false, List, [], ◌∷◌, ◌++◌, length, map, take, get_or, Result, Ok, Err, refl, sym, subst, ap, ◌∙◌, inl, inr, arith}
-use Rattle.std.specs.List.{AllByRecursion, list_any, list_all}
+use Rattle.std.proofs.Common.{◌≡◌, ℕ, zero, suc, ◌<◌, Bool, false, List, [], ◌∷◌, ◌++◌, length, take, get_or, Result, Ok, refl, sym, subst, ap, ◌∙◌, inl, inr, arith}
+use Rattle.std.specs.List.{AllByRecursion, list_any}
 use Rattle.std.proofs.lemmas.Bool.{cases_Bool, false≢true}
-use Rattle.std.proofs.lemmas.List.{append_assoc, append-nil, get_or-take, get_or-map, length-map}
-use Rattle.acas_spec.specs.Steps.{◌>>=◌, each}
-use Rattle.acas_spec.specs.Accepted.{AreDistinct}
+use Rattle.std.proofs.lemmas.List.{append_assoc, append-nil}
+use Rattle.acas_spec.specs.Steps.{each}
 use Rattle.acas_spec.proofs.Each.{bind_ok, same_ok}
 
 -- the item at each place was read, knowing what was read of the items before it
@@ -20,11 +19,14 @@ each_rest {A} {B} {E} read before ys (x ∷ xs) d e is =
     let b = bind_ok (read before x) (λ y. each read (before ++ y ∷ []) xs) ys is in
     let y = b.0 in
     let more = each_rest read (before ++ y ∷ []) ys xs d e b.2 in
-    let rest = more.0 in
-    (y ∷ rest, more.1 ∙ append_assoc before (y ∷ []) rest, record {
-      long = ap suc more.2.long;
-      at = at_place y rest b.1 more.2.at;
-    })
+    let rest = more.0 in (
+      y ∷ rest,
+      more.1 ∙ append_assoc before (y ∷ []) rest,
+      record {
+        long = ap suc more.2.long;
+        at = at_place y rest b.1 more.2.at;
+      },
+    )
   where
     at_place : (y : B) (rest : List B) → read before x ≡ Ok y → ((k : ℕ) → k < length xs → read ((before ++ y ∷ []) ++ take k rest) (get_or xs k d) ≡ Ok (get_or rest k e))
         → (k : ℕ) → k < length (x ∷ xs) → read (before ++ take k (y ∷ rest)) (get_or (x ∷ xs) k d) ≡ Ok (get_or (y ∷ rest) k e)

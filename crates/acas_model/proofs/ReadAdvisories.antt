@@ -1,11 +1,10 @@
 -- The advisories that a document says.
-use Rattle.std.proofs.Common.{◌≡◌, ◌≢◌, ℕ, ◌<◌, ◌≤◌, true, false, IsTrue, List, [], length, map, take, get_or, codes, pos, negsuc, ◌≤ℤ◌, int_le, Bool, if◌then◌else◌, None, bytes_eq, Result, Ok, Err, refl, sym, subst, ap, ◌∙◌, inl, inr, arith}
+use Rattle.std.proofs.Common.{◌≡◌, ◌≢◌, ℕ, ◌<◌, true, false, IsTrue, List, [], length, map, take, get_or, codes, pos, negsuc, int_le, Bool, if◌then◌else◌, None, bytes_eq, Ok, Err, refl, sym, subst, ◌∙◌, arith}
 use Rattle.std.specs.List.{list_any}
-use Rattle.std.proofs.lemmas.Bool.{cases_Bool, false≢true}
+use Rattle.std.proofs.lemmas.Bool.{false≢true}
 use Rattle.std.proofs.lemmas.List.{get_or-map, get_or-take, length-map, length-take}
 use Rattle.std.proofs.lemmas.Slice.Eq.{bytes_eq-Decides}
 use Rattle.toml.specs.Data.{Data, Members, boolean, table}
-use Rattle.acas_spec.specs.Steps.{◌>>=◌, ◌>>◌, fault_as, each}
 use Rattle.acas_spec.specs.Accepted.{is_name, IsAdvisory, AreDistinct}
 use Rattle.acas_spec.specs.declared.parts.Advisory.{Advisory}
 use Rattle.acas_spec.proofs.Each.{bind_ok, same_ok}
@@ -108,8 +107,10 @@ names_ok advisories given e = record { apart = λ i j above within same. apart i
   where
     read : ReadAt new_name [] advisories given no_advisory no_advisory
     read = each_places new_name given advisories no_advisory no_advisory e
+
     all : given ≡ advisories
     all = sym (same_lists advisories given no_advisory (sym read.long) (λ k within. (new_name_ok (take k given) _ _ (read.at k within)).1))
+
     apart : (i j : ℕ) → i < j → j < length advisories → get_or (map (λ a. a.name) advisories) i [] ≢ get_or (map (λ a. a.name) advisories) j []
     apart i j above within same =
         let before = subst (λ xs. list_any (λ c. bytes_eq c.name (get_or advisories j no_advisory).name) (take j xs) ≡ false) all (new_name_ok (take j given) _ _ (read.at j within)).0 in

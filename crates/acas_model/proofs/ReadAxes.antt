@@ -1,14 +1,12 @@
 -- The axes that a document says.
-use Rattle.std.proofs.Common.{◌≡◌, ℕ, suc, false, ◌+◌, ◌-◌, ◌*◌, ◌^◌, ◌<◌, ◌≤◌, List, [], ◌∷◌, ◌++◌, length, map, take, get_or, codes, ℤ, pos, negsuc, ◌*ℤ◌, ◌≤ℤ◌, unsigned_abs, Result, Ok, Err, refl, sym, subst, ap, ◌∙◌, arith}
-use Rattle.std.proofs.lemmas.List.{length-map, get_or-map}
+use Rattle.std.proofs.Common.{◌≡◌, ℕ, suc, false, ◌-◌, ◌*◌, ◌^◌, ◌<◌, ◌≤◌, List, [], ◌∷◌, length, map, take, get_or, codes, ℤ, pos, negsuc, ◌*ℤ◌, unsigned_abs, Ok, refl, sym, subst, ◌∙◌, arith}
 use Rattle.toml.specs.Data.{Data, Members, integer, boolean}
-use Rattle.acas_spec.specs.Axis.{IsAxis, IsWithin, place_value}
-use Rattle.acas_spec.specs.Steps.{◌>>=◌, fault_as, each}
+use Rattle.acas_spec.specs.Axis.{IsAxis, IsWithin}
+use Rattle.acas_spec.specs.Steps.{◌>>=◌, fault_as}
 use Rattle.acas_spec.proofs.Each.{bind_ok, same_ok}
 use Rattle.acas_doc.specs.Keys.{list_at, whole_item}
-use Rattle.acas_doc.specs.Known.{only_known}
 use Rattle.acas_doc.specs.Paths.{key_path}
-use Rattle.acas_doc.proofs.Holds.{fault_as_ok, list_at_ok, whole_item_ok, table_at_ok}
+use Rattle.acas_doc.proofs.Holds.{fault_as_ok, list_at_ok, whole_item_ok}
 use Rattle.acas_grid.specs.Axis.{axis_of}
 use Rattle.acas_model.specs.declared.axes.Axes.{Axes}
 use Rattle.acas_model.specs.declared.fault.AxisName.{AxisName}

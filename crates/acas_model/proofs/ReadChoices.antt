@@ -1,23 +1,22 @@
 -- The choices that a document says.
-use Rattle.std.proofs.Common.{◌≡◌, ◌≢◌, ℕ, zero, suc, ◌-◌, ◌^◌, ◌<◌, ◌≤◌, true, false, Bool, ◌==◌, if◌then◌else◌, List, [], ◌∷◌, length, map, take, get_or, zip, position, codes, ℤ, pos, negsuc, unsigned_abs, bytes_eq, Option, Some, None, Result, Ok, Err, refl, sym, subst, ap, ◌∙◌, inl, inr, arith}
+use Rattle.std.proofs.Common.{◌≡◌, ◌≢◌, ℕ, zero, suc, ◌-◌, ◌^◌, ◌<◌, ◌≤◌, true, false, ◌==◌, List, [], ◌∷◌, length, map, take, get_or, codes, ℤ, pos, negsuc, unsigned_abs, bytes_eq, Option, Some, None, Ok, refl, sym, subst, ap, ◌∙◌, arith}
 use Rattle.std.specs.List.{list_any}
-use Rattle.std.proofs.lemmas.Bool.{cases_Bool, false≢true, eqb-true}
+use Rattle.std.proofs.lemmas.Bool.{false≢true}
 use Rattle.std.proofs.lemmas.List.{get_or-map, get_or-take, length-map, length-take}
 use Rattle.std.proofs.lemmas.List.Quantifiers.{position-Some}
 use Rattle.std.proofs.lemmas.Slice.Eq.{bytes_eq-Decides}
 use Rattle.toml.specs.Data.{Data, Members, boolean, integer, string, table}
-use Rattle.acas_spec.specs.Steps.{◌>>=◌, ◌>>◌, fault_as, each}
-use Rattle.acas_spec.specs.Accepted.{IsChoice, IsChoiceList, AreDistinct}
+use Rattle.acas_spec.specs.Accepted.{IsChoiceList, AreDistinct}
 use Rattle.acas_spec.specs.declared.parts.Advisory.{Advisory}
 use Rattle.acas_spec.specs.declared.parts.Choice.{Choice}
 use Rattle.acas_spec.proofs.Each.{bind_ok, same_ok}
-use Rattle.acas_doc.specs.Keys.{list_at, whole_item, text_item, table_item}
+use Rattle.acas_doc.specs.Keys.{list_at, text_item, table_item}
 use Rattle.acas_doc.specs.Paths.{key_path, item_path}
 use Rattle.acas_doc.proofs.Holds.{fault_as_ok, list_at_ok, whole_item_ok, text_item_ok, table_item_ok}
 use Rattle.acas_model.specs.declared.fault.ModelFault.{ModelFault}
 use Rattle.acas_model.specs.declared.fault.ModelFault.TheVariants.{NoChoice, RepeatedName}
 use Rattle.acas_model.specs.Document.{in_doc}
-use Rattle.acas_model.specs.Choices.{named, or_unknown, first_time, choice_item, choice_items, cost_item, cost_items, choices_from, some_choice, choices_of, choices_item, choice_lists}
+use Rattle.acas_model.specs.Choices.{named, or_unknown, choice_item, choice_items, cost_item, cost_items, choices_from, some_choice, choices_of, choices_item, choice_lists}
 use Rattle.acas_model.specs.Text.{HoldsList}
 use Rattle.acas_model.proofs.Places.{ReadAt, each_places, none_at, same_lists}
 use Rattle.acas_model.proofs.Numerals.{abs_within}
@@ -64,17 +63,20 @@ unfolding choice_items
 chosen_ok advisories path advisory ds chosen e = record {
   long = read.long;
   there = same_lists ds (map (λ a. string (name_of advisories a)) chosen) (boolean false) (sym (length-map chosen (λ a. string (name_of advisories a)) ∙ read.long))
-    (λ k within. (item k within).there ∙ sym (get_or-map (λ a. string (name_of advisories a)) chosen k 0 (boolean false) (omega (arith, within, read.long))));
+      (λ k within. (item k within).there ∙ sym (get_or-map (λ a. string (name_of advisories a)) chosen k 0 (boolean false) (omega (arith, within, read.long))));
   known = λ k within. (item k (omega (arith, within, read.long))).known;
   distinct = record { apart = apart };
 }
   where
     read : ReadAt (choice_item advisories path advisory) [] ds chosen (boolean false) 0
     read = each_places (choice_item advisories path advisory) chosen ds (boolean false) 0 e
+
     item : (k : ℕ) → k < length ds → IsReadChoice advisories (take k chosen) (get_or ds k (boolean false)) (get_or chosen k 0)
     item k within = choice_ok advisories path advisory (take k chosen) _ _ (read.at k within)
+
     equal : (a b : ℕ) → a ≡ b → (a == b) ≡ true
     equal a b same = grind (arith, same)
+
     apart : (i j : ℕ) → i < j → j < length chosen → get_or chosen i 0 ≢ get_or chosen j 0
     apart i j above within same =
         let other = none_at (λ b. b == get_or chosen j 0) (take j chosen) i 0 (item j (omega (arith, within, read.long))).new (omega (arith, above, within, length-take j chosen)) in
@@ -102,12 +104,13 @@ unfolding cost_items
 costs_ok path ds costs e = record {
   long = read.long;
   there = same_lists ds (map integer costs) (boolean false) (sym (length-map costs integer ∙ read.long))
-    (λ k within. (item k within).there ∙ sym (get_or-map integer costs k (pos 0) (boolean false) (omega (arith, within, read.long))));
+      (λ k within. (item k within).there ∙ sym (get_or-map integer costs k (pos 0) (boolean false) (omega (arith, within, read.long))));
   within = λ k within. (item k (omega (arith, within, read.long))).within;
 }
   where
     read : ReadAt (λ before d. cost_item path (length before) d) [] ds costs (boolean false) (pos 0)
     read = each_places (λ before d. cost_item path (length before) d) costs ds (boolean false) (pos 0) e
+
     item : (k : ℕ) → k < length ds → IsReadCost (get_or ds k (boolean false)) (get_or costs k (pos 0))
     item k within = cost_ok path (length (take k costs)) _ _ (read.at k within)
 
@@ -149,12 +152,16 @@ choice_list count chosen costs long some known within distinct = record {
   where
     numbers : map (λ c. c.advisory) (choices_from chosen costs) ≡ chosen
     numbers = chosen_again (λ a. a) chosen costs long ∙ map_same chosen
+
     paid : map (λ c. c.cost) (choices_from chosen costs) ≡ costs
     paid = costs_again (λ z. z) chosen costs long ∙ map_same costs
+
     size : length (choices_from chosen costs) ≡ length chosen
     size = sym (length-map (choices_from chosen costs) (λ c. c.advisory)) ∙ ap length numbers
+
     number : (k : ℕ) → k < length (choices_from chosen costs) → get_or chosen k 0 ≡ (get_or (choices_from chosen costs) k no_choice_there).advisory
     number k h = ap (λ xs. get_or xs k 0) (sym numbers) ∙ get_or-map (λ c. c.advisory) (choices_from chosen costs) k no_choice_there 0 h
+
     cost : (k : ℕ) → k < length (choices_from chosen costs) → get_or costs k (pos 0) ≡ (get_or (choices_from chosen costs) k no_choice_there).cost
     cost k h = ap (λ xs. get_or xs k (pos 0)) (sym paid) ∙ get_or-map (λ c. c.cost) (choices_from chosen costs) k no_choice_there (pos 0) h
 

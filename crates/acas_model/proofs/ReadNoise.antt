@@ -1,8 +1,7 @@
 -- The sigma points that a document says.
-use Rattle.std.proofs.Common.{◌≡◌, ℕ, ◌<◌, ◌≤◌, false, List, [], length, map, take, get_or, codes, ℤ, pos, negsuc, ◌≤ℤ◌, nat_le, sum_by, Result, Ok, Err, refl, sym, subst, ap, ◌∙◌, arith}
+use Rattle.std.proofs.Common.{◌≡◌, ℕ, ◌<◌, ◌≤◌, false, List, [], length, take, get_or, codes, pos, negsuc, nat_le, sum_by, Ok, subst, arith}
 use Rattle.std.proofs.lemmas.Bool.{leb-true}
-use Rattle.toml.specs.Data.{Data, Members, boolean, table, array, get_member}
-use Rattle.acas_spec.specs.Steps.{◌>>=◌, ◌>>◌, fault_as, each}
+use Rattle.toml.specs.Data.{Data, Members, boolean, table}
 use Rattle.acas_spec.specs.Model.{weight_of}
 use Rattle.acas_spec.specs.Accepted.{IsPoint}
 use Rattle.acas_spec.specs.declared.parts.SigmaPoint.{SigmaPoint}

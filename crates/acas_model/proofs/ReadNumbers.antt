@@ -1,7 +1,7 @@
 -- The numbers of the tables `puck`, `closing`, `pilot` and `cost`, and the keys of each table.
-use Rattle.std.proofs.Common.{◌≡◌, ℕ, ◌*◌, ◌≤◌, List, [], codes, ℤ, pos, negsuc, ◌≤ℤ◌, unsigned_abs, Some, Result, Ok, Err, refl, sym, subst, ap, ◌∙◌, arith}
+use Rattle.std.proofs.Common.{◌≡◌, ℕ, ◌*◌, ◌≤◌, List, [], codes, ℤ, pos, negsuc, unsigned_abs, Some, Result, Ok, Err, refl, sym, subst, ap, ◌∙◌}
 use Rattle.toml.specs.Data.{Members, table, get_member}
-use Rattle.acas_spec.specs.Steps.{◌>>=◌, ◌>>◌, fault_as}
+use Rattle.acas_spec.specs.Steps.{◌>>◌}
 use Rattle.acas_spec.proofs.Each.{bind_ok, same_ok}
 use Rattle.acas_doc.specs.Keys.{table_at, whole_at}
 use Rattle.acas_doc.specs.Known.{only_known}

@@ -1,5 +1,5 @@
 -- An axis is made of numbers that rise, and of no others.
-use Rattle.std.proofs.Common.{◌≡◌, ℕ, zero, suc, ◌+◌, ◌<◌, ◌≤◌, Bool, true, false, T, List, [], ◌∷◌, length, ℤ, pos, ◌<ℤ◌, int_lt, nat_lt, Option, Some, None, Result, Ok, Err, refl, sym, ap, ◌∙◌, inl, inr, arith}
+use Rattle.std.proofs.Common.{◌≡◌, ℕ, zero, suc, ◌+◌, ◌<◌, ◌≤◌, Bool, true, false, T, List, [], ◌∷◌, length, ℤ, ◌<ℤ◌, int_lt, nat_lt, Option, Some, None, Result, Ok, Err, refl, inl, inr, arith}
 use Rattle.std.proofs.lemmas.Bool.{cases_Bool, false≢true, ltb-false, le-ltb}
 use Rattle.acas_spec.specs.Axis.{IsAxis, Rises, place_value}
 use Rattle.acas_spec.proofs.Each.{same_ok}

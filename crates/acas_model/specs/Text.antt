@@ -1,14 +1,11 @@
 -- What the text of a model says, key by key and in no order: each key holds the model's value, there are no other keys,
 -- and the model is within its limits.
-use Rattle.std.specs.Prelude.{◌≡◌, ℕ, ◌*◌, ◌<◌, List, [], length, map, get_or, codes, ℤ, pos, ◌*ℤ◌, Some, IsUtf8}
+use Rattle.std.specs.Prelude.{◌≡◌, ℕ, ◌*◌, ◌<◌, List, length, map, get_or, codes, ℤ, pos, ◌*ℤ◌, Some, IsUtf8}
 use Rattle.toml.specs.Data.{Data, Members, no_members, string, integer, array, table, get_member}
 use Rattle.toml.specs.Parse.{parse_document}
 use Rattle.toml.specs.View.{items_of}
 use Rattle.acas_spec.specs.Model.{ModelData, advisory_at, choices_at, point_at}
 use Rattle.acas_spec.specs.Accepted.{IsAccepted}
-use Rattle.acas_spec.specs.declared.parts.Advisory.{Advisory}
-use Rattle.acas_spec.specs.declared.parts.Choice.{Choice}
-use Rattle.acas_spec.specs.declared.parts.SigmaPoint.{SigmaPoint}
 use Rattle.acas_doc.specs.Known.{IsUnknown}
 
 -- the table has no other keys than those that a text names

@@ -1,11 +1,7 @@
 -- The model that the fields of a `Model` stand for.
-use Rattle.std.specs.Prelude.{List, map}
-use Rattle.acas_spec.specs.Model.{GridData, ModelData}
+use Rattle.std.specs.Prelude.{map}
+use Rattle.acas_spec.specs.Model.{ModelData}
 use Rattle.acas_spec.specs.Accepted.{IsAccepted}
-use Rattle.acas_spec.specs.declared.parts.Advisory.{Advisory}
-use Rattle.acas_spec.specs.declared.parts.Choice.{Choice}
-use Rattle.acas_spec.specs.declared.parts.SigmaPoint.{SigmaPoint}
-use Rattle.acas_model.specs.declared.numbers.Numbers.{Numbers}
 use Rattle.acas_model.specs.declared.model.Model.TheInside.{Inside}
 use Rattle.acas_model.specs.Whole.{model_with}
 

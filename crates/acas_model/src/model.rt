@@ -10,6 +10,7 @@ use crate::noise::total_weight;
 use crate::numbers::Numbers;
 use acas_grid::Grid;
 use acas_spec::{Advisory, Choice, SigmaPoint};
+use acas_units::Span;
 
 /// A model whose numbers are all within their limits. Contracts see it as the plain data that its file says.
 #[derive(Debug, Drop)]
@@ -117,6 +118,17 @@ impl Model {
         ensures { result ≡ pos self.now.half }
     {
         i64::from(self.numbers.puck.half)
+    }
+
+    /// The least and the greatest closing speed, in ft/s.
+    pub fn closing(&self) -> Span
+        ensures least { result.least ≡ pos self.now.least }
+        ensures greatest { result.greatest ≡ pos self.now.greatest }
+    {
+        Span::new(
+            i64::from(self.numbers.closing.least),
+            i64::from(self.numbers.closing.greatest),
+        )
     }
 
     /// The cost of contact, in units.

@@ -1,8 +1,7 @@
-use Rattle.std.proofs.Common.{◌≡◌, ◌+◌, ◌<◌, ◌++◌, ◌∷◌, [], length, take, get_or, sym, ◌∙◌, ap, arith}
+use Rattle.std.proofs.Common.{◌≡◌, ◌+◌, ◌++◌, ◌∷◌, [], take, ◌∙◌}
 use Rattle.std.proofs.lemmas.List.{take_more, take_all}
 use Rattle.std.proofs.lemmas.Result.{err_from_is_err_and}
 use Rattle.acas_spec.proofs.Each.{goes_on, ends, is_done}
-use Rattle.acas_model.specs.Advisories.{new_name}
 use Rattle.acas_model.proofs.advisories.distinct.Goals as goal
 
 pub returns-in_err-new_name : goal.returns-in_err-new_name

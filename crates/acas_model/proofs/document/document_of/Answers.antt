@@ -1,5 +1,4 @@
-use Rattle.std.proofs.Common.{◌∙◌, rules}
-use Rattle.acas_model.proofs.Bytes.{document_read, document_refused, document_no_text}
+use Rattle.acas_model.proofs.Bytes.{document_read, document_no_text}
 use Rattle.acas_model.proofs.document.document_of.Goals as goal
 
 pub returns-in-Err : goal.returns-in-Err

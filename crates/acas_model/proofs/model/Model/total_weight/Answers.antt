@@ -1,4 +1,3 @@
-use Rattle.std.proofs.Common.{rules}
 use Rattle.acas_spec.specs.Accepted.{IsPoint}
 use Rattle.acas_model.proofs.Places.{all_from}
 use Rattle.acas_model.proofs.ReadNoise.{no_point}
