@@ -18,3 +18,6 @@ pub use acas_spec::{Advisory, Choice, Name, SigmaPoint};
 pub use fault::{AxisName, ModelFault, NamePlace};
 pub use model::Model;
 pub use whole::read_model;
+
+#[cfg(test)]
+mod tests;
