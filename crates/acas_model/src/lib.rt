@@ -8,6 +8,7 @@ mod axes;
 mod choices;
 mod document;
 mod fault;
+mod laws;
 mod model;
 mod noise;
 mod numbers;
@@ -16,6 +17,7 @@ mod whole;
 pub use acas_doc::{DocFault, DocKind, KeyText};
 pub use acas_spec::{Advisory, Choice, Name, SigmaPoint};
 pub use fault::{AxisName, ModelFault, NamePlace};
+pub use laws::accepted_texts_say_their_models;
 pub use model::Model;
 pub use whole::read_model;
 
