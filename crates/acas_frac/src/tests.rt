@@ -23,6 +23,8 @@ fn quotients_are_rounded_down_and_up(rt: HostRuntime) {
         assert_eq!(rt; Down::div(num, den), down);
         assert_eq!(rt; Up::div(num, den), up);
     }
+    crate::laws::quotients_are_rounded();
+    crate::laws::lowest_terms_are_one();
     let most = 10_000_000_000_000_000_000_000_000_000_000_000_000;
     assert_eq!(rt; Down::div(-most, 1), -most);
     assert_eq!(rt; Up::div(-most, most), -1);
@@ -70,19 +72,35 @@ fn is_small(value: &Frac) -> bool
 }
 
 fn sum(a: &Frac, b: &Frac) -> Option<Frac> {
-    if is_small(a) && is_small(b) { Some(a.add(b)) } else { None }
+    if is_small(a) && is_small(b) {
+        Some(a.add(b))
+    } else {
+        None
+    }
 }
 
 fn difference(a: &Frac, b: &Frac) -> Option<Frac> {
-    if is_small(a) && is_small(b) { Some(a.sub(b)) } else { None }
+    if is_small(a) && is_small(b) {
+        Some(a.sub(b))
+    } else {
+        None
+    }
 }
 
 fn product(a: &Frac, b: &Frac) -> Option<Frac> {
-    if is_small(a) && is_small(b) { Some(a.mul(b)) } else { None }
+    if is_small(a) && is_small(b) {
+        Some(a.mul(b))
+    } else {
+        None
+    }
 }
 
 fn multiple(a: &Frac, factor: i64) -> Option<Frac> {
-    if is_small(a) && factor.unsigned_abs() <= 1_000_000_000 { Some(a.mul_small(factor)) } else { None }
+    if is_small(a) && factor.unsigned_abs() <= 1_000_000_000 {
+        Some(a.mul_small(factor))
+    } else {
+        None
+    }
 }
 
 fn is_ratio(value: Option<Frac>, num: i128, den: i128) -> bool {
@@ -106,7 +124,13 @@ fn fractions_are_added_and_multiplied_exactly(rt: HostRuntime) {
     assert!(rt; is_ratio(multiple(&half, 0), 0, 1));
     let large = Frac::whole(1_000_000_000_000);
     let tiny = ratio(1, 1_000_000).expect(&rt, "a fraction");
-    assert!(rt; is_ratio(product(&large, &large), 1_000_000_000_000_000_000_000_000, 1));
+    assert!(rt;
+        is_ratio(
+            product(&large, &large),
+            1_000_000_000_000_000_000_000_000,
+            1
+        )
+    );
     assert!(rt; is_ratio(product(&tiny, &tiny), 1, 1_000_000_000_000));
     assert!(rt; is_ratio(product(&large, &tiny), 1_000_000, 1));
     assert!(rt; is_ratio(sum(&large, &tiny), 1_000_000_000_000_000_001, 1_000_000));
@@ -132,5 +156,5 @@ fn fractions_have_an_order_and_a_text(rt: HostRuntime) {
         print_frac(&mut out, &value).expect(&rt, "memory");
         out.push(b' ').expect(&rt, "memory");
     }
-    assert!(rt; out.as_slice() == b"t 3/2 -3/2 -2 0 -1/3 ");
+    assert!(rt; out.as_slice() == b"t 3/2 -3/2 -2 0 -1/3 ".as_slice());
 }
