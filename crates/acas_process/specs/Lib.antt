@@ -1,0 +1,8 @@
+pub mod Sums
+pub mod Rounding
+pub mod Axis
+pub mod Step
+pub mod Cost
+pub mod Bounds
+pub mod Compiled
+pub mod Examples

@@ -1,0 +1,18 @@
+//! The decision process: what a second of flight leads to, what a policy costs, what a table promises, and the laws that
+//! tie them. The definitions stand in specs/. The functions here do nothing: their clauses are the laws.
+#![tactic(auto)]
+
+mod examples;
+mod laws;
+mod model;
+
+pub use examples::{
+    a_second_leads_a_third_up, entries_are_worked_out, examples_are_accepted,
+    noisy_costs_are_exact, noisy_values_are_rounded_twice,
+};
+pub use laws::{
+    choices_have_their_cost, compiled_values_fit, numbers_are_clamped, quotients_are_rounded,
+    sound_tables_have_two_sided_bounds, tents_are_hat_functions,
+    the_compiled_table_is_sound_and_tight, weights_sum_to_the_total,
+};
+pub use model::{Point, Vertex};
