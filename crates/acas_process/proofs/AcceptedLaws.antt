@@ -6,7 +6,7 @@ use Rattle.acas_spec.specs.Accepted.{IsAccepted, AreDistinct}
 use Rattle.acas_spec.specs.Model.{ModelData, choices_at, total_weight, weight_of}
 use Rattle.acas_spec.specs.declared.parts.Choice.{Choice}
 use Rattle.acas_spec.specs.declared.parts.SigmaPoint.{SigmaPoint}
-use Rattle.acas_process.specs.Cost.{MayFollow, advisories_of, cost_among, cost_of}
+use Rattle.acas_process.specs.Cost.{MayChoose, advisories_of, cost_among, cost_of}
 
 -- ---- weights
 
@@ -66,7 +66,7 @@ pub record IsChosen (m : ModelData) (p a : ℕ) : Type 0 where
   pub inside : a < m.grid.advisories
   pub small : unsigned_abs (cost_of m p a) ≤ 1_000_000_000
 
-pub is_chosen : (m : ModelData) (p a : ℕ) → IsAccepted m → p < m.grid.advisories → MayFollow m p a → IsChosen m p a
+pub is_chosen : (m : ModelData) (p a : ℕ) → IsAccepted m → p < m.grid.advisories → MayChoose m p a → IsChosen m p a
 is_chosen m p a v known follows =
     let at = place_of (choices_at m p) a (record { advisory = 0; cost = pos 0 }) follows in
     let choice = (v.choices p known).each at.place at.within in

@@ -7,7 +7,7 @@ use Rattle.acas_spec.specs.Accepted.{IsAccepted}
 use Rattle.acas_spec.specs.Model.{ModelData}
 use Rattle.acas_process.specs.declared.model.Vertex.{Vertex}
 use Rattle.acas_process.specs.Step.{IsVertex}
-use Rattle.acas_process.specs.Cost.{IsState, MayFollow, Policy, IsPolicy, cost_of, transition_total, terminal_cost, expected_cost}
+use Rattle.acas_process.specs.Cost.{IsEntry, MayChoose, Policy, IsPolicy, cost_of, transition_total, terminal_cost, expected_cost}
 use Rattle.acas_process.specs.Bounds.{Table, mean_value, HasTwoSidedBounds, IsSound, IsUpperBound, IsLowerBound}
 use Rattle.acas_process.proofs.IntLaws.{mul-add_ℤ, mul_assoc_ℤ, mul_comm_ℤ, mul-le_ℤ}
 use Rattle.acas_process.proofs.AcceptedLaws.{is_chosen}
@@ -56,10 +56,10 @@ no_power : (m : ℕ) (z : ℤ) → pos (m ^ 0) *ℤ z ≡ z
 no_power m z = ap (λ (k : ℕ). pos k *ℤ z) (pow-zero m) ∙ omega (arith, ints)
 
 -- a state below, under an advisory that may be chosen
-below : (m : ModelData) (n p a : ℕ) (x y : Vertex) → IsAccepted m → IsState m (suc n) p x → MayFollow m p a → IsVertex m.grid y → IsState m n a y
+below : (m : ModelData) (n p a : ℕ) (x y : Vertex) → IsAccepted m → IsEntry m (suc n) p x → MayChoose m p a → IsVertex m.grid y → IsEntry m n a y
 below m n p a x y v at follows inside = record { seconds = omega (arith, at.seconds); present = (is_chosen m p a v at.present follows).inside; vertex = inside }
 
-pub upper_bound_at : (m : ModelData) (t : Table) → IsAccepted m → IsSound m t → (n p : ℕ) (x : Vertex) → IsState m n p x →
+pub upper_bound_at : (m : ModelData) (t : Table) → IsAccepted m → IsSound m t → (n p : ℕ) (x : Vertex) → IsEntry m n p x →
     (million *ℤ expected_cost m t.advice n p x) ≤ℤ (pos (transition_total m ^ n) *ℤ t.upper n p x)
 upper_bound_at m t v s zero p x at =
     subst (λ z. (million *ℤ terminal_cost m x) ≤ℤ z) (sym (no_power (transition_total m) (t.upper 0 p x))) (s.entries 0 p x at).1
@@ -74,14 +74,14 @@ upper_bound_at m t v s (suc n) p x at =
     subst (λ z. (million *ℤ (pos (transition_total m ^ suc n) *ℤ cost_of m p a +ℤ z)) ≤ℤ (pos (transition_total m ^ suc n) *ℤ t.upper (suc n) p x)) (sym (transitions_spread m x a cost))
     (upper_step (transition_total m) n (cost_of m p a) (mean_value up m (t.upper n) x a) (spread m x a cost) (spread m x a (t.upper n a)) (t.upper (suc n) p x) sums (spread-le-mean m (t.upper n) x a v) entry.1)
 
-pub lower_bound_at : (m : ModelData) (t : Table) (policy : Policy) → IsAccepted m → IsSound m t → IsPolicy m policy → (n p : ℕ) (x : Vertex) → IsState m n p x →
+pub lower_bound_at : (m : ModelData) (t : Table) (policy : Policy) → IsAccepted m → IsSound m t → IsPolicy m policy → (n p : ℕ) (x : Vertex) → IsEntry m n p x →
     (pos (transition_total m ^ n) *ℤ t.lower n p x) ≤ℤ (million *ℤ expected_cost m policy n p x)
 lower_bound_at m t policy v s w zero p x at =
     subst (λ z. z ≤ℤ (million *ℤ terminal_cost m x)) (sym (no_power (transition_total m) (t.lower 0 p x))) (s.entries 0 p x at).0
 lower_bound_at m t policy v s w (suc n) p x at =
     let entry = s.entries (suc n) p x at in
     let a : ℕ = policy (suc n) p x in
-    let allowed : MayFollow m p a = w.allowed (suc n) p x (omega arith) at in
+    let allowed : MayChoose m p a = w.allowed (suc n) p x (omega arith) at in
     let cost : Vertex → ℤ = λ y. expected_cost m policy n a y in
     let sums : (pos (transition_total m ^ n) *ℤ spread m x a (t.lower n a)) ≤ℤ (million *ℤ spread m x a cost) =
     subst (λ z. (pos (transition_total m ^ n) *ℤ spread m x a (t.lower n a)) ≤ℤ z) (spread-mul m x a million cost)
@@ -91,7 +91,7 @@ lower_bound_at m t policy v s w (suc n) p x at =
     (lower_step (transition_total m) n (cost_of m p a) (mean_value down m (t.lower n) x a) (spread m x a cost) (spread m x a (t.lower n a)) (t.lower (suc n) p x) sums (mean-le-spread m (t.lower n) x a v) (entry.2 a allowed))
 
 -- the advice of a sound table is a policy
-sound_policy : (m : ModelData) (t : Table) → IsSound m t → (n p : ℕ) (x : Vertex) → 0 < n → IsState m n p x → MayFollow m p (t.advice n p x)
+sound_policy : (m : ModelData) (t : Table) → IsSound m t → (n p : ℕ) (x : Vertex) → 0 < n → IsEntry m n p x → MayChoose m p (t.advice n p x)
 sound_policy m t s zero p x h at = absurd (omega arith)
 sound_policy m t s (suc n) p x h at = (s.entries (suc n) p x at).0
 

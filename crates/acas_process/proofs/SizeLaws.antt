@@ -7,7 +7,7 @@ use Rattle.std.proofs.lemmas.Bool.{cases_Bool}
 use Rattle.acas_spec.specs.Accepted.{IsAccepted, IsGrid}
 use Rattle.acas_spec.specs.Model.{GridData, ModelData, choices_at, total_weight}
 use Rattle.acas_process.specs.Step.{IsVertex, grid_product, vertex_point, moved, share, over_vertices, over_points, point_weight}
-use Rattle.acas_process.specs.Cost.{IsState, MayFollow, cost_of, terminal_cost}
+use Rattle.acas_process.specs.Cost.{IsEntry, MayChoose, cost_of, terminal_cost}
 use Rattle.acas_process.specs.Bounds.{Values, interpolated, mean_value, choice_value}
 use Rattle.acas_process.specs.Compiled.{least, first_least, compiled_values}
 use Rattle.acas_spec.specs.declared.parts.Choice.{Choice}

@@ -3,7 +3,7 @@ use Rattle.std.specs.Prelude.{ℕ, zero, suc, ◌*◌, ◌^◌, ℤ, pos, ◌+�
 use Rattle.acas_spec.specs.Model.{ModelData, total_weight}
 use Rattle.acas_process.specs.Rounding.{down, up}
 use Rattle.acas_process.specs.Step.{moved, grid_product, share, over_vertices, over_points, point_weight}
-use Rattle.acas_process.specs.Cost.{IsState, MayFollow, Policy, IsPolicy, cost_of, terminal_cost, transition_total, expected_cost}
+use Rattle.acas_process.specs.Cost.{IsEntry, MayChoose, Policy, IsPolicy, cost_of, terminal_cost, transition_total, expected_cost}
 use Rattle.acas_process.specs.declared.model.Point.{Point}
 use Rattle.acas_process.specs.declared.model.Vertex.{Vertex}
 
@@ -46,21 +46,21 @@ lower_value m below p x a = choice_value down m below p x a
 abbrev pub IsSoundEntry : ModelData → Table → ℕ → ℕ → Vertex → Type 0
 IsSoundEntry m t zero p x = (t.lower 0 p x ≤ℤ millionths (terminal_cost m x)) × (millionths (terminal_cost m x) ≤ℤ t.upper 0 p x)
 IsSoundEntry m t (suc n) p x =
-    MayFollow m p (t.advice (suc n) p x)
+    MayChoose m p (t.advice (suc n) p x)
     × (upper_value m (t.upper n) p x (t.advice (suc n) p x) ≤ℤ t.upper (suc n) p x)
-    × ((a : ℕ) → MayFollow m p a → t.lower (suc n) p x ≤ℤ lower_value m (t.lower n) p x a)
+    × ((a : ℕ) → MayChoose m p a → t.lower (suc n) p x ≤ℤ lower_value m (t.lower n) p x a)
 
 -- all entries are sound
 pub record IsSound (m : ModelData) (t : Table) : Type 0 where
-  pub entries : (n p : ℕ) (x : Vertex) → IsState m n p x → IsSoundEntry m t n p x
+  pub entries : (n p : ℕ) (x : Vertex) → IsEntry m n p x → IsSoundEntry m t n p x
 
 -- the expected cost of a policy is at most the upper value, everywhere
 pub record IsUpperBound (m : ModelData) (t : Table) (policy : Policy) : Type 0 where
-  pub holds : (n p : ℕ) (x : Vertex) → IsState m n p x → millionths (expected_cost m policy n p x) ≤ℤ (pos (transition_total m ^ n) *ℤ t.upper n p x)
+  pub holds : (n p : ℕ) (x : Vertex) → IsEntry m n p x → millionths (expected_cost m policy n p x) ≤ℤ (pos (transition_total m ^ n) *ℤ t.upper n p x)
 
 -- the expected cost of a policy is at least the lower value, everywhere
 pub record IsLowerBound (m : ModelData) (t : Table) (policy : Policy) : Type 0 where
-  pub holds : (n p : ℕ) (x : Vertex) → IsState m n p x → (pos (transition_total m ^ n) *ℤ t.lower n p x) ≤ℤ millionths (expected_cost m policy n p x)
+  pub holds : (n p : ℕ) (x : Vertex) → IsEntry m n p x → (pos (transition_total m ^ n) *ℤ t.lower n p x) ≤ℤ millionths (expected_cost m policy n p x)
 
 -- the table's advice is a policy that costs at most its upper values, and no policy costs less than its lower values
 pub record HasTwoSidedBounds (m : ModelData) (t : Table) : Type 0 where
@@ -70,4 +70,4 @@ pub record HasTwoSidedBounds (m : ModelData) (t : Table) : Type 0 where
 
 -- the two values of an entry are within two millionths for each second to go
 pub record IsTight (m : ModelData) (t : Table) : Type 0 where
-  pub holds : (n p : ℕ) (x : Vertex) → IsState m n p x → t.upper n p x ≤ℤ (t.lower n p x +ℤ pos (2 * n))
+  pub holds : (n p : ℕ) (x : Vertex) → IsEntry m n p x → t.upper n p x ≤ℤ (t.lower n p x +ℤ pos (2 * n))

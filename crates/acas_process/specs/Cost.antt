@@ -5,8 +5,8 @@ use Rattle.acas_spec.specs.declared.parts.Choice.{Choice}
 use Rattle.acas_process.specs.Step.{IsVertex, vertex_point, moved, grid_product, share, over_vertices, over_points, point_weight}
 use Rattle.acas_process.specs.declared.model.Vertex.{Vertex}
 
--- a table or a policy speaks of these: n seconds to go, the present advisory p and the vertex x
-pub record IsState (m : ModelData) (n p : ℕ) (x : Vertex) : Type 0 where
+-- an entry of a table has n seconds to go, up to the horizon, a present advisory p and a vertex x
+pub record IsEntry (m : ModelData) (n p : ℕ) (x : Vertex) : Type 0 where
   pub seconds : n ≤ m.grid.horizon
   pub present : p < m.grid.advisories
   pub vertex : IsVertex m.grid x
@@ -16,8 +16,8 @@ abbrev pub advisories_of : List Choice → List ℕ
 advisories_of choices = map (λ c. c.advisory) choices
 
 -- the advisory a may be chosen where p is present
-abbrev pub MayFollow : ModelData → ℕ → ℕ → Type 0
-MayFollow m p a = Contains (advisories_of (choices_at m p)) a
+abbrev pub MayChoose : ModelData → ℕ → ℕ → Type 0
+MayChoose m p a = Contains (advisories_of (choices_at m p)) a
 
 -- the cost of an advisory in a list of choices
 abbrev pub cost_among : List Choice → ℕ → ℤ
@@ -38,7 +38,7 @@ Policy = ℕ → ℕ → Vertex → ℕ
 
 -- what it says may be chosen
 pub record IsPolicy (m : ModelData) (policy : Policy) : Type 0 where
-  pub allowed : (n p : ℕ) (x : Vertex) → 0 < n → IsState m n p x → MayFollow m p (policy n p x)
+  pub allowed : (n p : ℕ) (x : Vertex) → 0 < n → IsEntry m n p x → MayChoose m p (policy n p x)
 
 -- the weight with which a second under the advisory a leads from the vertex x to the vertex y: over the total, its probability
 abbrev pub transition_weight : ModelData → Vertex → ℕ → Vertex → ℤ

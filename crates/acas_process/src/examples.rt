@@ -37,17 +37,19 @@ pub fn noisy_costs_are_exact()
 {}
 
 /// Entries of four models. Of two advisories with the same value the first in the list is the advice. Without noise a point lands on
-/// a vertex, and upper equals lower. With four advisories, at -670 ft and the intruder climbing at 3000 ft/min, a second leads 50 of
+/// a vertex, and upper equals lower. Below the bottom a point is clamped. With four advisories, at -670 ft and the intruder climbing at 3000 ft/min, a second leads 50 of
 /// 670 ft up to contact, so clear costs 5*50/670, and no other advisory is worth its cost.
 pub fn entries_are_worked_out()
     ensures tied { HasEntry tied 2 0 (vertex 0 0 1) (pos 524_692) (pos 524_690) 1 }
     ensures contact { HasEntry calm 1 0 (vertex 0 0 0) (pos 8_000_000) (pos 8_000_000) 0 }
     ensures no_contact { HasEntry calm 1 0 (vertex 0 0 1) (pos 1_000_000) (pos 1_000_000) 0 }
+    ensures past_bottom { HasEntry noisy 1 0 (vertex 0 1 0) (pos 1_000_000) (pos 1_000_000) 0 }
     ensures four { HasEntry four_advisories 1 0 (vertex 1 0 1) (pos 373_135) (pos 373_134) 0 }
 {}
 
 /// The models are accepted, so the laws speak of them.
 pub fn examples_are_accepted()
     ensures noisy { IsAccepted noisy }
+    ensures past_bottom { HasEntry noisy 1 0 (vertex 0 1 0) (pos 1_000_000) (pos 1_000_000) 0 }
     ensures four { IsAccepted four_advisories }
 {}

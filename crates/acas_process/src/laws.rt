@@ -7,7 +7,7 @@ ghost use Rattle.acas_spec.specs.declared.parts.Choice.{Choice};
 ghost use Rattle.acas_process.specs.Axis.{IsBetweenEnds, IsCell, IsStraight, clamp_to, gap_product, tent};
 ghost use Rattle.acas_process.specs.Bounds.{HasTwoSidedBounds, IsSound, IsTight, Table};
 ghost use Rattle.acas_process.specs.Compiled.{IsOfSize, compiled};
-ghost use Rattle.acas_process.specs.Cost.{IsState, cost_of, transition_total, transition_weight};
+ghost use Rattle.acas_process.specs.Cost.{IsEntry, cost_of, transition_total, transition_weight};
 ghost use Rattle.acas_process.specs.Rounding.{down, up};
 ghost use Rattle.acas_process.specs.Step.{clamp_point, grid_product, over_vertices, share};
 ghost use Rattle.acas_process.specs.Sums.{sum_below};
@@ -60,7 +60,7 @@ pub fn the_compiled_table_is_sound_and_tight()
 
 /// The values of the compiled table are at most 10^15 for each second to go and one more, so they fit 64 bits.
 pub fn compiled_values_fit()
-    ensures size { (m : ModelData) (n p : ℕ) (x : Vertex) → IsAccepted m → IsState m n p x → IsOfSize (compiled m) n p x }
-    ensures upper { (m : ModelData) (n p : ℕ) (x : Vertex) → IsAccepted m → IsState m n p x → unsigned_abs ((compiled m).upper n p x) < 2 ^ 63 }
-    ensures lower { (m : ModelData) (n p : ℕ) (x : Vertex) → IsAccepted m → IsState m n p x → unsigned_abs ((compiled m).lower n p x) < 2 ^ 63 }
+    ensures size { (m : ModelData) (n p : ℕ) (x : Vertex) → IsAccepted m → IsEntry m n p x → IsOfSize (compiled m) n p x }
+    ensures upper { (m : ModelData) (n p : ℕ) (x : Vertex) → IsAccepted m → IsEntry m n p x → unsigned_abs ((compiled m).upper n p x) < 2 ^ 63 }
+    ensures lower { (m : ModelData) (n p : ℕ) (x : Vertex) → IsAccepted m → IsEntry m n p x → unsigned_abs ((compiled m).lower n p x) < 2 ^ 63 }
 {}
