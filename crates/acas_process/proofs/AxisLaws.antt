@@ -5,7 +5,8 @@ use Rattle.std.proofs.Math.Nat.{mul-pos}
 use Rattle.acas_process.specs.Sums.{sum_below}
 use Rattle.std.specs.Int.{int_min, int_max}
 use Rattle.acas_spec.specs.Axis.{IsAxis, Rises, place_value}
-use Rattle.acas_process.specs.Axis.{IsBetweenEnds, clamp_to, distance, gap_product, end_weight, after_first, tent}
+use Rattle.acas_grid.specs.Axis.{IsBetweenEnds, clamp_to}
+use Rattle.acas_process.specs.Axis.{distance, gap_product, end_weight, after_first, tent}
 use Rattle.acas_process.proofs.SumLaws.{sum_below-first, sum_below-zero, sum_below-mul, sum_below-same}
 
 -- ---- rising numbers, by recursion

@@ -5,8 +5,8 @@ use Rattle.std.proofs.Math.Nat.{pow-suc, pow-zero}
 use Rattle.acas_process.specs.Rounding.{down, up}
 use Rattle.acas_spec.specs.Accepted.{IsAccepted}
 use Rattle.acas_spec.specs.Model.{ModelData}
-use Rattle.acas_process.specs.declared.model.Vertex.{Vertex}
-use Rattle.acas_process.specs.Step.{IsVertex}
+use Rattle.acas_grid.specs.declared.place.Vertex.{Vertex}
+use Rattle.acas_grid.specs.Grid.{IsVertex}
 use Rattle.acas_process.specs.Cost.{IsEntry, MayChoose, Policy, IsPolicy, cost_of, transition_total, terminal_cost, expected_cost}
 use Rattle.acas_process.specs.Bounds.{Table, mean_value, HasTwoSidedBounds, IsSound, IsUpperBound, IsLowerBound}
 use Rattle.acas_process.proofs.IntLaws.{mul-add_ℤ, mul_assoc_ℤ, mul_comm_ℤ, mul-le_ℤ}

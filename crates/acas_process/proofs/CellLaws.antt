@@ -5,10 +5,10 @@ use Rattle.std.proofs.lemmas.Bool.{cases_lt}
 use Rattle.acas_process.specs.Sums.{sum_below}
 use Rattle.acas_spec.specs.Axis.{IsAxis}
 use Rattle.acas_spec.specs.Model.{GridData}
-use Rattle.acas_process.specs.Axis.{IsCell, IsStraight, distance, gap_product, tent}
-use Rattle.acas_process.specs.declared.model.Vertex.{Vertex}
+use Rattle.acas_process.specs.Axis.{IsBetween, IsStraight, distance, gap_product, tent}
+use Rattle.acas_grid.specs.declared.place.Vertex.{Vertex}
 use Rattle.acas_process.specs.Step.{share, over_vertices}
-use Rattle.acas_process.specs.declared.model.Point.{Point}
+use Rattle.acas_grid.specs.declared.place.Point.{Point}
 use Rattle.acas_process.proofs.IntLaws.{mul-add_ℤ, mul_assoc_ℤ, mul_comm_ℤ}
 use Rattle.acas_process.proofs.SumLaws.{sum_below-same, sum_below-mul, sum_below-zero}
 use Rattle.acas_process.proofs.AxisLaws.{is_rising, InCell, HasEnds, other_gaps, has_ends}
@@ -42,7 +42,7 @@ pub others : List ℤ → ℕ → ℕ
 others [] k = 1
 others (a ∷ rest) k = other_gaps a rest k
 
-pub has_cell : (axis : List ℤ) (k : ℕ) (x : ℤ) → IsAxis axis → IsCell axis k x → HasCell axis k x (others axis k)
+pub has_cell : (axis : List ℤ) (k : ℕ) (x : ℤ) → IsAxis axis → IsBetween axis k x → HasCell axis k x (others axis k)
 unfolding others
 has_cell [] k x r c = absurd (omega (arith, r.at_least))
 has_cell (a ∷ rest) k x r c =
@@ -135,7 +135,7 @@ test_apart : (a b : ℕ) → ¬ (a ≡ b) → nat_eq a b ≡ false
 test_apart a b h = grind arith
 
 -- the tent of place i in the cell k
-tent_value : (axis : List ℤ) (i k : ℕ) (x : ℤ) → IsAxis axis → IsCell axis k x →
+tent_value : (axis : List ℤ) (i k : ℕ) (x : ℤ) → IsAxis axis → IsBetween axis k x →
     tent axis i x ≡ cond (nat_eq i k) (others axis k * distance x (get_or axis (k + 1) (pos 0))) (cond (nat_eq i (k + 1)) (others axis k * distance (get_or axis k (pos 0)) x) 0)
 tent_value axis i k x r c =
     let cell = has_cell axis k x r c in
@@ -179,7 +179,7 @@ on_line false false o d x y c ta tb t u v apart zu zv whole ea eb e = record {
 not_both : (i k : ℕ) → ¬ ((nat_eq i k ≡ true) × (nat_eq i (k + 1) ≡ true))
 not_both i k h = grind (arith, h)
 
-pub straight : (axis : List ℤ) (i k : ℕ) (x : ℤ) → IsAxis axis → IsCell axis k x → IsStraight axis i k x
+pub straight : (axis : List ℤ) (i k : ℕ) (x : ℤ) → IsAxis axis → IsBetween axis k x → IsStraight axis i k x
 straight axis i k x r c =
     let a : ℤ = get_or axis k (pos 0) in
     let b : ℤ = get_or axis (k + 1) (pos 0) in

@@ -6,7 +6,7 @@ use Rattle.acas_spec.specs.Accepted.{IsAccepted}
 use Rattle.acas_spec.specs.Model.{ModelData, choices_at}
 use Rattle.acas_spec.specs.declared.parts.Choice.{Choice}
 use Rattle.acas_process.specs.Cost.{advisories_of}
-use Rattle.acas_process.specs.declared.model.Vertex.{Vertex}
+use Rattle.acas_grid.specs.declared.place.Vertex.{Vertex}
 use Rattle.acas_process.specs.Bounds.{choice_value, IsSoundEntry, IsSound, IsTight}
 use Rattle.acas_process.specs.Compiled.{least, first_least, compiled_values, compiled}
 use Rattle.acas_process.proofs.AcceptedLaws.{is_chosen}

@@ -6,9 +6,10 @@ use Rattle.acas_process.specs.Sums.{sum_below}
 use Rattle.acas_process.specs.Rounding.{down, up}
 use Rattle.acas_spec.specs.Accepted.{IsAccepted, IsGrid}
 use Rattle.acas_spec.specs.Model.{GridData, ModelData, total_weight}
-use Rattle.acas_process.specs.declared.model.Vertex.{Vertex}
-use Rattle.acas_process.specs.Step.{IsVertex, grid_product, moved, share, over_vertices, over_points, point_weight}
-use Rattle.acas_process.specs.declared.model.Point.{Point}
+use Rattle.acas_grid.specs.declared.place.Vertex.{Vertex}
+use Rattle.acas_grid.specs.Grid.{IsVertex}
+use Rattle.acas_process.specs.Step.{grid_product, moved, share, over_vertices, over_points, point_weight}
+use Rattle.acas_grid.specs.declared.place.Point.{Point}
 use Rattle.acas_process.specs.Cost.{transition_weight, transition_total}
 use Rattle.acas_process.specs.Bounds.{Values, mean_value}
 use Rattle.acas_process.proofs.IntLaws.{mul-add_ℤ, mul_assoc_ℤ, mul_comm_ℤ, mul-le_ℤ}

@@ -6,13 +6,14 @@ use Rattle.acas_process.specs.Sums.{sum_below}
 use Rattle.std.proofs.lemmas.Bool.{cases_Bool}
 use Rattle.acas_spec.specs.Accepted.{IsAccepted, IsGrid}
 use Rattle.acas_spec.specs.Model.{GridData, ModelData, choices_at, total_weight}
-use Rattle.acas_process.specs.Step.{IsVertex, grid_product, vertex_point, moved, share, over_vertices, over_points, point_weight}
+use Rattle.acas_grid.specs.Grid.{IsVertex}
+use Rattle.acas_process.specs.Step.{grid_product, vertex_point, moved, share, over_vertices, over_points, point_weight}
 use Rattle.acas_process.specs.Cost.{IsEntry, MayChoose, cost_of, terminal_cost}
 use Rattle.acas_process.specs.Bounds.{Values, interpolated, mean_value, choice_value}
 use Rattle.acas_process.specs.Compiled.{least, first_least, compiled_values}
 use Rattle.acas_spec.specs.declared.parts.Choice.{Choice}
-use Rattle.acas_process.specs.declared.model.Point.{Point}
-use Rattle.acas_process.specs.declared.model.Vertex.{Vertex}
+use Rattle.acas_grid.specs.declared.place.Point.{Point}
+use Rattle.acas_grid.specs.declared.place.Vertex.{Vertex}
 use Rattle.acas_process.proofs.IntLaws.{mul_comm_ℤ, mul-neg_ℤ}
 use Rattle.acas_process.proofs.SumLaws.{sum_below-same, sum_below-mul}
 use Rattle.acas_process.proofs.VertexLaws.{over_vertices-same, over_vertices-mul, shares_sum, weights_sum}

@@ -8,10 +8,12 @@ use Rattle.acas_spec.specs.Accepted.{IsGrid}
 use Rattle.acas_spec.specs.Axis.{IsAxis}
 use Rattle.acas_spec.specs.Model.{GridData, ModelData, total_weight, weight_of}
 use Rattle.acas_spec.specs.declared.parts.SigmaPoint.{SigmaPoint}
-use Rattle.acas_process.specs.Axis.{gap_product, tent, clamp_to}
-use Rattle.acas_process.specs.declared.model.Vertex.{Vertex}
-use Rattle.acas_process.specs.Step.{IsVertex, clamp_point, grid_product, share, over_vertices, over_points, point_weight}
-use Rattle.acas_process.specs.declared.model.Point.{Point}
+use Rattle.acas_grid.specs.Axis.{clamp_to}
+use Rattle.acas_process.specs.Axis.{gap_product, tent}
+use Rattle.acas_grid.specs.declared.place.Vertex.{Vertex}
+use Rattle.acas_grid.specs.Grid.{IsVertex, clamp_point}
+use Rattle.acas_process.specs.Step.{grid_product, share, over_vertices, over_points, point_weight}
+use Rattle.acas_grid.specs.declared.place.Point.{Point}
 use Rattle.acas_process.proofs.SumLaws.{sum_below-same, sum_below-le, sum_below-mul, sum_below-add, sum_below-zero, sum_below-first}
 use Rattle.acas_process.proofs.AxisLaws.{axis_tents_sum, clamped_between}
 
@@ -19,11 +21,11 @@ use Rattle.acas_process.proofs.AxisLaws.{axis_tents_sum, clamped_between}
 
 pub over_vertices-le : (grid : GridData) (f g : Vertex → ℤ) → ((y : Vertex) → IsVertex grid y → f y ≤ℤ g y) → over_vertices grid f ≤ℤ over_vertices grid g
 over_vertices-le grid f g h =
-    sum_below-le (length grid.h) _ _ (λ i p. sum_below-le (length grid.v0) _ _ (λ j q. sum_below-le (length grid.v1) _ _ (λ k r. h (record { i = i; j = j; k = k }) (p, q, r))))
+    sum_below-le (length grid.h) _ _ (λ i p. sum_below-le (length grid.v0) _ _ (λ j q. sum_below-le (length grid.v1) _ _ (λ k r. h (record { i = i; j = j; k = k }) (record { i = p; j = q; k = r }))))
 
 pub over_vertices-same : (grid : GridData) (f g : Vertex → ℤ) → ((y : Vertex) → IsVertex grid y → f y ≡ g y) → over_vertices grid f ≡ over_vertices grid g
 over_vertices-same grid f g h =
-    sum_below-same (length grid.h) _ _ (λ i p. sum_below-same (length grid.v0) _ _ (λ j q. sum_below-same (length grid.v1) _ _ (λ k r. h (record { i = i; j = j; k = k }) (p, q, r))))
+    sum_below-same (length grid.h) _ _ (λ i p. sum_below-same (length grid.v0) _ _ (λ j q. sum_below-same (length grid.v1) _ _ (λ k r. h (record { i = i; j = j; k = k }) (record { i = p; j = q; k = r }))))
 
 pub over_vertices-mul : (grid : GridData) (c : ℤ) (f : Vertex → ℤ) → over_vertices grid (λ y. c *ℤ f y) ≡ c *ℤ over_vertices grid f
 over_vertices-mul grid c f =

@@ -1,6 +1,5 @@
 -- Interpolation on one axis, whose numbers rise.
 use Rattle.std.specs.Prelude.{◌≡◌, ℕ, zero, suc, ◌+◌, ◌-◌, ◌*◌, ◌<◌, ℤ, pos, ◌-ℤ◌, ◌≤ℤ◌, unsigned_abs, List, [], ◌∷◌, length, cond, int_lt, nat_eq}
-use Rattle.std.specs.Int.{int_min, int_max}
 use Rattle.acas_spec.specs.Axis.{place_value}
 
 -- how far it is from a to b
@@ -32,17 +31,8 @@ tent (a ∷ []) (suc i) x = 0
 tent (a ∷ b ∷ rest) i x =
     cond (int_lt x b) (end_weight a b i x * gap_product (b ∷ rest)) (after_first (λ j. distance a b * tent (b ∷ rest) j x) i)
 
--- the number between the axis's ends that is nearest to x
-abbrev pub clamp_to : List ℤ → ℤ → ℤ
-clamp_to axis x = int_max (place_value axis 0) (int_min x (place_value axis (length axis - 1)))
-
--- x is between the ends of an axis
-pub record IsBetweenEnds (axis : List ℤ) (x : ℤ) : Type 0 where
-  pub first : place_value axis 0 ≤ℤ x
-  pub last : x ≤ℤ place_value axis (length axis - 1)
-
 -- x is between the numbers at the places k and k + 1 of an axis
-pub record IsCell (axis : List ℤ) (k : ℕ) (x : ℤ) : Type 0 where
+pub record IsBetween (axis : List ℤ) (k : ℕ) (x : ℤ) : Type 0 where
   pub place : k + 1 < length axis
   pub low : place_value axis k ≤ℤ x
   pub high : x ≤ℤ place_value axis (k + 1)

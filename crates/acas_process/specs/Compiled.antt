@@ -7,7 +7,7 @@ use Rattle.acas_spec.specs.declared.parts.Choice.{Choice}
 use Rattle.acas_process.specs.Rounding.{down, up}
 use Rattle.acas_process.specs.Cost.{Policy, terminal_cost}
 use Rattle.acas_process.specs.Bounds.{Values, Table, millionths, choice_value}
-use Rattle.acas_process.specs.declared.model.Vertex.{Vertex}
+use Rattle.acas_grid.specs.declared.place.Vertex.{Vertex}
 
 -- the least value over the choices of a list, which is not empty
 abbrev pub least : (ℕ → ℤ) → List Choice → ℤ

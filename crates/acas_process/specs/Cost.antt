@@ -2,8 +2,9 @@
 use Rattle.std.specs.Prelude.{ℕ, zero, suc, ◌*◌, ◌^◌, ◌<◌, ◌≤◌, ℤ, pos, ◌+ℤ◌, ◌*ℤ◌, unsigned_abs, List, [], ◌∷◌, map, Contains, cond, nat_eq, nat_le}
 use Rattle.acas_spec.specs.Model.{ModelData, choices_at, total_weight}
 use Rattle.acas_spec.specs.declared.parts.Choice.{Choice}
-use Rattle.acas_process.specs.Step.{IsVertex, vertex_point, moved, grid_product, share, over_vertices, over_points, point_weight}
-use Rattle.acas_process.specs.declared.model.Vertex.{Vertex}
+use Rattle.acas_grid.specs.Grid.{IsVertex}
+use Rattle.acas_process.specs.Step.{vertex_point, moved, grid_product, share, over_vertices, over_points, point_weight}
+use Rattle.acas_grid.specs.declared.place.Vertex.{Vertex}
 
 -- an entry of a table has n seconds to go, up to the horizon, a present advisory p and a vertex x
 pub record IsEntry (m : ModelData) (n p : ℕ) (x : Vertex) : Type 0 where

@@ -3,14 +3,11 @@ use Rattle.std.specs.Prelude.{ℕ, ◌*◌, ◌<◌, ℤ, pos, neg_ℤ, ◌+ℤ�
 use Rattle.std.specs.Int.{int_min}
 use Rattle.acas_spec.specs.Axis.{place_value}
 use Rattle.acas_spec.specs.Model.{GridData, ModelData, advisory_at, point_at, weight_of}
+use Rattle.acas_grid.specs.Grid.{clamp_point}
 use Rattle.acas_process.specs.Sums.{sum_below}
-use Rattle.acas_process.specs.Axis.{clamp_to, gap_product, tent}
-use Rattle.acas_process.specs.declared.model.Point.{Point}
-use Rattle.acas_process.specs.declared.model.Vertex.{Vertex}
-
--- a vertex has a place on each of the three axes
-abbrev pub IsVertex : GridData → Vertex → Type 0
-IsVertex g y = (y.i < length g.h) × (y.j < length g.v0) × (y.k < length g.v1)
+use Rattle.acas_process.specs.Axis.{gap_product, tent}
+use Rattle.acas_grid.specs.declared.place.Point.{Point}
+use Rattle.acas_grid.specs.declared.place.Vertex.{Vertex}
 
 -- the relative altitude and the two rates at a vertex
 abbrev pub vertex_point : GridData → Vertex → Point
@@ -23,10 +20,6 @@ command lo hi pull v = cond (int_lt v lo) (int_min pull (lo -ℤ v)) (cond (int_
 -- one second of flight in which the own rate and the intruder's change by so much, evenly
 abbrev pub after_second : Point → ℤ → ℤ → Point
 after_second s own intruder = record { h = s.h +ℤ pos 2 *ℤ (s.v1 -ℤ s.v0) +ℤ intruder -ℤ own; v0 = s.v0 +ℤ own; v1 = s.v1 +ℤ intruder }
-
--- the nearest point inside the grid, axis by axis
-abbrev pub clamp_point : GridData → Point → Point
-clamp_point g s = record { h = clamp_to g.h s.h; v0 = clamp_to g.v0 s.v0; v1 = clamp_to g.v1 s.v1 }
 
 -- where the sigma point of number q takes the vertex x within a second under the advisory of number a
 abbrev pub moved : ModelData → Vertex → ℕ → ℕ → Point

@@ -4,15 +4,17 @@ ghost use Rattle.acas_spec.specs.Accepted.{IsAccepted};
 ghost use Rattle.acas_spec.specs.Axis.{IsAxis};
 ghost use Rattle.acas_spec.specs.Model.{ModelData, choices_at};
 ghost use Rattle.acas_spec.specs.declared.parts.Choice.{Choice};
-ghost use Rattle.acas_process.specs.Axis.{IsBetweenEnds, IsCell, IsStraight, clamp_to, gap_product, tent};
+ghost use Rattle.acas_grid.specs.Axis.{IsBetweenEnds, clamp_to};
+ghost use Rattle.acas_process.specs.Axis.{IsBetween, IsStraight, gap_product, tent};
 ghost use Rattle.acas_process.specs.Bounds.{HasTwoSidedBounds, IsSound, IsTight, Table};
 ghost use Rattle.acas_process.specs.Compiled.{IsOfSize, compiled};
 ghost use Rattle.acas_process.specs.Cost.{IsEntry, cost_of, transition_total, transition_weight};
 ghost use Rattle.acas_process.specs.Rounding.{down, up};
-ghost use Rattle.acas_process.specs.Step.{clamp_point, grid_product, over_vertices, share};
+ghost use Rattle.acas_grid.specs.Grid.{clamp_point};
+ghost use Rattle.acas_process.specs.Step.{grid_product, over_vertices, share};
 ghost use Rattle.acas_process.specs.Sums.{sum_below};
-ghost use Rattle.acas_process.specs.declared.model.Point.{Point};
-ghost use Rattle.acas_process.specs.declared.model.Vertex.{Vertex};
+ghost use Rattle.acas_grid.specs.declared.place.Point.{Point};
+ghost use Rattle.acas_grid.specs.declared.place.Vertex.{Vertex};
 
 /// Rounding down gives the greatest whole number that is not above the quotient, rounding up the least that is not below it.
 pub fn quotients_are_rounded()
@@ -29,7 +31,7 @@ pub fn numbers_are_clamped()
 /// A tent is the hat function of its place, times the gap product: that product at its own vertex, 0 at the other vertices, and on
 /// the straight line between neighbours.
 pub fn tents_are_hat_functions()
-    ensures { (axis : List ℤ) (i k : ℕ) (x : ℤ) → IsAxis axis → IsCell axis k x → IsStraight axis i k x }
+    ensures { (axis : List ℤ) (i k : ℕ) (x : ℤ) → IsAxis axis → IsBetween axis k x → IsStraight axis i k x }
 {}
 
 /// Between the ends of an axis the tents of all places sum to the gap product. The shares of all vertices at a point of the grid

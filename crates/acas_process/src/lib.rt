@@ -4,7 +4,6 @@
 
 mod examples;
 mod laws;
-mod model;
 
 pub use examples::{
     a_second_leads_a_third_up, entries_are_worked_out, examples_are_accepted,
@@ -15,4 +14,3 @@ pub use laws::{
     sound_tables_have_two_sided_bounds, tents_are_hat_functions,
     the_compiled_table_is_sound_and_tight, weights_sum_to_the_total,
 };
-pub use model::{Point, Vertex};
