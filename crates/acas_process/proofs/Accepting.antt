@@ -1,9 +1,8 @@
 -- What holds of the items of a list that is written out holds of its places.
 use Rattle.std.proofs.Common.{◌≡◌, ◌≢◌, ℕ, zero, suc, ◌+◌, ◌<◌, ◌≤◌, ℤ, pos, ◌<ℤ◌, unsigned_abs, List, [], ◌∷◌, length, get_or, arith, ap, subst}
 use Rattle.std.specs.List.{AllByRecursion}
-use Rattle.std.proofs.lemmas.Int.{ints}
 use Rattle.acas_spec.specs.Accepted.{AreDistinct}
-use Rattle.acas_spec.specs.Axis.{IsAxis, IsWithin, Rises, place_value}
+use Rattle.acas_spec.specs.Axis.{IsWithin, Rises, place_value}
 use Rattle.acas_process.proofs.AxisLaws.{IsRisingFrom}
 
 pub all_at : {A : Type 0} (P : A → Type 0) (xs : List A) (d : A) → AllByRecursion P xs → (k : ℕ) → k < length xs → P (get_or xs k d)

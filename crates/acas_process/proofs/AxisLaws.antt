@@ -1,9 +1,8 @@
 -- The tents of an axis at one point.
-use Rattle.std.proofs.Common.{◌≡◌, ℕ, zero, suc, ◌+◌, ◌-◌, ◌*◌, ◌<◌, ◌≤◌, ℤ, pos, negsuc, ◌+ℤ◌, ◌-ℤ◌, ◌*ℤ◌, neg_ℤ, ◌≤ℤ◌, ◌<ℤ◌, List, [], ◌∷◌, length, get_or, Bool, true, false, cond, int_lt, refl, ap, sym, subst, ◌∙◌, arith}
+use Rattle.std.proofs.Common.{◌≡◌, ℕ, zero, suc, ◌+◌, ◌-◌, ◌*◌, ◌<◌, ℤ, pos, ◌*ℤ◌, ◌≤ℤ◌, ◌<ℤ◌, List, [], ◌∷◌, length, get_or, true, false, int_lt, refl, ap, sym, subst, ◌∙◌, arith}
 use Rattle.std.proofs.lemmas.Int.{ints, clamps, by_lt_z}
 use Rattle.std.proofs.Math.Nat.{mul-pos}
 use Rattle.acas_process.specs.Sums.{sum_below}
-use Rattle.std.specs.Int.{int_min, int_max}
 use Rattle.acas_spec.specs.Axis.{IsAxis, Rises, place_value}
 use Rattle.acas_grid.specs.Axis.{IsBetweenEnds, clamp_to}
 use Rattle.acas_process.specs.Axis.{distance, gap_product, end_weight, after_first, tent}

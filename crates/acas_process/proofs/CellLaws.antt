@@ -1,6 +1,6 @@
 -- A sum by the shares of a point has eight terms: those at the corners of its cell.
-use Rattle.std.proofs.Common.{◌≡◌, ℕ, zero, suc, ◌+◌, ◌*◌, ◌<◌, ◌≤◌, ℤ, pos, negsuc, ◌+ℤ◌, ◌-ℤ◌, ◌*ℤ◌, neg_ℤ, ◌≤ℤ◌, ◌<ℤ◌, List, [], ◌∷◌, length, get_or, Bool, true, false, cond, nat_eq, refl, ap, sym, subst, ◌∙◌, arith, inl, inr, ⊎_elim}
-use Rattle.std.proofs.lemmas.Int.{ints, by_lt_z}
+use Rattle.std.proofs.Common.{◌≡◌, ℕ, zero, suc, ◌+◌, ◌*◌, ◌<◌, ◌≤◌, ℤ, pos, ◌+ℤ◌, ◌*ℤ◌, ◌≤ℤ◌, List, [], ◌∷◌, length, get_or, Bool, true, false, cond, nat_eq, refl, ap, sym, subst, ◌∙◌, arith, ⊎_elim}
+use Rattle.std.proofs.lemmas.Int.{ints}
 use Rattle.std.proofs.lemmas.Bool.{cases_lt}
 use Rattle.acas_process.specs.Sums.{sum_below}
 use Rattle.acas_spec.specs.Axis.{IsAxis}
@@ -11,7 +11,7 @@ use Rattle.acas_process.specs.Step.{share, over_vertices}
 use Rattle.acas_grid.specs.declared.place.Point.{Point}
 use Rattle.acas_process.proofs.IntLaws.{mul-add_ℤ, mul_assoc_ℤ, mul_comm_ℤ}
 use Rattle.acas_process.proofs.SumLaws.{sum_below-same, sum_below-mul, sum_below-zero}
-use Rattle.acas_process.proofs.AxisLaws.{is_rising, InCell, HasEnds, other_gaps, has_ends}
+use Rattle.acas_process.proofs.AxisLaws.{is_rising, other_gaps, has_ends}
 
 none_before : (n : ℕ) (g : ℕ → ℤ) → ((i : ℕ) → i < n → g i ≡ pos 0) → sum_below n g ≡ pos 0
 none_before n g h = sum_below-same n g (λ i. pos 0) h ∙ sum_below-zero n

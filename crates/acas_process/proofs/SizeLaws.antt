@@ -1,17 +1,15 @@
 -- How large the values of a compiled table are.
-use Rattle.std.proofs.Common.{◌≡◌, ℕ, zero, suc, ◌+◌, ◌*◌, ◌<◌, ◌≤◌, ℤ, pos, neg_ℤ, ◌+ℤ◌, ◌*ℤ◌, ◌≤ℤ◌, List, [], ◌∷◌, length, map, Contains, unsigned_abs, nat_le, true, false, ⊎_elim, refl, ap, sym, subst, ◌∙◌, arith}
-use Rattle.std.proofs.lemmas.Int.{ints, clamps, unsigned_abs-mul}
-use Rattle.std.proofs.Math.Nat.{mul-le-mul_left}
+use Rattle.std.proofs.Common.{◌≡◌, ℕ, zero, suc, ◌+◌, ◌*◌, ◌<◌, ◌≤◌, ℤ, pos, neg_ℤ, ◌*ℤ◌, ◌≤ℤ◌, length, unsigned_abs, nat_le, true, false, ⊎_elim, ap, subst, ◌∙◌, arith}
+use Rattle.std.proofs.lemmas.Int.{ints}
 use Rattle.acas_process.specs.Sums.{sum_below}
 use Rattle.std.proofs.lemmas.Bool.{cases_Bool}
-use Rattle.acas_spec.specs.Accepted.{IsAccepted, IsGrid}
+use Rattle.acas_spec.specs.Accepted.{IsAccepted}
 use Rattle.acas_spec.specs.Model.{GridData, ModelData, choices_at, total_weight}
 use Rattle.acas_grid.specs.Grid.{IsVertex}
 use Rattle.acas_process.specs.Step.{grid_product, vertex_point, moved, share, over_vertices, over_points, point_weight}
-use Rattle.acas_process.specs.Cost.{IsEntry, MayChoose, cost_of, terminal_cost}
+use Rattle.acas_process.specs.Cost.{terminal_cost}
 use Rattle.acas_process.specs.Bounds.{Values, interpolated, mean_value, choice_value}
 use Rattle.acas_process.specs.Compiled.{least, first_least, compiled_values}
-use Rattle.acas_spec.specs.declared.parts.Choice.{Choice}
 use Rattle.acas_grid.specs.declared.place.Point.{Point}
 use Rattle.acas_grid.specs.declared.place.Vertex.{Vertex}
 use Rattle.acas_process.proofs.IntLaws.{mul_comm_ℤ, mul-neg_ℤ}
@@ -19,7 +17,7 @@ use Rattle.acas_process.proofs.SumLaws.{sum_below-same, sum_below-mul}
 use Rattle.acas_process.proofs.VertexLaws.{over_vertices-same, over_vertices-mul, shares_sum, weights_sum}
 use Rattle.acas_process.proofs.MeanLaws.{shared, shared-le, weighted-le, grid_product_pos}
 use Rattle.acas_process.proofs.AcceptedLaws.{is_chosen, total_weight_pos}
-use Rattle.acas_process.proofs.CompiledLaws.{IsLeastOf, first_least_is}
+use Rattle.acas_process.proofs.CompiledLaws.{first_least_is}
 
 -- a quotient of a number of size at most c * b is of size at most b
 abbrev pub IsBounded : (ℤ → ℤ → ℤ) → Type 0

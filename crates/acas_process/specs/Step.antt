@@ -1,5 +1,5 @@
 -- One second of flight, and the vertices round the point that it leads to. Altitudes are in ticks of 1/120 ft, rates in ft/min.
-use Rattle.std.specs.Prelude.{ℕ, ◌*◌, ◌<◌, ℤ, pos, neg_ℤ, ◌+ℤ◌, ◌-ℤ◌, ◌*ℤ◌, length, cond, int_lt}
+use Rattle.std.specs.Prelude.{ℕ, ◌*◌, ℤ, pos, neg_ℤ, ◌+ℤ◌, ◌-ℤ◌, ◌*ℤ◌, length, cond, int_lt}
 use Rattle.std.specs.Int.{int_min}
 use Rattle.acas_spec.specs.Axis.{place_value}
 use Rattle.acas_spec.specs.Model.{GridData, ModelData, advisory_at, point_at, weight_of}

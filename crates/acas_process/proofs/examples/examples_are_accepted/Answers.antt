@@ -1,9 +1,7 @@
-use Rattle.std.proofs.Common.{◌≡◌, ◌≢◌, ℕ, ◌<◌, ◌≤◌, ℤ, pos, negsuc, ◌≤ℤ◌, unsigned_abs, List, [], ◌∷◌, length, arith, refl}
+use Rattle.std.proofs.Common.{ℕ, ◌<◌, ◌≤◌, ℤ, pos, negsuc, unsigned_abs, [], ◌∷◌, arith, refl}
 use Rattle.std.proofs.lemmas.Int.{ints}
 use Rattle.acas_spec.specs.Accepted.{IsAdvisory, IsChoice, IsChoiceList, IsPoint, IsGrid}
 use Rattle.acas_spec.specs.Axis.{IsAxis}
-use Rattle.acas_spec.specs.Model.{advisory_at, choices_at, point_at}
-use Rattle.acas_spec.specs.declared.parts.Choice.{Choice}
 use Rattle.acas_process.specs.Examples.{clear, choice, intruder_noise, level, noisy, four_advisories}
 use Rattle.acas_process.proofs.Accepting.{all_at, differ, distinct_of, rises_of, within_of}
 use Rattle.acas_process.proofs.examples.examples_are_accepted.Goals as goal

@@ -1,5 +1,4 @@
-use Rattle.std.proofs.Common.{pos, ◌*ℤ◌, ◌≤ℤ◌, arith}
-use Rattle.std.proofs.lemmas.Int.{ints}
+use Rattle.std.proofs.Common.{pos, ◌*ℤ◌}
 use Rattle.acas_process.specs.Rounding.{down, up}
 use Rattle.acas_process.proofs.IntLaws.{mul-le_ℤ, le-trans_ℤ}
 use Rattle.acas_process.proofs.RoundingLaws.{down_is_floor, down_greatest, up_is_ceiling, up_least}
