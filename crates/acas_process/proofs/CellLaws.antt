@@ -2,6 +2,7 @@
 use Rattle.std.proofs.Common.{◌≡◌, ℕ, zero, suc, ◌+◌, ◌*◌, ◌<◌, ◌≤◌, ℤ, pos, ◌+ℤ◌, ◌*ℤ◌, ◌≤ℤ◌, List, [], ◌∷◌, length, get_or, Bool, true, false, cond, nat_eq, refl, ap, sym, subst, ◌∙◌, arith, ⊎_elim}
 use Rattle.std.proofs.lemmas.Int.{ints}
 use Rattle.std.proofs.lemmas.Bool.{cases_lt}
+use Rattle.acas_grid.specs.Axis.{IsCell}
 use Rattle.acas_process.specs.Sums.{sum_below}
 use Rattle.acas_spec.specs.Axis.{IsAxis}
 use Rattle.acas_spec.specs.Model.{GridData}
@@ -37,6 +38,10 @@ pub record HasCell (axis : List ℤ) (k : ℕ) (x : ℤ) (other : ℕ) : Type 0 
   pub upper : tent axis (suc k) x ≡ other * distance (get_or axis k (pos 0)) x
   pub before : (i : ℕ) → i < k → tent axis i x ≡ 0
   pub after : (i : ℕ) → suc k < i → tent axis i x ≡ 0
+
+-- the cell of a number, which begins at the greatest place at or below it, is one of those that hold the number
+pub cell_holds : (axis : List ℤ) (k : ℕ) (x : ℤ) → IsCell axis k x → IsBetween axis k x
+cell_holds axis k x c = record { place = c.before_last; low = c.lower; high = c.upper }
 
 pub others : List ℤ → ℕ → ℕ
 others [] k = 1

@@ -8,7 +8,7 @@ use Rattle.acas_spec.specs.declared.parts.Choice.{Choice}
 use Rattle.acas_process.specs.Cost.{advisories_of}
 use Rattle.acas_grid.specs.declared.place.Vertex.{Vertex}
 use Rattle.acas_process.specs.Bounds.{choice_value, IsSoundEntry, IsSound, IsTight}
-use Rattle.acas_process.specs.Compiled.{least, first_least, compiled_values, compiled}
+use Rattle.acas_process.specs.Compiled.{least, first_least, compiled_values, compiled_advice, compiled}
 use Rattle.acas_process.proofs.AcceptedLaws.{is_chosen}
 use Rattle.acas_process.proofs.MeanLaws.{mean-le-mean}
 
@@ -70,3 +70,8 @@ compiled_gap m v (suc n) p x known =
 
 pub compiled_is_tight : (m : ModelData) → IsAccepted m → IsTight m (compiled m)
 compiled_is_tight m v = record { holds = λ n p x at. compiled_gap m v n p x at.present }
+
+-- the compiled advice is an advisory of the model
+pub compiled_advice_within : (m : ModelData) → IsAccepted m → (n p : ℕ) (x : Vertex) → p < m.grid.advisories → compiled_advice m (suc n) p x < m.grid.advisories
+compiled_advice_within m v n p x known =
+    (is_chosen m p (compiled_advice m (suc n) p x) v known (first_least_is (choice_value up m (compiled_values up m n) p x) (choices_at m p) (v.choices p known).some).listed).inside

@@ -15,7 +15,7 @@ use Rattle.acas_process.specs.Bounds.{Values, mean_value}
 use Rattle.acas_process.proofs.IntLaws.{mul-add_ℤ, mul_assoc_ℤ, mul_comm_ℤ, mul-le_ℤ}
 use Rattle.acas_process.proofs.RoundingLaws.{down_is_floor, up_is_ceiling, up-le-down}
 use Rattle.acas_process.proofs.SumLaws.{sum_below-same, sum_below-le, sum_below-mul, sum_below-add}
-use Rattle.acas_process.proofs.VertexLaws.{over_vertices-le, over_vertices-same, over_vertices-mul, over_vertices-add, over_vertices-swap, shares_sum, weights_sum}
+use Rattle.acas_process.proofs.VertexLaws.{over_vertices-le, over_vertices-same, over_vertices-mul, over_vertices-add, over_vertices-swap, moved_shares_sum, weights_sum}
 use Rattle.acas_process.proofs.AxisLaws.{gap_product_pos}
 use Rattle.acas_process.proofs.AcceptedLaws.{total_weight_pos}
 
@@ -125,14 +125,14 @@ pub mean-le-mean : (m : ModelData) (u l : Values) (x : Vertex) (a d : ℕ) → I
     mean_value up m u x a ≤ℤ (mean_value down m l x a +ℤ pos (d + 2))
 mean-le-mean m u l x a d v h =
     weighted_gap (length m.points) (λ q. point_weight m q) (λ q. shared m.grid (moved m x a q) (u a)) (λ q. shared m.grid (moved m x a q) (l a)) (grid_product m.grid) (total_weight m) d
-    (grid_product_pos m.grid v.grid) (total_weight_pos m v) (weights_sum m) (λ q _. shared_gap m.grid (moved m x a q) (u a) (l a) d (shares_sum m.grid _ v.grid) h)
+    (grid_product_pos m.grid v.grid) (total_weight_pos m v) (weights_sum m) (λ q _. shared_gap m.grid (moved m x a q) (u a) (l a) d (moved_shares_sum m x a q v.grid) h)
 
 -- all transition weights from one vertex sum to one number
 pub transitions_sum : (m : ModelData) (x : Vertex) (a : ℕ) → IsAccepted m → over_vertices m.grid (transition_weight m x a) ≡ pos (transition_total m)
 transitions_sum m x a v =
     let weight : ℕ → ℕ = λ q. point_weight m q in
     over_vertices-swap m.grid (length m.points) (λ q y. pos (weight q * share m.grid (moved m x a q) y))
-    ∙ sum_below-same (length m.points) _ _ (λ q _. over_vertices-mul m.grid (pos (weight q)) (λ y. pos (share m.grid (moved m x a q) y)) ∙ ap (λ z. pos (weight q) *ℤ z) (shares_sum m.grid _ v.grid) ∙ mul_comm_ℤ (pos (weight q)) (pos (grid_product m.grid)))
+    ∙ sum_below-same (length m.points) _ _ (λ q _. over_vertices-mul m.grid (pos (weight q)) (λ y. pos (share m.grid (moved m x a q) y)) ∙ ap (λ z. pos (weight q) *ℤ z) (moved_shares_sum m x a q v.grid) ∙ mul_comm_ℤ (pos (weight q)) (pos (grid_product m.grid)))
     ∙ sum_below-mul (length m.points) (pos (grid_product m.grid)) (λ q. pos (weight q))
     ∙ ap (λ z. pos (grid_product m.grid) *ℤ z) (weights_sum m)
     ∙ mul_comm_ℤ (pos (grid_product m.grid)) (pos (total_weight m))

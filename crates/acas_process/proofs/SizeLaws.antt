@@ -14,7 +14,7 @@ use Rattle.acas_grid.specs.declared.place.Point.{Point}
 use Rattle.acas_grid.specs.declared.place.Vertex.{Vertex}
 use Rattle.acas_process.proofs.IntLaws.{mul_comm_ℤ, mul-neg_ℤ}
 use Rattle.acas_process.proofs.SumLaws.{sum_below-same, sum_below-mul}
-use Rattle.acas_process.proofs.VertexLaws.{over_vertices-same, over_vertices-mul, shares_sum, weights_sum}
+use Rattle.acas_process.proofs.VertexLaws.{over_vertices-same, over_vertices-mul, moved_shares_sum, weights_sum}
 use Rattle.acas_process.proofs.MeanLaws.{shared, shared-le, weighted-le, grid_product_pos}
 use Rattle.acas_process.proofs.AcceptedLaws.{is_chosen, total_weight_pos}
 use Rattle.acas_process.proofs.CompiledLaws.{first_least_is}
@@ -58,7 +58,7 @@ pub mean_bounded : (round : ℤ → ℤ → ℤ) → IsBounded round → (m : Mo
 mean_bounded round bounded m below x a b v h =
     bounded (over_points m (λ q. pos (point_weight m q) *ℤ interpolated round m below a (moved m x a q))) (total_weight m) b (total_weight_pos m v)
     (weighted_bounded (length m.points) (λ q. point_weight m q) (λ q. interpolated round m below a (moved m x a q)) (total_weight m) b (weights_sum m)
-    (λ q _. bounded (shared m.grid (moved m x a q) (below a)) (grid_product m.grid) b (grid_product_pos m.grid v.grid) (shared_bounded m.grid (moved m x a q) (below a) b (shares_sum m.grid _ v.grid) h)))
+    (λ q _. bounded (shared m.grid (moved m x a q) (below a)) (grid_product m.grid) b (grid_product_pos m.grid v.grid) (shared_bounded m.grid (moved m x a q) (below a) b (moved_shares_sum m x a q v.grid) h)))
 
 terminal_size : (m : ModelData) (x : Vertex) → IsAccepted m → unsigned_abs (terminal_cost m x) ≤ 1_000_000_000
 terminal_size m x v = ⊎_elim (λ (e : nat_le (unsigned_abs (vertex_point m.grid x).h) m.half ≡ true). rw e v.contact) (λ (e : nat_le (unsigned_abs (vertex_point m.grid x).h) m.half ≡ false). rw e (omega arith)) (cases_Bool (nat_le (unsigned_abs (vertex_point m.grid x).h) m.half))

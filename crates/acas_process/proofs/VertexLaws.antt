@@ -3,14 +3,12 @@ use Rattle.std.proofs.Common.{◌≡◌, ℕ, zero, suc, ◌*◌, ℤ, pos, ◌+
 use Rattle.std.proofs.lemmas.List.Sums.{sum_by-cons}
 use Rattle.acas_process.specs.Sums.{sum_below}
 use Rattle.acas_spec.specs.Accepted.{IsGrid}
-use Rattle.acas_spec.specs.Axis.{IsAxis}
 use Rattle.acas_spec.specs.Model.{GridData, ModelData, total_weight, weight_of}
 use Rattle.acas_spec.specs.declared.parts.SigmaPoint.{SigmaPoint}
-use Rattle.acas_grid.specs.Axis.{clamp_to}
 use Rattle.acas_process.specs.Axis.{gap_product, tent}
 use Rattle.acas_grid.specs.declared.place.Vertex.{Vertex}
-use Rattle.acas_grid.specs.Grid.{IsVertex, clamp_point}
-use Rattle.acas_process.specs.Step.{grid_product, share, over_vertices, over_points, point_weight}
+use Rattle.acas_grid.specs.Grid.{IsInside, IsVertex, clamp_point}
+use Rattle.acas_process.specs.Step.{grid_product, moved, over_points, over_vertices, point_weight, share}
 use Rattle.acas_grid.specs.declared.place.Point.{Point}
 use Rattle.acas_process.proofs.SumLaws.{sum_below-same, sum_below-le, sum_below-mul, sum_below-add, sum_below-zero, sum_below-first}
 use Rattle.acas_process.proofs.AxisLaws.{axis_tents_sum, clamped_between}
@@ -62,16 +60,22 @@ product_sum l m n f g h a b c p q r =
     ∙ sum_below-mul m (pos (f i * c)) (λ j. pos (g j)) ∙ ap (λ z. pos (f i * c) *ℤ z) q ∙ ap pos (omega arith))
     ∙ sum_below-mul l (pos (b * c)) (λ i. pos (f i)) ∙ ap (λ z. pos (b * c) *ℤ z) p ∙ ap pos (omega arith)
 
--- the tents of a clamped number
-pub clamped_tents_sum : (axis : List ℤ) (x : ℤ) → IsAxis axis → sum_below (length axis) (λ i. pos (tent axis i (clamp_to axis x))) ≡ pos (gap_product axis)
-clamped_tents_sum axis x a = axis_tents_sum axis (clamp_to axis x) a (clamped_between axis x a)
-
-pub shares_sum : (grid : GridData) (s : Point) → IsGrid grid → over_vertices grid (λ y. pos (share grid (clamp_point grid s) y)) ≡ pos (grid_product grid)
-shares_sum grid s v =
+-- the shares of a point inside the grid
+pub shares_sum : (grid : GridData) (s : Point) → IsGrid grid → IsInside grid s → over_vertices grid (λ y. pos (share grid s y)) ≡ pos (grid_product grid)
+shares_sum grid s v inside =
     product_sum (length grid.h) (length grid.v0) (length grid.v1)
-    (λ i. tent grid.h i (clamp_to grid.h s.h)) (λ j. tent grid.v0 j (clamp_to grid.v0 s.v0)) (λ k. tent grid.v1 k (clamp_to grid.v1 s.v1))
+    (λ i. tent grid.h i s.h) (λ j. tent grid.v0 j s.v0) (λ k. tent grid.v1 k s.v1)
     (gap_product grid.h) (gap_product grid.v0) (gap_product grid.v1)
-    (clamped_tents_sum grid.h s.h v.altitudes) (clamped_tents_sum grid.v0 s.v0 v.own_rates) (clamped_tents_sum grid.v1 s.v1 v.intruder_rates)
+    (axis_tents_sum grid.h s.h v.altitudes inside.h) (axis_tents_sum grid.v0 s.v0 v.own_rates inside.v0) (axis_tents_sum grid.v1 s.v1 v.intruder_rates inside.v1)
+
+pub clamped_inside : (grid : GridData) (s : Point) → IsGrid grid → IsInside grid (clamp_point grid s)
+clamped_inside grid s v = record { h = clamped_between grid.h s.h v.altitudes; v0 = clamped_between grid.v0 s.v0 v.own_rates; v1 = clamped_between grid.v1 s.v1 v.intruder_rates }
+
+pub moved_inside : (m : ModelData) (x : Vertex) (a q : ℕ) → IsGrid m.grid → IsInside m.grid (moved m x a q)
+moved_inside m x a q v = clamped_inside m.grid _ v
+
+pub moved_shares_sum : (m : ModelData) (x : Vertex) (a q : ℕ) → IsGrid m.grid → over_vertices m.grid (λ y. pos (share m.grid (moved m x a q) y)) ≡ pos (grid_product m.grid)
+moved_shares_sum m x a q v = shares_sum m.grid (moved m x a q) v (moved_inside m x a q v)
 
 -- the total weight as a sum over the points' numbers
 weights_sum_from : (points : List SigmaPoint) (d : SigmaPoint) → sum_below (length points) (λ q. pos (weight_of (get_or points q d))) ≡ pos (sum_by weight_of points)

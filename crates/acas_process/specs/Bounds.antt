@@ -21,28 +21,28 @@ pub record Table : Type 0 where
 abbrev pub millionths : ℤ → ℤ
 millionths cost = pos 1_000_000 *ℤ cost
 
--- the values below under the advisory a, interpolated at the point s and rounded
+-- the values of the layer below under the advisory a, interpolated at the point s and rounded
 abbrev pub interpolated : (ℤ → ℤ → ℤ) → ModelData → Values → ℕ → Point → ℤ
 interpolated round m below a s = round (over_vertices m.grid (λ y. pos (share m.grid s y) *ℤ below a y)) (pos (grid_product m.grid))
 
--- the mean of that over the sigma points, by their weights, rounded
+-- the mean of that over the points to which the sigma points move the vertex x, by their weights, rounded
 abbrev pub mean_value : (ℤ → ℤ → ℤ) → ModelData → Values → Vertex → ℕ → ℤ
 mean_value round m below x a = round (over_points m (λ q. pos (point_weight m q) *ℤ interpolated round m below a (moved m x a q))) (pos (total_weight m))
 
--- the value of choosing the advisory a at the vertex x where p is present, by the values below: the mean and the cost of the second
+-- the value of choosing the advisory a at the vertex x where p is present: that mean and the cost of the second
 abbrev pub choice_value : (ℤ → ℤ → ℤ) → ModelData → Values → ℕ → Vertex → ℕ → ℤ
 choice_value round m below p x a = mean_value round m below x a +ℤ millionths (cost_of m p a)
 
--- the upper value of a choice is rounded up
+-- the upper value of a choice: both roundings are up
 abbrev pub upper_value : ModelData → Values → ℕ → Vertex → ℕ → ℤ
 upper_value m below p x a = choice_value up m below p x a
 
--- the lower value of a choice is rounded down
+-- the lower value of a choice: both roundings are down
 abbrev pub lower_value : ModelData → Values → ℕ → Vertex → ℕ → ℤ
 lower_value m below p x a = choice_value down m below p x a
 
--- an entry is sound by the layer below: with none to go, lower and upper are round the cost at the end; otherwise the advice may be
--- chosen, upper is at least the upper value of the advice, and lower at most the lower value of each choice
+-- An entry is sound by the layer below. With no second to go the cost at the end is between lower and upper. Otherwise the advice may
+-- be chosen, upper is at least the upper value of the advice, and lower is at most the lower value of each choice.
 abbrev pub IsSoundEntry : ModelData → Table → ℕ → ℕ → Vertex → Type 0
 IsSoundEntry m t zero p x = (t.lower 0 p x ≤ℤ millionths (terminal_cost m x)) × (millionths (terminal_cost m x) ≤ℤ t.upper 0 p x)
 IsSoundEntry m t (suc n) p x =
@@ -54,11 +54,11 @@ IsSoundEntry m t (suc n) p x =
 pub record IsSound (m : ModelData) (t : Table) : Type 0 where
   pub entries : (n p : ℕ) (x : Vertex) → IsEntry m n p x → IsSoundEntry m t n p x
 
--- the expected cost of a policy is at most the upper value, everywhere
+-- the expected cost of a policy, in millionths, is at most the upper value of every entry
 pub record IsUpperBound (m : ModelData) (t : Table) (policy : Policy) : Type 0 where
   pub holds : (n p : ℕ) (x : Vertex) → IsEntry m n p x → millionths (expected_cost m policy n p x) ≤ℤ (pos (transition_total m ^ n) *ℤ t.upper n p x)
 
--- the expected cost of a policy is at least the lower value, everywhere
+-- the expected cost of a policy, in millionths, is at least the lower value of every entry
 pub record IsLowerBound (m : ModelData) (t : Table) (policy : Policy) : Type 0 where
   pub holds : (n p : ℕ) (x : Vertex) → IsEntry m n p x → (pos (transition_total m ^ n) *ℤ t.lower n p x) ≤ℤ millionths (expected_cost m policy n p x)
 

@@ -1,12 +1,11 @@
 -- The table that is compiled: one function of the model, layer by layer.
-use Rattle.std.specs.Prelude.{ℕ, zero, suc, ◌+◌, ◌*◌, ◌≤◌, ℤ, unsigned_abs, List, [], ◌∷◌, cond, int_le}
-use Rattle.std.specs.Prelude.{pos}
+use Rattle.std.specs.Prelude.{ℕ, zero, suc, ◌+◌, ◌*◌, ◌≤◌, ℤ, pos, unsigned_abs, List, [], ◌∷◌, cond, int_le}
 use Rattle.std.specs.Int.{int_min}
 use Rattle.acas_spec.specs.Model.{ModelData, choices_at}
 use Rattle.acas_spec.specs.declared.parts.Choice.{Choice}
 use Rattle.acas_process.specs.Rounding.{down, up}
 use Rattle.acas_process.specs.Cost.{Policy, terminal_cost}
-use Rattle.acas_process.specs.Bounds.{Values, Table, millionths, choice_value}
+use Rattle.acas_process.specs.Bounds.{Values, Table, millionths, choice_value, upper_value}
 use Rattle.acas_grid.specs.declared.place.Vertex.{Vertex}
 
 -- the least value over the choices of a list, which is not empty
@@ -29,9 +28,9 @@ compiled_values round m (suc n) p x = least (choice_value round m (compiled_valu
 -- the first choice of the least upper value; with no second to go there is none, which is written 255
 abbrev pub compiled_advice : ModelData → Policy
 compiled_advice m zero p x = 255
-compiled_advice m (suc n) p x = first_least (choice_value up m (compiled_values up m n) p x) (choices_at m p)
+compiled_advice m (suc n) p x = first_least (upper_value m (compiled_values up m n) p x) (choices_at m p)
 
--- the compiled table
+-- the compiled table has the least upper and the least lower value of the choices
 abbrev pub compiled : ModelData → Table
 compiled m = record { upper = compiled_values up m; lower = compiled_values down m; advice = compiled_advice m }
 

@@ -29,7 +29,7 @@ cost_among (c ∷ rest) a = cond (nat_eq c.advisory a) c.cost (cost_among rest a
 abbrev pub cost_of : ModelData → ℕ → ℕ → ℤ
 cost_of m p a = cost_among (choices_at m p) a
 
--- contact costs at the end: where the altitude is at most half the puck's height, in units
+-- contact at the end costs, and nothing else does: there the altitude is at most half the puck's height; in units
 abbrev pub terminal_cost : ModelData → Vertex → ℤ
 terminal_cost m x = cond (nat_le (unsigned_abs (vertex_point m.grid x).h) m.half) m.contact (pos 0)
 
@@ -37,7 +37,7 @@ terminal_cost m x = cond (nat_le (unsigned_abs (vertex_point m.grid x).h) m.half
 abbrev pub Policy : Type 0
 Policy = ℕ → ℕ → Vertex → ℕ
 
--- what it says may be chosen
+-- what a policy says may be chosen, with at least one second to go
 pub record IsPolicy (m : ModelData) (policy : Policy) : Type 0 where
   pub allowed : (n p : ℕ) (x : Vertex) → 0 < n → IsEntry m n p x → MayChoose m p (policy n p x)
 
@@ -49,7 +49,7 @@ transition_weight m x a y = over_points m (λ q. pos (point_weight m q * share m
 abbrev pub transition_total : ModelData → ℕ
 transition_total m = total_weight m * grid_product m.grid
 
--- the expected cost of a policy with n seconds to go, in units, times the n-th power of the total
+-- the expected cost of a policy with n seconds to go from the vertex x where p is present, in units, times the n-th power of the total
 abbrev pub expected_cost : ModelData → Policy → ℕ → ℕ → Vertex → ℤ
 expected_cost m policy zero p x = terminal_cost m x
 expected_cost m policy (suc n) p x =

@@ -10,8 +10,8 @@ ghost use Rattle.acas_process.specs.Bounds.{HasTwoSidedBounds, IsSound, IsTight,
 ghost use Rattle.acas_process.specs.Compiled.{IsOfSize, compiled};
 ghost use Rattle.acas_process.specs.Cost.{IsEntry, cost_of, transition_total, transition_weight};
 ghost use Rattle.acas_process.specs.Rounding.{down, up};
-ghost use Rattle.acas_grid.specs.Grid.{clamp_point};
-ghost use Rattle.acas_process.specs.Step.{grid_product, over_vertices, share};
+ghost use Rattle.acas_grid.specs.Grid.{IsInside};
+ghost use Rattle.acas_process.specs.Step.{grid_product, moved, over_vertices, share};
 ghost use Rattle.acas_process.specs.Sums.{sum_below};
 ghost use Rattle.acas_grid.specs.declared.place.Point.{Point};
 ghost use Rattle.acas_grid.specs.declared.place.Vertex.{Vertex};
@@ -22,10 +22,12 @@ pub fn quotients_are_rounded()
     ensures up { (a m : ℤ) (c : ℕ) → 0 < c → (a ≤ℤ (pos c *ℤ m)) ↔ (up a (pos c) ≤ℤ m) }
 {}
 
-/// A clamped number is between the ends of its axis, and a number between them stays as it is.
-pub fn numbers_are_clamped()
-    ensures inside { (axis : List ℤ) (x : ℤ) → IsAxis axis → IsBetweenEnds axis (clamp_to axis x) }
+/// A clamped number is between the ends of its axis, and a number between them stays as it is. So each point that a second leads
+/// to is inside the grid.
+pub fn points_stay_inside()
+    ensures clamped { (axis : List ℤ) (x : ℤ) → IsAxis axis → IsBetweenEnds axis (clamp_to axis x) }
     ensures unchanged { (axis : List ℤ) (x : ℤ) → IsAxis axis → IsBetweenEnds axis x → clamp_to axis x ≡ x }
+    ensures moved { (m : ModelData) (x : Vertex) (a q : ℕ) → IsAccepted m → IsInside m.grid (moved m x a q) }
 {}
 
 /// A tent is the hat function of its place, times the gap product: that product at its own vertex, 0 at the other vertices, and on
@@ -34,11 +36,11 @@ pub fn tents_are_hat_functions()
     ensures { (axis : List ℤ) (i k : ℕ) (x : ℤ) → IsAxis axis → IsBetween axis k x → IsStraight axis i k x }
 {}
 
-/// Between the ends of an axis the tents of all places sum to the gap product. The shares of all vertices at a point of the grid
+/// Between the ends of an axis the tents of all places sum to the gap product. The shares of all vertices at a point inside the grid
 /// sum to the product of all gaps, and the transition weights from one vertex under one advisory to the total.
 pub fn weights_sum_to_the_total()
     ensures tents { (axis : List ℤ) (x : ℤ) → IsAxis axis → IsBetweenEnds axis x → sum_below (length axis) (λ i. pos (tent axis i x)) ≡ pos (gap_product axis) }
-    ensures shares { (m : ModelData) (s : Point) → IsAccepted m → over_vertices m.grid (λ y. pos (share m.grid (clamp_point m.grid s) y)) ≡ pos (grid_product m.grid) }
+    ensures shares { (m : ModelData) (s : Point) → IsAccepted m → IsInside m.grid s → over_vertices m.grid (λ y. pos (share m.grid s y)) ≡ pos (grid_product m.grid) }
     ensures transitions { (m : ModelData) (x : Vertex) (a : ℕ) → IsAccepted m → over_vertices m.grid (transition_weight m x a) ≡ pos (transition_total m) }
 {}
 
@@ -53,8 +55,8 @@ pub fn sound_tables_have_two_sided_bounds()
     ensures { (m : ModelData) (t : Table) → IsAccepted m → IsSound m t → HasTwoSidedBounds m t }
 {}
 
-/// The compiled table is sound and has two-sided bounds, and its two values are within two millionths for each second to go.
-pub fn the_compiled_table_is_sound_and_tight()
+/// The compiled table of a model is sound and has two-sided bounds, and its two values are within two millionths for each second to go.
+pub fn compiled_tables_are_sound_and_tight()
     ensures sound { (m : ModelData) → IsAccepted m → IsSound m (compiled m) }
     ensures bounds { (m : ModelData) → IsAccepted m → HasTwoSidedBounds m (compiled m) }
     ensures tight { (m : ModelData) → IsAccepted m → IsTight m (compiled m) }

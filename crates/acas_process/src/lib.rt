@@ -10,7 +10,7 @@ pub use examples::{
     noisy_costs_are_exact, noisy_values_are_rounded_twice,
 };
 pub use laws::{
-    choices_have_their_cost, compiled_values_fit, numbers_are_clamped, quotients_are_rounded,
-    sound_tables_have_two_sided_bounds, tents_are_hat_functions,
-    the_compiled_table_is_sound_and_tight, weights_sum_to_the_total,
+    choices_have_their_cost, compiled_tables_are_sound_and_tight, compiled_values_fit,
+    points_stay_inside, quotients_are_rounded, sound_tables_have_two_sided_bounds,
+    tents_are_hat_functions, weights_sum_to_the_total,
 };

@@ -7,7 +7,7 @@ pub returns-clause-tents : goal.returns-clause-tents
 returns-clause-tents c = axis_tents_sum
 
 pub returns-clause-shares : goal.returns-clause-shares
-returns-clause-shares c m s v = shares_sum m.grid s v.grid
+returns-clause-shares c m s v inside = shares_sum m.grid s v.grid inside
 
 pub returns-clause-transitions : goal.returns-clause-transitions
 returns-clause-transitions c = transitions_sum

@@ -1,7 +1,7 @@
 use Rattle.acas_process.specs.Compiled.{compiled}
 use Rattle.acas_process.proofs.BoundLaws.{two_sided_bounds}
 use Rattle.acas_process.proofs.CompiledLaws.{compiled_is_sound, compiled_is_tight}
-use Rattle.acas_process.proofs.laws.the_compiled_table_is_sound_and_tight.Goals as goal
+use Rattle.acas_process.proofs.laws.compiled_tables_are_sound_and_tight.Goals as goal
 
 pub returns-clause-sound : goal.returns-clause-sound
 returns-clause-sound c = compiled_is_sound
