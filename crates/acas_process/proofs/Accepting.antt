@@ -3,12 +3,16 @@ use Rattle.std.proofs.Common.{◌≡◌, ◌≢◌, ℕ, zero, suc, ◌+◌, ◌
 use Rattle.std.specs.List.{AllByRecursion}
 use Rattle.acas_spec.specs.Accepted.{AreDistinct}
 use Rattle.acas_spec.specs.Axis.{IsWithin, Rises, place_value}
-use Rattle.acas_process.proofs.AxisLaws.{IsRisingFrom}
 
 pub all_at : {A : Type 0} (P : A → Type 0) (xs : List A) (d : A) → AllByRecursion P xs → (k : ℕ) → k < length xs → P (get_or xs k d)
 all_at P [] d all k h = absurd (omega arith)
 all_at P (x ∷ xs) d all zero h = all.0
 all_at P (x ∷ xs) d all (suc k) h = all_at P xs d all.1 k (omega arith)
+
+-- each number is above the one before it, by recursion
+abbrev pub IsRisingFrom : ℤ → List ℤ → Type 0
+IsRisingFrom a [] = Unit {0}
+IsRisingFrom a (b ∷ rest) = (a <ℤ b) × IsRisingFrom b rest
 
 rises_at : (a : ℤ) (rest : List ℤ) → IsRisingFrom a rest → (k : ℕ) → k < length rest → place_value (a ∷ rest) k <ℤ place_value rest k
 rises_at a [] r k h = absurd (omega arith)

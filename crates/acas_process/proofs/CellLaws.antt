@@ -6,62 +6,21 @@ use Rattle.acas_grid.specs.Axis.{IsCell}
 use Rattle.acas_process.specs.Sums.{sum_below}
 use Rattle.acas_spec.specs.Axis.{IsAxis}
 use Rattle.acas_spec.specs.Model.{GridData}
-use Rattle.acas_process.specs.Axis.{IsBetween, IsStraight, distance, gap_product, tent}
+use Rattle.acas_process.specs.Axis.{IsStraight, distance, gap_product, tent}
 use Rattle.acas_grid.specs.declared.place.Vertex.{Vertex}
 use Rattle.acas_process.specs.Step.{share, over_vertices}
 use Rattle.acas_grid.specs.declared.place.Point.{Point}
 use Rattle.acas_process.proofs.IntLaws.{mul-add_ℤ, mul_assoc_ℤ, mul_comm_ℤ}
-use Rattle.acas_process.proofs.SumLaws.{sum_below-same, sum_below-mul, sum_below-zero}
-use Rattle.acas_process.proofs.AxisLaws.{is_rising, other_gaps, has_ends}
-
-none_before : (n : ℕ) (g : ℕ → ℤ) → ((i : ℕ) → i < n → g i ≡ pos 0) → sum_below n g ≡ pos 0
-none_before n g h = sum_below-same n g (λ i. pos 0) h ∙ sum_below-zero n
-
--- a sum with two neighbouring terms that are not 0
-pub sum_of_two : (n k : ℕ) (g : ℕ → ℤ) → suc k < n → ((i : ℕ) → i < k → g i ≡ pos 0) → ((i : ℕ) → suc k < i → g i ≡ pos 0) → sum_below n g ≡ g k +ℤ g (suc k)
-sum_of_two zero k g h before after = absurd (omega arith)
-sum_of_two (suc n) k g h before after =
-    ⊎_elim
-    (λ (later : suc k < n). omega (arith, ints, sum_of_two n k g later before after, after n later))
-    (λ (here : n ≤ suc k). let e : suc k ≡ n = omega arith in subst (λ z. sum_below (suc z) g ≡ g k +ℤ g (suc k)) e (omega (arith, ints, none_before k g before)))
-    (cases_lt (suc k) n)
+use Rattle.acas_process.proofs.SumLaws.{sum_below-same, sum_below-mul, sum_of_two}
+use Rattle.acas_process.proofs.AxisLaws.{IsBetween, HasCell, others, has_cell}
 
 -- the two ends of a cell, with their weights
 abbrev pub at_ends : ℕ → ℕ → ℕ → (ℕ → ℤ) → ℤ
 at_ends lower upper k g = pos lower *ℤ g k +ℤ pos upper *ℤ g (suc k)
 
--- What a cell says of an axis: the two tents, and that all others are 0. `other` is the product of the other gaps.
-pub record HasCell (axis : List ℤ) (k : ℕ) (x : ℤ) (other : ℕ) : Type 0 where
-  pub positive : 0 < other
-  pub product : other * distance (get_or axis k (pos 0)) (get_or axis (k + 1) (pos 0)) ≡ gap_product axis
-  pub lower : tent axis k x ≡ other * distance x (get_or axis (k + 1) (pos 0))
-  pub upper : tent axis (suc k) x ≡ other * distance (get_or axis k (pos 0)) x
-  pub before : (i : ℕ) → i < k → tent axis i x ≡ 0
-  pub after : (i : ℕ) → suc k < i → tent axis i x ≡ 0
-
 -- the cell of a number, which begins at the greatest place at or below it, is one of those that hold the number
 pub cell_holds : (axis : List ℤ) (k : ℕ) (x : ℤ) → IsCell axis k x → IsBetween axis k x
 cell_holds axis k x c = record { place = c.before_last; low = c.lower; high = c.upper }
-
-pub others : List ℤ → ℕ → ℕ
-others [] k = 1
-others (a ∷ rest) k = other_gaps a rest k
-
-pub has_cell : (axis : List ℤ) (k : ℕ) (x : ℤ) → IsAxis axis → IsBetween axis k x → HasCell axis k x (others axis k)
-unfolding others
-has_cell [] k x r c = absurd (omega (arith, r.at_least))
-has_cell (a ∷ rest) k x r c =
-    let e : k + 1 ≡ suc k = omega arith in
-    let high : x ≤ℤ get_or rest k (pos 0) = subst (λ z. x ≤ℤ get_or (a ∷ rest) z (pos 0)) e c.high in
-    let ends = has_ends a rest k x (is_rising (a ∷ rest) r) (record { place = omega (arith, c.place); low = c.low; high = high }) in
-    record {
-      positive = ends.positive;
-      product = subst (λ z. other_gaps a rest k * distance (get_or (a ∷ rest) k (pos 0)) (get_or (a ∷ rest) z (pos 0)) ≡ gap_product (a ∷ rest)) (sym e) ends.product;
-      lower = subst (λ z. tent (a ∷ rest) k x ≡ other_gaps a rest k * distance x (get_or (a ∷ rest) z (pos 0))) (sym e) ends.lower;
-      upper = ends.upper;
-      before = ends.before;
-      after = ends.after;
-    }
 
 pub two_scaled : (o l u a b : ℕ) (y z : ℤ) → a ≡ o * l → b ≡ o * u → pos a *ℤ y +ℤ pos b *ℤ z ≡ pos o *ℤ (pos l *ℤ y +ℤ pos u *ℤ z)
 two_scaled o l u a b y z e k =

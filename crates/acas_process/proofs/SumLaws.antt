@@ -1,5 +1,6 @@
 -- Sums over places: equal, smaller, scaled and added terms.
-use Rattle.std.proofs.Common.{◌≡◌, ℕ, zero, suc, ◌<◌, ℤ, pos, ◌+ℤ◌, ◌*ℤ◌, ◌≤ℤ◌, refl, ap, sym, ◌∙◌, arith}
+use Rattle.std.proofs.Common.{◌≡◌, ℕ, zero, suc, ◌<◌, ◌≤◌, ℤ, pos, ◌+ℤ◌, ◌*ℤ◌, ◌≤ℤ◌, refl, ap, sym, subst, ◌∙◌, ⊎_elim, arith}
+use Rattle.std.proofs.lemmas.Bool.{cases_lt}
 use Rattle.std.proofs.lemmas.Int.{ints}
 use Rattle.acas_process.specs.Sums.{sum_below}
 use Rattle.acas_process.proofs.IntLaws.{mul-add_ℤ}
@@ -33,3 +34,16 @@ sum_below-first (suc n) f = omega (arith, ints, sum_below-first n f)
 pub sum_below-swap : (m n : ℕ) (f : ℕ → ℕ → ℤ) → sum_below m (λ i. sum_below n (λ j. f i j)) ≡ sum_below n (λ j. sum_below m (λ i. f i j))
 sum_below-swap zero n f = sym (sum_below-zero n)
 sum_below-swap (suc m) n f = ap (λ z. z +ℤ sum_below n (f m)) (sum_below-swap m n f) ∙ sym (sum_below-add n (λ j. sum_below m (λ i. f i j)) (f m))
+
+-- a sum whose terms are all 0
+none_before : (n : ℕ) (g : ℕ → ℤ) → ((i : ℕ) → i < n → g i ≡ pos 0) → sum_below n g ≡ pos 0
+none_before n g h = sum_below-same n g (λ i. pos 0) h ∙ sum_below-zero n
+
+-- a sum with two neighbouring terms that are not 0
+pub sum_of_two : (n k : ℕ) (g : ℕ → ℤ) → suc k < n → ((i : ℕ) → i < k → g i ≡ pos 0) → ((i : ℕ) → suc k < i → g i ≡ pos 0) → sum_below n g ≡ g k +ℤ g (suc k)
+sum_of_two zero k g h before after = absurd (omega arith)
+sum_of_two (suc n) k g h before after =
+    ⊎_elim
+    (λ (later : suc k < n). omega (arith, ints, sum_of_two n k g later before after, after n later))
+    (λ (here : n ≤ suc k). let e : suc k ≡ n = omega arith in subst (λ z. sum_below (suc z) g ≡ g k +ℤ g (suc k)) e (omega (arith, ints, none_before k g before)))
+    (cases_lt (suc k) n)

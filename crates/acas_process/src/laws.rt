@@ -1,11 +1,11 @@
 //! The laws of the decision process. The functions do nothing: each clause is a law.
-ghost use Rattle.std.specs.Prelude.{◌≡◌, ◌↔◌, ℕ, ◌<◌, ◌≤◌, ◌^◌, ℤ, pos, ◌*ℤ◌, ◌≤ℤ◌, unsigned_abs, List, length, get_or};
+ghost use Rattle.std.specs.Prelude.{◌≡◌, ◌↔◌, ℕ, ◌<◌, ◌≤◌, ◌^◌, ℤ, pos, ◌*ℤ◌, ◌≤ℤ◌, unsigned_abs, IsTrue, List, length, get_or};
 ghost use Rattle.acas_spec.specs.Accepted.{IsAccepted};
 ghost use Rattle.acas_spec.specs.Axis.{IsAxis};
 ghost use Rattle.acas_spec.specs.Model.{ModelData, choices_at};
 ghost use Rattle.acas_spec.specs.declared.parts.Choice.{Choice};
 ghost use Rattle.acas_grid.specs.Axis.{IsBetweenEnds, clamp_to};
-ghost use Rattle.acas_process.specs.Axis.{IsBetween, IsStraight, gap_product, tent};
+ghost use Rattle.acas_process.specs.Axis.{IsStraight, gap_product, is_between, tent};
 ghost use Rattle.acas_process.specs.Bounds.{HasTwoSidedBounds, IsSound, IsTight, Table};
 ghost use Rattle.acas_process.specs.Compiled.{IsOfSize, compiled};
 ghost use Rattle.acas_process.specs.Cost.{IsEntry, cost_of, transition_total, transition_weight};
@@ -33,7 +33,7 @@ pub fn points_stay_inside()
 /// A tent is the hat function of its place, times the gap product: that product at its own vertex, 0 at the other vertices, and on
 /// the straight line between neighbours.
 pub fn tents_are_hat_functions()
-    ensures { (axis : List ℤ) (i k : ℕ) (x : ℤ) → IsAxis axis → IsBetween axis k x → IsStraight axis i k x }
+    ensures { (axis : List ℤ) (i k : ℕ) (x : ℤ) → IsAxis axis → IsTrue (is_between axis k x) → IsStraight axis i k x }
 {}
 
 /// Between the ends of an axis the tents of all places sum to the gap product. The shares of all vertices at a point inside the grid
