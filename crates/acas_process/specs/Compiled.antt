@@ -1,5 +1,5 @@
 -- The table that is compiled: one function of the model, layer by layer.
-use Rattle.std.specs.Prelude.{ℕ, zero, suc, ◌+◌, ◌*◌, ◌≤◌, ℤ, pos, unsigned_abs, List, [], ◌∷◌, cond, int_le}
+use Rattle.std.specs.Prelude.{ℕ, zero, suc, ◌+◌, ◌*◌, ◌≤◌, ℤ, pos, unsigned_abs, List, [], ◌∷◌, if◌then◌else◌, int_le}
 use Rattle.std.specs.Int.{int_min}
 use Rattle.acas_spec.specs.Model.{ModelData, choices_at}
 use Rattle.acas_spec.specs.declared.parts.Choice.{Choice}
@@ -18,7 +18,7 @@ least f (c ∷ d ∷ rest) = int_min (f c.advisory) (least f (d ∷ rest))
 abbrev pub first_least : (ℕ → ℤ) → List Choice → ℕ
 first_least f [] = 0
 first_least f (c ∷ []) = c.advisory
-first_least f (c ∷ d ∷ rest) = cond (int_le (f c.advisory) (least f (d ∷ rest))) c.advisory (first_least f (d ∷ rest))
+first_least f (c ∷ d ∷ rest) = if int_le (f c.advisory) (least f (d ∷ rest)) then c.advisory else first_least f (d ∷ rest)
 
 -- the values with n seconds to go, by the way to round: the cost at the end, and later the least value over the choices
 abbrev pub compiled_values : (ℤ → ℤ → ℤ) → ModelData → ℕ → Values

@@ -1,5 +1,5 @@
 -- What a policy costs: a Markov decision process over the states, exact, with nothing rounded.
-use Rattle.std.specs.Prelude.{ℕ, zero, suc, ◌*◌, ◌^◌, ◌<◌, ◌≤◌, ℤ, pos, ◌+ℤ◌, ◌*ℤ◌, unsigned_abs, List, [], ◌∷◌, map, Contains, cond, nat_eq, nat_le}
+use Rattle.std.specs.Prelude.{ℕ, zero, suc, ◌*◌, ◌^◌, ◌<◌, ◌≤◌, ℤ, pos, ◌+ℤ◌, ◌*ℤ◌, unsigned_abs, List, [], ◌∷◌, map, Contains, if◌then◌else◌, nat_eq, nat_le}
 use Rattle.acas_spec.specs.Model.{ModelData, choices_at, total_weight}
 use Rattle.acas_spec.specs.declared.parts.Choice.{Choice}
 use Rattle.acas_grid.specs.Grid.{IsVertex}
@@ -23,15 +23,15 @@ MayChoose m p a = Contains (advisories_of (choices_at m p)) a
 -- the cost of an advisory in a list of choices
 abbrev pub cost_among : List Choice → ℕ → ℤ
 cost_among [] a = pos 0
-cost_among (c ∷ rest) a = cond (nat_eq c.advisory a) c.cost (cost_among rest a)
+cost_among (c ∷ rest) a = if nat_eq c.advisory a then c.cost else cost_among rest a
 
 -- what a second under the advisory a costs where p is present, in units
 abbrev pub cost_of : ModelData → ℕ → ℕ → ℤ
 cost_of m p a = cost_among (choices_at m p) a
 
--- contact at the end costs, and nothing else does: there the altitude is at most half the puck's height; in units
+-- the cost at the end, in units: contact, where the altitude is at most half the puck's height away, costs, and nothing else does
 abbrev pub terminal_cost : ModelData → Vertex → ℤ
-terminal_cost m x = cond (nat_le (unsigned_abs (vertex_point m.grid x).h) m.half) m.contact (pos 0)
+terminal_cost m x = if nat_le (unsigned_abs (vertex_point m.grid x).h) m.half then m.contact else pos 0
 
 -- a policy says which advisory follows, for each number of seconds to go, present advisory and vertex
 abbrev pub Policy : Type 0

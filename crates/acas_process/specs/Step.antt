@@ -1,5 +1,5 @@
 -- One second of flight, and the vertices round the point that it leads to. Altitudes are in ticks of 1/120 ft, rates in ft/min.
-use Rattle.std.specs.Prelude.{ℕ, ◌*◌, ℤ, pos, neg_ℤ, ◌+ℤ◌, ◌-ℤ◌, ◌*ℤ◌, length, cond, int_lt}
+use Rattle.std.specs.Prelude.{ℕ, ◌*◌, ℤ, pos, neg_ℤ, ◌+ℤ◌, ◌-ℤ◌, ◌*ℤ◌, length, if◌then◌else◌, int_lt}
 use Rattle.std.specs.Int.{int_min}
 use Rattle.acas_spec.specs.Axis.{place_value}
 use Rattle.acas_spec.specs.Model.{GridData, ModelData, advisory_at, point_at, weight_of}
@@ -13,11 +13,11 @@ use Rattle.acas_grid.specs.declared.place.Vertex.{Vertex}
 abbrev pub vertex_point : GridData → Vertex → Point
 vertex_point g y = record { h = place_value g.h y.i; v0 = place_value g.v0 y.j; v1 = place_value g.v1 y.k }
 
--- how the pilot changes the own rate v within a second, by at most the pull, under an advisory that asks for a rate from lo to hi
+-- how much the pilot changes the own rate v within a second, by at most the pull, where an advisory asks for a rate from lo to hi
 abbrev pub command : ℤ → ℤ → ℤ → ℤ → ℤ
-command lo hi pull v = cond (int_lt v lo) (int_min pull (lo -ℤ v)) (cond (int_lt hi v) (neg_ℤ (int_min pull (v -ℤ hi))) (pos 0))
+command lo hi pull v = if int_lt v lo then int_min pull (lo -ℤ v) else if int_lt hi v then neg_ℤ (int_min pull (v -ℤ hi)) else pos 0
 
--- one second of flight in which the own rate and the intruder's change by so much, evenly
+-- one second of flight in which the own rate and the intruder's rate change evenly by so much
 abbrev pub after_second : Point → ℤ → ℤ → Point
 after_second s own intruder = record { h = s.h +ℤ pos 2 *ℤ (s.v1 -ℤ s.v0) +ℤ intruder -ℤ own; v0 = s.v0 +ℤ own; v1 = s.v1 +ℤ intruder }
 
