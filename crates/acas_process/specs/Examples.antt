@@ -26,9 +26,9 @@ clear = record { name = 99 ∷ 108 ∷ 101 ∷ 97 ∷ 114 ∷ []; lo = negsuc 99
 abbrev pub level : ℤ → ℤ → Advisory
 level lo hi = record { name = 108 ∷ 101 ∷ 118 ∷ 101 ∷ 108 ∷ []; lo = lo; hi = hi }
 
--- noise on the intruder's rate alone, of weight 1
-abbrev pub intruder_noise : ℤ → SigmaPoint
-intruder_noise rate = record { weight = pos 1; own = pos 0; intruder = rate }
+-- a sigma point of this weight changes the own rate and the intruder's by so much
+abbrev pub sigma : ℤ → ℤ → ℤ → SigmaPoint
+sigma weight own intruder = record { weight = weight; own = own; intruder = intruder }
 
 -- Two altitudes, 0 and a top in ticks, and the rates 0 and 600 ft/min. A pilot changes the rate by 480 ft/min in a second.
 abbrev pub two_altitudes : ℤ → ℕ → ℤ → Advisory → List (List Choice) → List SigmaPoint → ModelData
@@ -47,12 +47,13 @@ two_altitudes top horizon contact second choices points = record {
   contact = contact;
 }
 
-abbrev pub no_noise : SigmaPoint
-no_noise = intruder_noise (pos 0)
+-- one sigma point that changes nothing
+abbrev pub no_noise : List SigmaPoint
+no_noise = sigma (pos 1) (pos 0) (pos 0) ∷ []
 
--- none, 600 ft/min up and 600 ft/min down
+-- three of equal weight: the intruder's rate stays, rises by 600 ft/min or falls by 600 ft/min
 abbrev pub three_noises : List SigmaPoint
-three_noises = no_noise ∷ intruder_noise (pos 600) ∷ intruder_noise (negsuc 599) ∷ []
+three_noises = sigma (pos 1) (pos 0) (pos 0) ∷ sigma (pos 1) (pos 0) (pos 600) ∷ sigma (pos 1) (pos 0) (negsuc 599) ∷ []
 
 -- only clear may be chosen, at no cost; contact costs 1
 abbrev pub noisy : ModelData
@@ -64,7 +65,16 @@ tied = two_altitudes (pos 3600) 2 (pos 1) (level (negsuc 9999) (pos 10000)) ((ch
 
 -- without noise; a second under clear costs 1 and contact 7
 abbrev pub calm : ModelData
-calm = two_altitudes (pos 1200) 1 (pos 7) (level (negsuc 499) (pos 500)) ((choice 0 (pos 1) ∷ []) ∷ (choice 0 (pos 1) ∷ []) ∷ []) (no_noise ∷ [])
+calm = two_altitudes (pos 1200) 1 (pos 7) (level (negsuc 499) (pos 500)) ((choice 0 (pos 1) ∷ []) ∷ (choice 0 (pos 1) ∷ []) ∷ []) no_noise
+
+-- without noise; under clear only level may be chosen, at the cost 3, and under level only clear, at the cost 5
+abbrev pub switching : ModelData
+switching = two_altitudes (pos 1200) 2 (pos 7) (level (negsuc 499) (pos 500)) ((choice 1 (pos 3) ∷ []) ∷ (choice 0 (pos 5) ∷ []) ∷ []) no_noise
+
+-- two sigma points of the weights 1 and 3, of which the second moves the two rates apart; only clear may be chosen, and contact costs 1
+abbrev pub gusty : ModelData
+gusty = two_altitudes (pos 3600) 1 (pos 1) (level (negsuc 499) (pos 500)) ((choice 0 (pos 0) ∷ []) ∷ (choice 0 (pos 0) ∷ []) ∷ [])
+    (sigma (pos 1) (pos 0) (pos 0) ∷ sigma (pos 3) (pos 60) (negsuc 59) ∷ [])
 
 -- the vertices of two altitudes and two times two rates, by number
 abbrev pub eight_vertices : List Vertex
@@ -98,7 +108,7 @@ four_advisories =
           ∷ level (negsuc 499) (pos 500)
           ∷ [];
       choices = all ∷ all ∷ all ∷ all ∷ [];
-      points = no_noise ∷ [];
+      points = no_noise;
       pull = 480;
       limit = 960;
       delay = 0;

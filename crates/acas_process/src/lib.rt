@@ -6,8 +6,8 @@ mod examples;
 mod laws;
 
 pub use examples::{
-    a_second_leads_a_third_up, entries_are_worked_out, examples_are_accepted,
-    noisy_costs_are_exact, noisy_values_are_rounded_twice,
+    a_second_leads_a_third_up, commands_are_worked_out, entries_are_worked_out,
+    examples_are_accepted, noisy_costs_are_exact, noisy_values_are_rounded_twice,
 };
 pub use laws::{
     choices_have_their_cost, compiled_tables_are_sound_and_tight, compiled_values_fit,

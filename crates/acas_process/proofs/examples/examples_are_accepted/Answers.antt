@@ -2,7 +2,7 @@ use Rattle.std.proofs.Common.{ℕ, ◌<◌, ◌≤◌, ℤ, pos, negsuc, unsigne
 use Rattle.std.proofs.lemmas.Int.{ints}
 use Rattle.acas_spec.specs.Accepted.{IsAdvisory, IsChoice, IsChoiceList, IsPoint, IsGrid}
 use Rattle.acas_spec.specs.Axis.{IsAxis}
-use Rattle.acas_process.specs.Examples.{clear, choice, intruder_noise, level, noisy, four_advisories}
+use Rattle.acas_process.specs.Examples.{clear, choice, sigma, level, noisy, four_advisories}
 use Rattle.acas_process.proofs.Accepting.{all_at, differ, distinct_of, rises_of, within_of}
 use Rattle.acas_process.proofs.examples.examples_are_accepted.Goals as goal
 
@@ -36,7 +36,7 @@ clear_alone = record {
   distinct = distinct_of (0 ∷ []) 0 (tt, tt);
 }
 
-is_noise : (rate : ℤ) → unsigned_abs rate ≤ 5000 → IsPoint (intruder_noise rate)
+is_noise : (rate : ℤ) → unsigned_abs rate ≤ 5000 → IsPoint (sigma (pos 1) (pos 0) rate)
 is_noise rate h = record { light = omega (arith, ints); heavy = omega (arith, ints); own = omega arith; intruder = h }
 
 pub returns-clause-noisy : goal.returns-clause-noisy
