@@ -10,3 +10,6 @@ pub use axis::{Axis, AxisFault};
 pub use grid::Grid;
 pub use laws::numbers_are_one_to_one;
 pub use place::{Point, Vertex};
+
+#[cfg(test)]
+mod tests;

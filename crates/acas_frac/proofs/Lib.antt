@@ -1,0 +1,3 @@
+pub mod SignedProducts
+pub mod RoundingLaws
+pub mod Lowest

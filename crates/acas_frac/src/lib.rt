@@ -1,0 +1,13 @@
+//! Exact fractions, and quotients rounded to whole numbers.
+#![tactic(auto)]
+
+mod frac;
+mod laws;
+mod print;
+mod products;
+mod rounding;
+
+pub use frac::Frac;
+pub use laws::quotients_are_rounded;
+pub use print::print_frac;
+pub use rounding::{Down, Rounding, Up};
