@@ -1,6 +1,6 @@
 -- What holds of the items of a list that is written out holds of its places.
-use Rattle.std.proofs.Common.{◌≡◌, ◌≢◌, ℕ, zero, suc, ◌+◌, ◌<◌, ◌≤◌, ℤ, pos, ◌<ℤ◌, unsigned_abs, List, [], ◌∷◌, length, get_or, arith, ap, subst}
 use Rattle.std.specs.List.{AllByRecursion}
+use Rattle.std.proofs.Common.{◌≡◌, ◌≢◌, ℕ, zero, suc, ◌+◌, ◌<◌, ◌≤◌, ℤ, pos, ◌<ℤ◌, unsigned_abs, List, [], ◌∷◌, length, get_or, arith, ap, subst}
 use Rattle.acas_spec.specs.Accepted.{AreDistinct}
 use Rattle.acas_spec.specs.Axis.{IsWithin, Rises, place_value}
 

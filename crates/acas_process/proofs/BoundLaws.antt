@@ -2,14 +2,14 @@
 use Rattle.std.proofs.Common.{◌≡◌, ℕ, zero, suc, ◌^◌, ◌<◌, ℤ, pos, ◌+ℤ◌, ◌*ℤ◌, ◌≤ℤ◌, ap, sym, subst, ◌∙◌, arith}
 use Rattle.std.proofs.lemmas.Int.{ints}
 use Rattle.std.proofs.Math.Nat.{pow-suc, pow-zero}
-use Rattle.acas_process.specs.Rounding.{down, up}
 use Rattle.acas_spec.specs.Accepted.{IsAccepted}
 use Rattle.acas_spec.specs.Model.{ModelData}
-use Rattle.acas_grid.specs.declared.place.Vertex.{Vertex}
 use Rattle.acas_grid.specs.Grid.{IsVertex}
+use Rattle.acas_grid.specs.declared.place.Vertex.{Vertex}
+use Rattle.acas_frac.specs.Rounding.{down, up}
+use Rattle.acas_frac.proofs.SignedProducts.{mul-add_ℤ, mul_assoc_ℤ, mul_comm_ℤ, mul-le_ℤ}
 use Rattle.acas_process.specs.Cost.{IsEntry, MayChoose, Policy, IsPolicy, cost_of, transition_total, terminal_cost, expected_cost}
 use Rattle.acas_process.specs.Bounds.{Table, mean_value, HasTwoSidedBounds, IsSound}
-use Rattle.acas_process.proofs.IntLaws.{mul-add_ℤ, mul_assoc_ℤ, mul_comm_ℤ, mul-le_ℤ}
 use Rattle.acas_process.proofs.AcceptedLaws.{is_chosen}
 use Rattle.acas_process.proofs.MeanLaws.{spread, spread-le, spread-mul, transitions_spread, spread-le-mean, mean-le-spread}
 

@@ -2,15 +2,15 @@
 use Rattle.std.proofs.Common.{◌≡◌, ℕ, suc, ◌+◌, ◌*◌, ◌<◌, ◌≤◌, ℤ, pos, ◌+ℤ◌, ◌*ℤ◌, List, length, get_or, Bool, true, false, cond, nat_eq, refl, ap, sym, subst, ◌∙◌, arith, ⊎_elim}
 use Rattle.std.proofs.lemmas.Int.{ints}
 use Rattle.std.proofs.lemmas.Bool.{cases_lt}
-use Rattle.acas_grid.specs.Axis.{IsCell}
-use Rattle.acas_process.specs.Sums.{sum_below}
 use Rattle.acas_spec.specs.Axis.{IsAxis}
 use Rattle.acas_spec.specs.Model.{GridData}
-use Rattle.acas_process.specs.Axis.{IsStraight, distance, gap_product, tent}
+use Rattle.acas_grid.specs.Axis.{IsCell}
 use Rattle.acas_grid.specs.declared.place.Vertex.{Vertex}
-use Rattle.acas_process.specs.Step.{share, over_vertices}
 use Rattle.acas_grid.specs.declared.place.Point.{Point}
-use Rattle.acas_process.proofs.IntLaws.{mul-add_ℤ, mul_assoc_ℤ, mul_comm_ℤ}
+use Rattle.acas_frac.proofs.SignedProducts.{mul-add_ℤ, mul_assoc_ℤ, mul_comm_ℤ}
+use Rattle.acas_process.specs.Sums.{sum_below}
+use Rattle.acas_process.specs.Axis.{IsStraight, distance, gap_product, tent}
+use Rattle.acas_process.specs.Step.{share, over_vertices}
 use Rattle.acas_process.proofs.SumLaws.{sum_below-same, sum_below-mul, sum_of_two}
 use Rattle.acas_process.proofs.AxisLaws.{IsBetween, HasCell, others, has_cell}
 

@@ -1,12 +1,12 @@
 -- The least value over the choices from a place on, for a loop that goes down.
 use Rattle.std.proofs.Common.{◌≡◌, ℕ, zero, suc, ◌+◌, ◌<◌, ◌≤◌, unsigned_abs, ℤ, ◌≤ℤ◌, ◌<ℤ◌, List, [], ◌∷◌, length, get_or, drop, true, false, int_le, refl, ap, subst, ◌∙◌, arith}
 use Rattle.std.proofs.lemmas.Int.{ints, clamps}
-use Rattle.acas_process.specs.Compiled.{least, first_least}
 use Rattle.acas_spec.specs.Accepted.{IsAccepted}
 use Rattle.acas_spec.specs.Model.{ModelData, choices_at}
+use Rattle.acas_spec.specs.declared.parts.Choice.{Choice}
+use Rattle.acas_process.specs.Compiled.{least, first_least}
 use Rattle.acas_process.specs.Cost.{cost_of}
 use Rattle.acas_process.proofs.AcceptedLaws.{cost_is_own, is_chosen, listed}
-use Rattle.acas_spec.specs.declared.parts.Choice.{Choice}
 
 -- the best of the choices from place i on
 pub record IsBestFrom (f : ℕ → ℤ) (cs : List Choice) (i : ℕ) (value : ℤ) (advisory : ℕ) : Type 0 where

@@ -1,12 +1,12 @@
 -- The compiled table is sound, and its two values are close.
 use Rattle.std.proofs.Common.{◌≡◌, ℕ, zero, suc, ◌*◌, ◌<◌, ℤ, pos, ◌+ℤ◌, ◌≤ℤ◌, ◌<ℤ◌, List, [], ◌∷◌, length, get_or, true, false, int_le, Contains, refl, subst, ◌∙◌, arith}
 use Rattle.std.proofs.lemmas.Int.{ints, clamps, by_lt_z}
-use Rattle.acas_process.specs.Rounding.{down, up}
 use Rattle.acas_spec.specs.Accepted.{IsAccepted}
 use Rattle.acas_spec.specs.Model.{ModelData, choices_at}
 use Rattle.acas_spec.specs.declared.parts.Choice.{Choice}
-use Rattle.acas_process.specs.Cost.{advisories_of}
 use Rattle.acas_grid.specs.declared.place.Vertex.{Vertex}
+use Rattle.acas_frac.specs.Rounding.{down, up}
+use Rattle.acas_process.specs.Cost.{advisories_of}
 use Rattle.acas_process.specs.Bounds.{choice_value, IsSoundEntry, IsSound, IsTight}
 use Rattle.acas_process.specs.Compiled.{least, first_least, compiled_values, compiled_advice, compiled}
 use Rattle.acas_process.proofs.AcceptedLaws.{is_chosen}

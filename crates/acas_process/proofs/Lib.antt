@@ -1,5 +1,3 @@
-pub mod IntLaws
-pub mod RoundingLaws
 pub mod SumLaws
 pub mod AcceptedLaws
 pub mod AxisLaws

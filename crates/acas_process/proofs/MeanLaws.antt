@@ -2,18 +2,18 @@
 use Rattle.std.proofs.Common.{◌≡◌, ℕ, ◌+◌, ◌*◌, ◌<◌, ℤ, pos, ◌+ℤ◌, ◌*ℤ◌, ◌≤ℤ◌, length, ap, sym, subst, ◌∙◌, arith}
 use Rattle.std.proofs.lemmas.Int.{ints}
 use Rattle.std.proofs.Math.Nat.{mul-pos}
-use Rattle.acas_process.specs.Sums.{sum_below}
-use Rattle.acas_process.specs.Rounding.{down, up}
 use Rattle.acas_spec.specs.Accepted.{IsAccepted, IsGrid}
 use Rattle.acas_spec.specs.Model.{GridData, ModelData, total_weight}
-use Rattle.acas_grid.specs.declared.place.Vertex.{Vertex}
 use Rattle.acas_grid.specs.Grid.{IsVertex}
-use Rattle.acas_process.specs.Step.{grid_product, moved, share, over_vertices, over_points, point_weight}
+use Rattle.acas_grid.specs.declared.place.Vertex.{Vertex}
 use Rattle.acas_grid.specs.declared.place.Point.{Point}
+use Rattle.acas_frac.specs.Rounding.{down, up}
+use Rattle.acas_frac.proofs.SignedProducts.{mul-add_ℤ, mul_assoc_ℤ, mul_comm_ℤ, mul-le_ℤ}
+use Rattle.acas_frac.proofs.RoundingLaws.{down_is_floor, up_is_ceiling, up-le-down}
+use Rattle.acas_process.specs.Sums.{sum_below}
+use Rattle.acas_process.specs.Step.{grid_product, moved, share, over_vertices, over_points, point_weight}
 use Rattle.acas_process.specs.Cost.{transition_weight, transition_total}
 use Rattle.acas_process.specs.Bounds.{Values, mean_value}
-use Rattle.acas_process.proofs.IntLaws.{mul-add_ℤ, mul_assoc_ℤ, mul_comm_ℤ, mul-le_ℤ}
-use Rattle.acas_process.proofs.RoundingLaws.{down_is_floor, up_is_ceiling, up-le-down}
 use Rattle.acas_process.proofs.SumLaws.{sum_below-same, sum_below-le, sum_below-mul, sum_below-add}
 use Rattle.acas_process.proofs.VertexLaws.{over_vertices-le, over_vertices-same, over_vertices-mul, over_vertices-add, over_vertices-swap, moved_shares_sum, weights_sum}
 use Rattle.acas_process.proofs.AxisLaws.{gap_product_pos}

@@ -1,15 +1,15 @@
 -- Layers that are equal at the vertices give equal values and advices above them.
-use Rattle.std.proofs.Common.{◌≡◌, ℕ, suc, ◌<◌, ℤ, pos, ◌+ℤ◌, ◌*ℤ◌, List, [], ◌∷◌, length, Contains, cond, int_le, refl, ap, ◌∙◌}
 use Rattle.std.specs.Int.{int_min}
+use Rattle.std.proofs.Common.{◌≡◌, ℕ, suc, ◌<◌, ℤ, pos, ◌+ℤ◌, ◌*ℤ◌, List, [], ◌∷◌, length, Contains, cond, int_le, refl, ap, ◌∙◌}
 use Rattle.acas_spec.specs.Accepted.{IsAccepted}
 use Rattle.acas_spec.specs.Model.{ModelData, choices_at, total_weight}
-use Rattle.acas_process.specs.Cost.{advisories_of, cost_of}
+use Rattle.acas_spec.specs.declared.parts.Choice.{Choice}
 use Rattle.acas_grid.specs.Grid.{IsVertex}
+use Rattle.acas_grid.specs.declared.place.Vertex.{Vertex}
+use Rattle.acas_process.specs.Cost.{advisories_of, cost_of}
 use Rattle.acas_process.specs.Step.{grid_product, moved, point_weight, share}
 use Rattle.acas_process.specs.Bounds.{Values, choice_value, mean_value}
 use Rattle.acas_process.specs.Compiled.{compiled_values, first_least, least}
-use Rattle.acas_spec.specs.declared.parts.Choice.{Choice}
-use Rattle.acas_grid.specs.declared.place.Vertex.{Vertex}
 use Rattle.acas_process.proofs.SumLaws.{sum_below-same}
 use Rattle.acas_process.proofs.VertexLaws.{over_vertices-same}
 use Rattle.acas_process.proofs.CompiledLaws.{Contains-cons, Contains-first}

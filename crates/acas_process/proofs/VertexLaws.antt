@@ -1,15 +1,15 @@
 -- Sums over the vertices of a grid and over the sigma points.
 use Rattle.std.proofs.Common.{◌≡◌, ℕ, zero, suc, ◌*◌, ℤ, pos, ◌+ℤ◌, ◌*ℤ◌, ◌≤ℤ◌, List, [], ◌∷◌, length, get_or, sum_by, refl, ap, sym, ◌∙◌, arith}
 use Rattle.std.proofs.lemmas.List.Sums.{sum_by-cons}
-use Rattle.acas_process.specs.Sums.{sum_below}
 use Rattle.acas_spec.specs.Accepted.{IsGrid}
 use Rattle.acas_spec.specs.Model.{GridData, ModelData, total_weight, weight_of}
 use Rattle.acas_spec.specs.declared.parts.SigmaPoint.{SigmaPoint}
-use Rattle.acas_process.specs.Axis.{gap_product, tent}
-use Rattle.acas_grid.specs.declared.place.Vertex.{Vertex}
 use Rattle.acas_grid.specs.Grid.{IsInside, IsVertex, clamp_point}
-use Rattle.acas_process.specs.Step.{grid_product, moved, over_points, over_vertices, point_weight, share}
+use Rattle.acas_grid.specs.declared.place.Vertex.{Vertex}
 use Rattle.acas_grid.specs.declared.place.Point.{Point}
+use Rattle.acas_process.specs.Sums.{sum_below}
+use Rattle.acas_process.specs.Axis.{gap_product, tent}
+use Rattle.acas_process.specs.Step.{grid_product, moved, over_points, over_vertices, point_weight, share}
 use Rattle.acas_process.proofs.SumLaws.{sum_below-same, sum_below-le, sum_below-mul, sum_below-add, sum_below-zero, sum_below-first}
 use Rattle.acas_process.proofs.AxisLaws.{axis_tents_sum, clamped_between}
 

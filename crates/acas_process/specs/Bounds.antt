@@ -1,11 +1,11 @@
 -- A table of upper and lower values in millionths of a unit, and what it promises.
 use Rattle.std.specs.Prelude.{ℕ, zero, suc, ◌*◌, ◌^◌, ℤ, pos, ◌+ℤ◌, ◌*ℤ◌, ◌≤ℤ◌}
 use Rattle.acas_spec.specs.Model.{ModelData, total_weight}
-use Rattle.acas_process.specs.Rounding.{down, up}
-use Rattle.acas_process.specs.Step.{moved, grid_product, share, over_vertices, over_points, point_weight}
-use Rattle.acas_process.specs.Cost.{IsEntry, MayChoose, Policy, IsPolicy, cost_of, terminal_cost, transition_total, expected_cost}
 use Rattle.acas_grid.specs.declared.place.Point.{Point}
 use Rattle.acas_grid.specs.declared.place.Vertex.{Vertex}
+use Rattle.acas_frac.specs.Rounding.{down, up}
+use Rattle.acas_process.specs.Step.{moved, grid_product, share, over_vertices, over_points, point_weight}
+use Rattle.acas_process.specs.Cost.{IsEntry, MayChoose, Policy, IsPolicy, cost_of, terminal_cost, transition_total, expected_cost}
 
 -- a value for each present advisory and vertex
 abbrev pub Values : Type 0

@@ -3,10 +3,10 @@ use Rattle.std.specs.Prelude.{ℕ, zero, suc, ◌+◌, ◌*◌, ◌≤◌, ℤ, 
 use Rattle.std.specs.Int.{int_min}
 use Rattle.acas_spec.specs.Model.{ModelData, choices_at}
 use Rattle.acas_spec.specs.declared.parts.Choice.{Choice}
-use Rattle.acas_process.specs.Rounding.{down, up}
+use Rattle.acas_grid.specs.declared.place.Vertex.{Vertex}
+use Rattle.acas_frac.specs.Rounding.{down, up}
 use Rattle.acas_process.specs.Cost.{Policy, terminal_cost}
 use Rattle.acas_process.specs.Bounds.{Values, Table, millionths, choice_value, upper_value}
-use Rattle.acas_grid.specs.declared.place.Vertex.{Vertex}
 
 -- the least value over the choices of a list, which is not empty
 abbrev pub least : (ℕ → ℤ) → List Choice → ℤ

@@ -3,8 +3,8 @@ use Rattle.std.specs.Prelude.{ℕ, zero, suc, ◌*◌, ◌^◌, ◌<◌, ◌≤�
 use Rattle.acas_spec.specs.Model.{ModelData, choices_at, total_weight}
 use Rattle.acas_spec.specs.declared.parts.Choice.{Choice}
 use Rattle.acas_grid.specs.Grid.{IsVertex}
-use Rattle.acas_process.specs.Step.{vertex_point, moved, grid_product, share, over_vertices, over_points, point_weight}
 use Rattle.acas_grid.specs.declared.place.Vertex.{Vertex}
+use Rattle.acas_process.specs.Step.{vertex_point, moved, grid_product, share, over_vertices, over_points, point_weight}
 
 -- an entry of a table has n seconds to go, up to the horizon, a present advisory p and a vertex x
 pub record IsEntry (m : ModelData) (n p : ℕ) (x : Vertex) : Type 0 where

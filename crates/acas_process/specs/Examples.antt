@@ -4,11 +4,11 @@ use Rattle.acas_spec.specs.Model.{ModelData}
 use Rattle.acas_spec.specs.declared.parts.Advisory.{Advisory}
 use Rattle.acas_spec.specs.declared.parts.Choice.{Choice}
 use Rattle.acas_spec.specs.declared.parts.SigmaPoint.{SigmaPoint}
+use Rattle.acas_grid.specs.declared.place.Point.{Point}
+use Rattle.acas_grid.specs.declared.place.Vertex.{Vertex}
 use Rattle.acas_process.specs.Step.{moved, share}
 use Rattle.acas_process.specs.Bounds.{interpolated}
 use Rattle.acas_process.specs.Compiled.{compiled, compiled_values}
-use Rattle.acas_grid.specs.declared.place.Point.{Point}
-use Rattle.acas_grid.specs.declared.place.Vertex.{Vertex}
 
 abbrev pub vertex : ℕ → ℕ → ℕ → Vertex
 vertex i j k = record { i = i; j = j; k = k }

@@ -1,5 +1,4 @@
 pub mod Sums
-pub mod Rounding
 pub mod Axis
 pub mod Step
 pub mod Cost

@@ -4,10 +4,10 @@ use Rattle.std.specs.Int.{int_min}
 use Rattle.acas_spec.specs.Axis.{place_value}
 use Rattle.acas_spec.specs.Model.{GridData, ModelData, advisory_at, point_at, weight_of}
 use Rattle.acas_grid.specs.Grid.{clamp_point}
-use Rattle.acas_process.specs.Sums.{sum_below}
-use Rattle.acas_process.specs.Axis.{gap_product, tent}
 use Rattle.acas_grid.specs.declared.place.Point.{Point}
 use Rattle.acas_grid.specs.declared.place.Vertex.{Vertex}
+use Rattle.acas_process.specs.Sums.{sum_below}
+use Rattle.acas_process.specs.Axis.{gap_product, tent}
 
 -- the relative altitude and the two rates at a vertex
 abbrev pub vertex_point : GridData → Vertex → Point

@@ -1,10 +1,10 @@
 //! The definitions at small models, by numbers that were worked out by hand.
 ghost use Rattle.std.specs.Prelude.{◌≡◌, ℤ, pos, [], ◌∷◌};
 ghost use Rattle.acas_spec.specs.Accepted.{IsAccepted};
+ghost use Rattle.acas_frac.specs.Rounding.{down, up};
 ghost use Rattle.acas_process.specs.Compiled.{compiled};
 ghost use Rattle.acas_process.specs.Cost.{expected_cost, transition_total};
 ghost use Rattle.acas_process.specs.Examples.{HasEntry, calm, four_advisories, gusty, noisy, point, row, shares, switching, tied, vertex};
-ghost use Rattle.acas_process.specs.Rounding.{down, up};
 ghost use Rattle.acas_process.specs.Step.{moved};
 
 /// At 0 ft with the intruder climbing at 600 ft/min, a second leads 10 ft up, a third of the way to the top at 30 ft: the vertex
@@ -52,6 +52,7 @@ pub fn noisy_costs_are_exact()
 /// and no other advisory is worth its cost.
 pub fn entries_are_worked_out()
     ensures tied { HasEntry tied 2 0 (vertex 0 0 1) (pos 524_692) (pos 524_690) 1 }
+    ensures at_the_end { HasEntry noisy 0 0 (vertex 0 0 0) (pos 1_000_000) (pos 1_000_000) 255 }
     ensures contact { HasEntry calm 1 0 (vertex 0 0 0) (pos 8_000_000) (pos 8_000_000) 0 }
     ensures no_contact { HasEntry calm 1 0 (vertex 0 0 1) (pos 1_000_000) (pos 1_000_000) 0 }
     ensures past_bottom { HasEntry noisy 1 0 (vertex 0 1 0) (pos 1_000_000) (pos 1_000_000) 0 }

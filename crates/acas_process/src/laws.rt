@@ -1,26 +1,19 @@
 //! The laws of the decision process. The functions do nothing: each clause is a law.
-ghost use Rattle.std.specs.Prelude.{◌≡◌, ◌↔◌, ℕ, ◌<◌, ◌≤◌, ◌^◌, ℤ, pos, ◌*ℤ◌, ◌≤ℤ◌, unsigned_abs, IsTrue, List, length, get_or};
+ghost use Rattle.std.specs.Prelude.{◌≡◌, ℕ, ◌<◌, ◌≤◌, ◌^◌, ℤ, pos, unsigned_abs, IsTrue, List, length, get_or};
 ghost use Rattle.acas_spec.specs.Accepted.{IsAccepted};
 ghost use Rattle.acas_spec.specs.Axis.{IsAxis};
 ghost use Rattle.acas_spec.specs.Model.{ModelData, choices_at};
 ghost use Rattle.acas_spec.specs.declared.parts.Choice.{Choice};
 ghost use Rattle.acas_grid.specs.Axis.{IsBetweenEnds, clamp_to};
+ghost use Rattle.acas_grid.specs.Grid.{IsInside};
+ghost use Rattle.acas_grid.specs.declared.place.Point.{Point};
+ghost use Rattle.acas_grid.specs.declared.place.Vertex.{Vertex};
 ghost use Rattle.acas_process.specs.Axis.{IsStraight, gap_product, is_between, tent};
 ghost use Rattle.acas_process.specs.Bounds.{HasTwoSidedBounds, IsSound, IsTight, Table};
 ghost use Rattle.acas_process.specs.Compiled.{IsOfSize, compiled};
 ghost use Rattle.acas_process.specs.Cost.{IsEntry, cost_of, transition_total, transition_weight};
-ghost use Rattle.acas_process.specs.Rounding.{down, up};
-ghost use Rattle.acas_grid.specs.Grid.{IsInside};
 ghost use Rattle.acas_process.specs.Step.{grid_product, moved, over_vertices, share};
 ghost use Rattle.acas_process.specs.Sums.{sum_below};
-ghost use Rattle.acas_grid.specs.declared.place.Point.{Point};
-ghost use Rattle.acas_grid.specs.declared.place.Vertex.{Vertex};
-
-/// Rounding down gives the greatest whole number that is not above the quotient, rounding up the least that is not below it.
-pub fn quotients_are_rounded()
-    ensures down { (a m : ℤ) (c : ℕ) → 0 < c → ((pos c *ℤ m) ≤ℤ a) ↔ (m ≤ℤ down a (pos c)) }
-    ensures up { (a m : ℤ) (c : ℕ) → 0 < c → (a ≤ℤ (pos c *ℤ m)) ↔ (up a (pos c) ≤ℤ m) }
-{}
 
 /// A clamped number is between the ends of its axis, and a number between them stays as it is. So each point that a second leads
 /// to is inside the grid.

@@ -11,6 +11,6 @@ pub use examples::{
 };
 pub use laws::{
     choices_have_their_cost, compiled_tables_are_sound_and_tight, compiled_values_fit,
-    points_stay_inside, quotients_are_rounded, sound_tables_have_two_sided_bounds,
-    tents_are_hat_functions, weights_sum_to_the_total,
+    points_stay_inside, sound_tables_have_two_sided_bounds, tents_are_hat_functions,
+    weights_sum_to_the_total,
 };
