@@ -1,11 +1,12 @@
 -- The least value over the choices from a place on, for a loop that goes down.
-use Rattle.std.proofs.Common.{◌≡◌, ℕ, zero, suc, ◌+◌, ◌<◌, ◌≤◌, unsigned_abs, ℤ, ◌≤ℤ◌, ◌<ℤ◌, List, [], ◌∷◌, length, get_or, drop, true, false, int_le, refl, ap, subst, ◌∙◌, arith}
+use Rattle.std.proofs.Common.{◌≡◌, ℕ, zero, suc, ◌+◌, ◌<◌, ◌≤◌, unsigned_abs, ℤ, ◌≤ℤ◌, ◌<ℤ◌, List, [], ◌∷◌, length, get_or, drop, refl, ap, subst, ◌∙◌, arith}
 use Rattle.std.proofs.lemmas.Int.{ints, clamps}
 use Rattle.acas_spec.specs.Accepted.{IsAccepted}
 use Rattle.acas_spec.specs.Model.{ModelData, choices_at}
 use Rattle.acas_spec.specs.declared.parts.Choice.{Choice}
 use Rattle.acas_process.specs.Compiled.{least, first_least}
 use Rattle.acas_process.specs.Cost.{cost_of}
+use Rattle.acas_process.proofs.CompiledLaws.{le-true, le-false}
 use Rattle.acas_process.proofs.AcceptedLaws.{cost_is_own, is_chosen, listed}
 
 -- the best of the choices from place i on
@@ -19,19 +20,13 @@ best_of_last f (c ∷ []) zero d h = record { least = refl; first = refl }
 best_of_last f (c ∷ e ∷ rest) zero d h = absurd (omega arith)
 best_of_last f (c ∷ rest) (suc i) d h = let b = best_of_last f rest i d (omega arith) in record { least = b.least; first = b.first }
 
-test-true : (x y : ℤ) → x ≤ℤ y → int_le x y ≡ true
-test-true x y h = grind (arith, ints)
-
-test-false : (x y : ℤ) → y <ℤ x → int_le x y ≡ false
-test-false x y h = grind (arith, ints)
-
 -- one choice more, which is as good
 pub best_takes : (f : ℕ → ℤ) (cs : List Choice) (i : ℕ) (d : Choice) (value : ℤ) (advisory : ℕ) → suc i < length cs → IsBestFrom f cs (suc i) value advisory → f (get_or cs i d).advisory ≤ℤ value → IsBestFrom f cs i (f (get_or cs i d).advisory) (get_or cs i d).advisory
 best_takes f [] i d value advisory h b k = absurd (omega arith)
 best_takes f (c ∷ []) i d value advisory h b k = absurd (omega arith)
 best_takes f (c ∷ e ∷ rest) zero d value advisory h b k =
     let l : f c.advisory ≤ℤ least f (e ∷ rest) = omega (arith, ints, b.least) in
-    record { least = omega (arith, ints, clamps); first = rw (test-true (f c.advisory) (least f (e ∷ rest)) l) refl }
+    record { least = omega (arith, ints, clamps); first = rw (le-true (f c.advisory) (least f (e ∷ rest)) l) refl }
 best_takes f (c ∷ e ∷ rest) (suc i) d value advisory h b k =
     let r = best_takes f (e ∷ rest) i d value advisory (omega arith) (record { least = b.least; first = b.first }) k in record { least = r.least; first = r.first }
 
@@ -41,7 +36,7 @@ best_keeps f [] i d value advisory h b k = absurd (omega arith)
 best_keeps f (c ∷ []) i d value advisory h b k = absurd (omega arith)
 best_keeps f (c ∷ e ∷ rest) zero d value advisory h b k =
     let l : least f (e ∷ rest) <ℤ f c.advisory = omega (arith, ints, b.least) in
-    record { least = omega (arith, ints, clamps, b.least); first = rw (test-false (f c.advisory) (least f (e ∷ rest)) l) b.first }
+    record { least = omega (arith, ints, clamps, b.least); first = rw (le-false (f c.advisory) (least f (e ∷ rest)) l) b.first }
 best_keeps f (c ∷ e ∷ rest) (suc i) d value advisory h b k =
     let r = best_keeps f (e ∷ rest) i d value advisory (omega arith) (record { least = b.least; first = b.first }) k in record { least = r.least; first = r.first }
 

@@ -12,10 +12,10 @@ use Rattle.acas_process.specs.Compiled.{least, first_least, compiled_values, com
 use Rattle.acas_process.proofs.AcceptedLaws.{is_chosen}
 use Rattle.acas_process.proofs.MeanLaws.{mean-le-mean}
 
-le-true : (x y : ℤ) → x ≤ℤ y → int_le x y ≡ true
+pub le-true : (x y : ℤ) → x ≤ℤ y → int_le x y ≡ true
 le-true x y h = grind (arith, ints)
 
-le-false : (x y : ℤ) → y <ℤ x → int_le x y ≡ false
+pub le-false : (x y : ℤ) → y <ℤ x → int_le x y ≡ false
 le-false x y h = grind (arith, ints)
 
 least_at : (f : ℕ → ℤ) (cs : List Choice) (k d : ℕ) → k < length (advisories_of cs) → least f cs ≤ℤ f (get_or (advisories_of cs) k d)
@@ -25,7 +25,8 @@ least_at f (c ∷ []) (suc k) d h = absurd (omega arith)
 least_at f (c ∷ e ∷ rest) zero d h = omega (arith, ints, clamps)
 least_at f (c ∷ e ∷ rest) (suc k) d h = omega (arith, ints, clamps, least_at f (e ∷ rest) k d (omega arith))
 
-least-le : (f : ℕ → ℤ) (cs : List Choice) (a : ℕ) → Contains (advisories_of cs) a → least f cs ≤ℤ f a
+-- the least value is at most that of each choice
+pub least-le : (f : ℕ → ℤ) (cs : List Choice) (a : ℕ) → Contains (advisories_of cs) a → least f cs ≤ℤ f a
 least-le f cs a (k, h, e) = subst (λ z. least f cs ≤ℤ f z) e (least_at f cs k a h)
 
 pub Contains-cons : (x : ℕ) (xs : List ℕ) (y : ℕ) → Contains xs y → Contains (x ∷ xs) y
@@ -49,6 +50,10 @@ first_least_is f (c ∷ e ∷ rest) h =
     (record { listed = Contains-cons c.advisory (advisories_of (e ∷ rest)) (first_least f (e ∷ rest)) later.listed; least = later.least ∙ omega (arith, ints, clamps) }))
     (λ k. rw (le-true (f c.advisory) (least f (e ∷ rest)) k)
     (record { listed = Contains-first c.advisory (advisories_of (e ∷ rest)); least = omega (arith, ints, clamps) }))
+
+-- what is at most the value of each choice is at most the least
+pub le-least : (f : ℕ → ℤ) (cs : List Choice) (z : ℤ) → 0 < length cs → ((a : ℕ) → Contains (advisories_of cs) a → z ≤ℤ f a) → z ≤ℤ least f cs
+le-least f cs z h low = let best = first_least_is f cs h in omega (arith, ints, best.least, low (first_least f cs) best.listed)
 
 compiled_entry : (m : ModelData) → IsAccepted m → (n p : ℕ) (x : Vertex) → p < m.grid.advisories → IsSoundEntry m (compiled m) n p x
 compiled_entry m v zero p x known = (omega (arith, ints), omega (arith, ints))

@@ -29,7 +29,7 @@ cost_among (c ∷ rest) a = if nat_eq c.advisory a then c.cost else cost_among r
 abbrev pub cost_of : ModelData → ℕ → ℕ → ℤ
 cost_of m p a = cost_among (choices_at m p) a
 
--- the cost at the end, in units: contact, where the altitude is at most half the puck's height away, costs, and nothing else does
+-- the cost at the end, in units: that of contact where the altitude is at most half the puck's height away, and 0 elsewhere
 abbrev pub terminal_cost : ModelData → Vertex → ℤ
 terminal_cost m x = if nat_le (unsigned_abs (vertex_point m.grid x).h) m.half then m.contact else pos 0
 

@@ -36,7 +36,7 @@ grid_product g = gap_product g.h * gap_product g.v0 * gap_product g.v1
 abbrev pub share : GridData → Point → Vertex → ℕ
 share g s y = tent g.h y.i s.h * tent g.v0 y.j s.v0 * tent g.v1 y.k s.v1
 
--- the sum over all vertices
+-- the sum over all vertices of the grid
 abbrev pub over_vertices : GridData → (Vertex → ℤ) → ℤ
 over_vertices g f = sum_below (length g.h) (λ i. sum_below (length g.v0) (λ j. sum_below (length g.v1) (λ k. f (record { i = i; j = j; k = k }))))
 
