@@ -5,7 +5,7 @@ use Rattle.std.proofs.lemmas.Int.{ints, unsigned_abs-mul}
 use Rattle.std.proofs.lemmas.Nat.Gcd.{IsGcd-from_zero, same_from_IsGcd, dvd_antisymm, le_of_dvd}
 use Rattle.std.proofs.Math.Nat.{div-mul_cancel, mul-dvd-mul_right, dvd_of_mul-dvd-mul_right, eq-zero_of_zero-dvd, dvd-mul_left, dvd-mod_iff, dvd-sub, dvd-mul_left_of_dvd, dvd-mul_right, eq_of_mul-eq-mul_right}
 use Rattle.std.proofs.lemmas.Bool.{cases_lt}
-use Rattle.acas_frac.proofs.SignedProducts.{neg-mul_ℤ}
+use Rattle.acas_frac.proofs.SignedProducts.{le-from_mul_ℤ, mul_comm_ℤ, neg-mul_ℤ}
 use Rattle.acas_frac.specs.Fraction.{Fraction, IsFrac, ReducesWithinBounds, Same, signed}
 
 -- a divisor of a number above 0 is above 0
@@ -87,6 +87,10 @@ reduced-IsFrac negative num den g h s w = record {
 pub reduced-Same : (negative : Bool) (num den g : ℕ) → IsGcd num den g → 0 < den → ReducesWithinBounds num den → Same (record { num = signed negative (num / g); den = den / g }) (record { num = signed negative num; den = den })
 reduced-Same negative num den g h s w = cross_signed negative (num / g) num den (den / g) (cross num den g h s w)
 
+-- what is small before it is reduced is small after
+pub small_reduces : (num den : ℕ) → 0 < den → num ≤ 10 ^ 24 → den ≤ 10 ^ 13 → ReducesWithinBounds num den
+small_reduces num den p n d = record { parts = λ g h. let q = divisor_positive g den p h.1 in (omega arith, omega arith) }
+
 -- ---- Euclid's lemma
 
 remainder : (q r a b c : ℕ) → (q * b + r) * c ≡ a * c → a * c - q * (b * c) ≡ r * c
@@ -163,6 +167,22 @@ same_lowest n d k m p q h i e =
     let under : m ∣ (k * d) = subst (λ (z : ℕ). m ∣ z) e (dvd-mul_left m n) in
     let dens : d ≡ m = dvd_antisymm (divides_other n d m h over) (divides_other k m d i under) in
     (eq_of_mul-eq-mul_right d p n k (ap (λ z. n * z) dens ∙ e), dens)
+
+same_fraction : (n k : ℤ) (d m : ℕ) → n ≡ k → d ≡ m → ◌≡◌ {A = Fraction} (record { num = n; den = d }) (record { num = k; den = m })
+same_fraction n k d m p q = rw (p, q) refl
+
+cancelled_den : (d : ℕ) (n k : ℤ) → 0 < d → n *ℤ pos d ≡ k *ℤ pos d → n ≡ k
+cancelled_den d n k p e =
+    let least = le-from_mul_ℤ d n k p (omega (arith, ints, mul_comm_ℤ n (pos d), mul_comm_ℤ k (pos d), e)) in
+    let most = le-from_mul_ℤ d k n p (omega (arith, ints, mul_comm_ℤ n (pos d), mul_comm_ℤ k (pos d), e)) in
+    omega (arith, ints)
+
+pub lowest-same : (f g : Fraction) → IsFrac f → IsFrac g → Same f g → f ≡ g
+lowest-same f g h k e =
+    let sizes = sym (unsigned_abs-mul f.num (pos g.den)) ∙ ap unsigned_abs e ∙ unsigned_abs-mul g.num (pos f.den) in
+    let parts = same_lowest (unsigned_abs f.num) f.den (unsigned_abs g.num) g.den h.some k.some h.lowest k.lowest sizes in
+    let one_den : f.num *ℤ pos f.den ≡ g.num *ℤ pos f.den = ap (λ (d : ℕ). f.num *ℤ pos d) parts.1 ∙ e in
+    same_fraction f.num g.num f.den g.den (cancelled_den f.den f.num g.num h.some one_den) parts.1
 
 -- a fraction in lowest terms that is n over d has a denominator of at most d
 pub den_at_most : (f : Fraction) (n : ℤ) (d : ℕ) → IsFrac f → 0 < d → f.num *ℤ pos d ≡ n *ℤ pos f.den → f.den ≤ d

@@ -10,11 +10,11 @@ pub record Fraction : Type 0 where
   pub num : ℤ
   pub den : ℕ
 
--- the two have the same value
+-- the two have the same value, by cross products
 abbrev pub Same : Fraction → Fraction → Type 0
 Same f g = f.num *ℤ pos g.den ≡ g.num *ℤ pos f.den
 
--- no number above 1 divides both parts
+-- in lowest terms: no number above 1 divides both parts, so that zero is 0/1
 abbrev pub IsLowest : Fraction → Type 0
 IsLowest f = IsGcd (unsigned_abs f.num) f.den 1
 
@@ -28,6 +28,10 @@ pub record IsFrac (f : Fraction) : Type 0 where
 -- num / den, in lowest terms, has a numerator of at most 10^24 and a denominator of at most 10^13
 pub record ReducesWithinBounds (num den : ℕ) : Type 0 where
   pub parts : (g : ℕ) → IsGcd num den g → (num ≤ 10 ^ 24 * g) × (den ≤ 10 ^ 13 * g)
+
+-- the same of a fraction
+abbrev pub StaysWithinBounds : Fraction → Type 0
+StaysWithinBounds f = ReducesWithinBounds (unsigned_abs f.num) f.den
 
 -- a whole number
 abbrev pub whole_of : ℤ → Fraction

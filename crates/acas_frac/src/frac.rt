@@ -1,6 +1,6 @@
 //! Exact fractions in lowest terms.
 ghost use Rattle.std.specs.Prelude.{◌≡◌, ℕ, ◌*◌, ◌^◌, ◌<◌, ◌≤◌, ◌≢◌, ℤ, pos, ◌*ℤ◌, ◌<ℤ◌, unsigned_abs};
-ghost use Rattle.acas_frac.specs.Fraction.{Fraction, IsFrac, ReducesWithinBounds, Same, difference_of, multiple_of, order_of, product_of, signed, sum_of, whole_of};
+ghost use Rattle.acas_frac.specs.Fraction.{Fraction, IsFrac, ReducesWithinBounds, Same, StaysWithinBounds, difference_of, multiple_of, order_of, product_of, signed, sum_of, whole_of};
 
 use crate::products::{gcd, minus, plus, times, with_sign};
 use std::cmp::Ordering;
@@ -115,7 +115,7 @@ impl Frac {
 
     /// The exact sum, which is within the bounds.
     pub fn add(&self, other: &Frac) -> Frac
-        requires { ReducesWithinBounds (unsigned_abs (Fraction.num (sum_of self.now other.now))) (Fraction.den (sum_of self.now other.now)) }
+        requires { StaysWithinBounds (sum_of self.now other.now) }
         ensures value { Same result (sum_of self.now other.now) }
         ensures lowest { IsFrac result }
     {
@@ -130,7 +130,7 @@ impl Frac {
 
     /// The exact difference, which is within the bounds.
     pub fn sub(&self, other: &Frac) -> Frac
-        requires { ReducesWithinBounds (unsigned_abs (Fraction.num (difference_of self.now other.now))) (Fraction.den (difference_of self.now other.now)) }
+        requires { StaysWithinBounds (difference_of self.now other.now) }
         ensures value { Same result (difference_of self.now other.now) }
         ensures lowest { IsFrac result }
     {
@@ -147,7 +147,7 @@ impl Frac {
     /// denominators always is.
     pub fn mul(&self, other: &Frac) -> Frac
         requires num_small { unsigned_abs (Fraction.num self.now *ℤ Fraction.num other.now) ≤ 10 ^ 37 }
-        requires within { ReducesWithinBounds (unsigned_abs (Fraction.num (product_of self.now other.now))) (Fraction.den (product_of self.now other.now)) }
+        requires within { StaysWithinBounds (product_of self.now other.now) }
         ensures value { Same result (product_of self.now other.now) }
         ensures lowest { IsFrac result }
     {
@@ -161,7 +161,7 @@ impl Frac {
     /// The exact product with a whole number of at most 10^9 in size, which is within the bounds.
     pub fn mul_small(&self, factor: i64) -> Frac
         requires small { unsigned_abs factor ≤ 10 ^ 9 }
-        requires within { ReducesWithinBounds (unsigned_abs (Fraction.num (multiple_of self.now factor))) (Fraction.den (multiple_of self.now factor)) }
+        requires within { StaysWithinBounds (multiple_of self.now factor) }
         ensures value { Same result (multiple_of self.now factor) }
         ensures lowest { IsFrac result }
     {

@@ -157,6 +157,7 @@ fn vertices_and_states_have_numbers(rt: HostRuntime) {
     for number in 0..grid.vertices() {
         assert_eq!(rt; number_of(&grid, grid.vertex_of(number)), Some(number));
     }
+    crate::laws::numbers_are_one_to_one();
     assert_eq!(rt; state_number_of(&grid, 0, 23), Some(23));
     assert_eq!(rt; state_number_of(&grid, 1, 0), Some(24));
     assert_eq!(rt; state_number_of(&grid, 3, 23), Some(95));
