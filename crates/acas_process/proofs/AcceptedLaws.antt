@@ -1,0 +1,74 @@
+-- What an accepted model says of its weights and of its choices.
+use Rattle.std.proofs.Common.{◌≡◌, ◌≢◌, ℕ, zero, suc, ◌<◌, ◌≤◌, pos, ◌≤ℤ◌, unsigned_abs, List, [], ◌∷◌, length, get_or, sum_by, Contains, true, false, nat_eq, refl, ap, sym, subst, ◌∙◌, arith}
+use Rattle.std.proofs.lemmas.Int.{ints}
+use Rattle.std.proofs.lemmas.List.Sums.{sum_by-cons}
+use Rattle.acas_spec.specs.Accepted.{IsAccepted, AreDistinct}
+use Rattle.acas_spec.specs.Model.{ModelData, choices_at, total_weight, weight_of}
+use Rattle.acas_spec.specs.declared.parts.Choice.{Choice}
+use Rattle.acas_spec.specs.declared.parts.SigmaPoint.{SigmaPoint}
+use Rattle.acas_process.specs.Cost.{MayChoose, advisories_of, cost_among, cost_of}
+
+-- ---- weights
+
+first_weighs : (points : List SigmaPoint) (d : SigmaPoint) → 1 ≤ length points → pos 1 ≤ℤ (get_or points 0 d).weight → 0 < sum_by weight_of points
+first_weighs [] d h k = absurd (omega arith)
+first_weighs (p ∷ points) d h k = let e : 1 ≤ weight_of p = omega (arith, ints) in omega (arith, sum_by-cons weight_of p points)
+
+pub total_weight_pos : (m : ModelData) → IsAccepted m → 0 < total_weight m
+total_weight_pos m v = first_weighs m.points _ v.some_points (v.points 0 (omega (arith, v.some_points))).light
+
+-- ---- choices
+
+pub test_same : (a b : ℕ) → a ≡ b → nat_eq a b ≡ true
+test_same a b e = grind arith
+
+pub test_apart : (a b : ℕ) → a ≢ b → nat_eq a b ≡ false
+test_apart a b h = grind arith
+
+length_names : (cs : List Choice) → length (advisories_of cs) ≡ length cs
+length_names [] = refl
+length_names (c ∷ rest) = ap suc (length_names rest)
+
+name_at : (cs : List Choice) (k a : ℕ) (d : Choice) → k < length cs → get_or (advisories_of cs) k a ≡ (get_or cs k d).advisory
+name_at [] k a d h = absurd (omega arith)
+name_at (c ∷ rest) zero a d h = refl
+name_at (c ∷ rest) (suc k) a d h = name_at rest k a d (omega arith)
+
+-- an advisory of a list stands at a place of it
+pub record IsAt (cs : List Choice) (a : ℕ) (d : Choice) : Type 0 where
+  pub place : ℕ
+  pub within : place < length cs
+  pub is : (get_or cs place d).advisory ≡ a
+
+pub place_of : (cs : List Choice) (a : ℕ) (d : Choice) → Contains (advisories_of cs) a → IsAt cs a d
+place_of cs a d (k, h, e) = let w : k < length cs = omega (arith, length_names cs) in record { place = k; within = w; is = sym (name_at cs k a d w) ∙ e }
+
+-- the advisory of a choice stands among those of its list
+pub listed : (cs : List Choice) (k : ℕ) (d : Choice) → k < length cs → Contains (advisories_of cs) (get_or cs k d).advisory
+listed cs k d h = (k, omega (arith, length_names cs), name_at cs k (get_or cs k d).advisory d h)
+
+own_cost : (cs : List Choice) (k : ℕ) (d : Choice) → AreDistinct 0 (advisories_of cs) → k < length cs → cost_among cs (get_or cs k d).advisory ≡ (get_or cs k d).cost
+own_cost [] k d apart h = absurd (omega arith)
+own_cost (c ∷ rest) zero d apart h = rw (test_same c.advisory c.advisory refl) refl
+own_cost (c ∷ rest) (suc k) d apart h =
+    let within : k < length rest = omega arith in
+    let other : c.advisory ≢ (get_or rest k d).advisory = subst (λ (z : ℕ). c.advisory ≢ z) (name_at rest k 0 d within) (apart.apart 0 (suc k) (omega arith) (omega (arith, length_names rest))) in
+    rw (test_apart c.advisory (get_or rest k d).advisory other)
+    (own_cost rest k d (record { apart = λ i j l w. apart.apart (suc i) (suc j) (omega arith) (omega arith) }) within)
+
+-- each choice has its own cost
+pub cost_is_own : (m : ModelData) (p place : ℕ) (d : Choice) → IsAccepted m → p < m.grid.advisories → place < length (choices_at m p) →
+    cost_of m p (get_or (choices_at m p) place d).advisory ≡ (get_or (choices_at m p) place d).cost
+cost_is_own m p place d v known within = own_cost (choices_at m p) place d (v.choices p known).distinct within
+
+-- what may be chosen is an advisory of the model, at a cost of at most 10^9 in size
+pub record IsChosen (m : ModelData) (p a : ℕ) : Type 0 where
+  pub inside : a < m.grid.advisories
+  pub small : unsigned_abs (cost_of m p a) ≤ 1_000_000_000
+
+pub is_chosen : (m : ModelData) (p a : ℕ) → IsAccepted m → p < m.grid.advisories → MayChoose m p a → IsChosen m p a
+is_chosen m p a v known follows =
+    let at = place_of (choices_at m p) a (record { advisory = 0; cost = pos 0 }) follows in
+    let choice = (v.choices p known).each at.place at.within in
+    let cost = cost_is_own m p at.place (record { advisory = 0; cost = pos 0 }) v known at.within in
+    subst (λ (z : ℕ). IsChosen m p z) at.is (record { inside = choice.advisory; small = omega (arith, ap (λ z. unsigned_abs z) cost, choice.cost) })
