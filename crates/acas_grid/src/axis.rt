@@ -1,5 +1,6 @@
 //! An axis: from 2 to 129 numbers that rise.
-ghost use Rattle.std.specs.Prelude.{◌≡◌, ◌<◌, length, IfNone, IfSome};
+ghost use Rattle.std.specs.Prelude.{◌≡◌, ◌+◌, ◌<◌, ◌≤◌, ◌≤ℤ◌, ◌<ℤ◌, length, IfNone, IfSome};
+ghost use Rattle.std.specs.Int.{int_max, int_min};
 ghost use Rattle.acas_spec.specs.Axis.{IsAxis, Rises, place_value};
 ghost use Rattle.acas_grid.specs.Axis.{IsBetweenEnds, IsCell, axis_of, clamp_to, first_fall};
 
@@ -50,6 +51,32 @@ fn falls_at(values: &[i64]) -> Option<usize>
     None
 }
 
+// The nearest number from first to last.
+fn nearest(x: i64, first: i64, last: i64) -> i64
+    requires { first ≤ℤ last }
+    ensures value { result ≡ int_max first (int_min x last) }
+    ensures above { first ≤ℤ result }
+    ensures below { result ≤ℤ last }
+{
+    x.min(last).max(first)
+}
+
+// The first place whose next number is above x, but never the last.
+fn cell_at(values: &[i64], x: i64) -> usize
+    requires some { 2 ≤ length values.now }
+    requires between { IsBetweenEnds values.now x }
+    ensures before_last { result + 1 < length values.now }
+    ensures lower { place_value values.now result ≤ℤ x }
+    ensures upper { x ≤ℤ place_value values.now (result + 1) }
+    ensures next { result + 2 < length values.now → x <ℤ place_value values.now (result + 1) }
+{
+    let mut place = 0;
+    while place + 2 < values.len() && values[place + 1] <= x {
+        place += 1;
+    }
+    place
+}
+
 impl Axis {
     /// The axis of these numbers, or why they are none.
     #[tactic(auto, unfolding(crate::specs::Axis::axis_of))]
@@ -94,7 +121,7 @@ impl Axis {
     {
         let last = self.value(self.len() - 1);
         let first = self.value(0);
-        x.min(last).max(first)
+        nearest(x, first, last)
     }
 
     /// The place where the cell of a number begins: the greatest whose number is at or below it, but never the last.
@@ -102,7 +129,6 @@ impl Axis {
         requires { IsBetweenEnds self.now x }
         ensures { IsCell self.now result x }
     {
-        let inner = &self.values[1..self.values.len() - 1];
-        inner.partition_point(|&value| value <= x) as u32
+        cell_at(self.values.as_slice(), x) as u32
     }
 }

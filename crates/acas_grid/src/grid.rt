@@ -66,6 +66,7 @@ impl Grid {
     }
 
     /// The vertex of a number.
+    #[tactic(auto, using(crate::proofs::Vertices::from_parts))]
     pub fn vertex_of(&self, number: u32) -> Vertex
         requires { number < vertices self.now }
         ensures vertex { IsVertex self.now result }

@@ -1,13 +1,10 @@
-use Rattle.std.proofs.Common.{int_le, rules}
-use Rattle.std.proofs.lemmas.List.Sorted.{IsPartitionPoint-from_clause}
-use Rattle.acas_grid.proofs.Cells.{cell_from, inner, inner-IsPartitionedBy}
+use Rattle.std.proofs.Common.{SFits, w64}
+use Rattle.std.proofs.lemmas.Int.{to_z-of_z}
+use Rattle.acas_grid.proofs.Cells.{cell_from}
 use Rattle.acas_grid.proofs.axis.Axis.cell_of.Goals as goal
 
 pub returns : goal.returns
 returns c =
-    let clause = rw (c.len.ensures, ← c.deref.ensures.len, c.deref.ensures.value) at c.partition_point.ensures.partitioned in
-    let bound = rw (c.len.ensures, ← c.deref.ensures.len, c.deref.ensures.value) at c.partition_point.ensures.bound in
-    let between = rw (← c.self.view_is) at c.requires in
-    let point = IsPartitionPoint-from_clause (λ y. int_le y c.args.x) (inner c.self.inside.values.items) c.partition_point.result clause
-    (inner-IsPartitionedBy c.self.inside.values.items c.args.x c.self.invariant) (λ a r f' k. search rules) in
-    rw (← c.self.view_is) (cell_from c.self.inside.values.items c.args.x c.self.invariant between c.partition_point.result bound point)
+    let fits : SFits w64 c.args.x = c.ranges.x in
+    let at = simp (to_z-of_z, c.as_slice.ensures.value) at c.cell_at.ensures in
+    rw (← c.self.view_is) (cell_from c.self.inside.values.items c.cell_at.result c.args.x c.self.invariant.rising at.before_last at.lower at.upper at.next)

@@ -1,0 +1,161 @@
+//! Fractions with signs, zero and numbers at the bounds, and quotients rounded both ways.
+ghost use Rattle.std.specs.Prelude.{◌^◌, ◌<◌, ◌≤◌, IsTrue, unsigned_abs};
+ghost use Rattle.acas_frac.specs.Fraction.{Fraction};
+
+use crate::frac::Frac;
+use crate::print::print_frac;
+use crate::rounding::{Down, Rounding, Up};
+use std::cmp::Ordering;
+
+#[test]
+fn quotients_are_rounded_down_and_up(rt: HostRuntime) {
+    // a numerator and a denominator, the quotient rounded down, and up
+    let rows = [
+        (-1, 3, -1, 0),
+        (6, 3, 2, 2),
+        (0, 5, 0, 0),
+        (1, 3, 0, 1),
+        (-6, 3, -2, -2),
+        (-7, 2, -4, -3),
+        (7, 2, 3, 4),
+    ];
+    for (num, den, down, up) in rows {
+        assert_eq!(rt; Down::div(num, den), down);
+        assert_eq!(rt; Up::div(num, den), up);
+    }
+    crate::laws::quotients_are_rounded();
+    crate::laws::lowest_terms_are_one();
+    let most = 10_000_000_000_000_000_000_000_000_000_000_000_000;
+    assert_eq!(rt; Down::div(-most, 1), -most);
+    assert_eq!(rt; Up::div(-most, most), -1);
+    assert_eq!(rt; Down::div(1 - most, most), -1);
+    assert_eq!(rt; Up::div(most - 1, most), 1);
+}
+
+// The value num/den, for a den that is not 0 and at most 10^13 in size.
+#[tactic(auto, using(crate::proofs::Lowest::small_reduces))]
+fn ratio(num: i64, den: i64) -> Option<Frac> {
+    if den == 0 || den.unsigned_abs() > 10_000_000_000_000 {
+        return None;
+    }
+    Some(Frac::new(i128::from(num), i128::from(den)))
+}
+
+#[test]
+fn fractions_are_in_lowest_terms(rt: HostRuntime) {
+    let rows = [
+        (6, 4, 3, 2),
+        (-6, 4, -3, 2),
+        (6, -4, -3, 2),
+        (-6, -4, 3, 2),
+        (0, -7, 0, 1),
+        (5, 5, 1, 1),
+        (1, 10_000_000_000_000, 1, 10_000_000_000_000),
+        (i64::MIN, 2, -4_611_686_018_427_387_904, 1),
+    ];
+    for (num, den, lowest_num, lowest_den) in rows {
+        let value = ratio(num, den).expect(&rt, "a fraction");
+        assert_eq!(rt; value.num(), lowest_num);
+        assert_eq!(rt; value.den(), lowest_den);
+    }
+    let whole = Frac::whole(-5);
+    assert_eq!(rt; whole.num(), -5);
+    assert_eq!(rt; whole.den(), 1);
+}
+
+// Whether products and sums with another such fraction are within the bounds.
+fn is_small(value: &Frac) -> bool
+    ensures some { 0 < Fraction.den value.now }
+    ensures num { IsTrue result → unsigned_abs (Fraction.num value.now) ≤ 10 ^ 12 }
+    ensures den { IsTrue result → Fraction.den value.now ≤ 10 ^ 6 }
+{
+    value.num().unsigned_abs() <= 1_000_000_000_000 && value.den() <= 1_000_000
+}
+
+fn sum(a: &Frac, b: &Frac) -> Option<Frac> {
+    if is_small(a) && is_small(b) {
+        Some(a.add(b))
+    } else {
+        None
+    }
+}
+
+fn difference(a: &Frac, b: &Frac) -> Option<Frac> {
+    if is_small(a) && is_small(b) {
+        Some(a.sub(b))
+    } else {
+        None
+    }
+}
+
+fn product(a: &Frac, b: &Frac) -> Option<Frac> {
+    if is_small(a) && is_small(b) {
+        Some(a.mul(b))
+    } else {
+        None
+    }
+}
+
+fn multiple(a: &Frac, factor: i64) -> Option<Frac> {
+    if is_small(a) && factor.unsigned_abs() <= 1_000_000_000 {
+        Some(a.mul_small(factor))
+    } else {
+        None
+    }
+}
+
+fn is_ratio(value: Option<Frac>, num: i128, den: i128) -> bool {
+    match value {
+        Some(value) => value.num() == num && value.den() == den,
+        None => false,
+    }
+}
+
+#[test]
+fn fractions_are_added_and_multiplied_exactly(rt: HostRuntime) {
+    let half = ratio(1, 2).expect(&rt, "a fraction");
+    let third = ratio(-1, 3).expect(&rt, "a fraction");
+    assert!(rt; is_ratio(sum(&half, &third), 1, 6));
+    assert!(rt; is_ratio(difference(&half, &third), 5, 6));
+    assert!(rt; is_ratio(product(&half, &third), -1, 6));
+    assert!(rt; is_ratio(sum(&half, &half), 1, 1));
+    assert!(rt; is_ratio(difference(&third, &third), 0, 1));
+    assert!(rt; is_ratio(multiple(&third, -6), 2, 1));
+    assert!(rt; is_ratio(multiple(&half, 3), 3, 2));
+    assert!(rt; is_ratio(multiple(&half, 0), 0, 1));
+    let large = Frac::whole(1_000_000_000_000);
+    let tiny = ratio(1, 1_000_000).expect(&rt, "a fraction");
+    assert!(rt;
+        is_ratio(
+            product(&large, &large),
+            1_000_000_000_000_000_000_000_000,
+            1
+        )
+    );
+    assert!(rt; is_ratio(product(&tiny, &tiny), 1, 1_000_000_000_000));
+    assert!(rt; is_ratio(product(&large, &tiny), 1_000_000, 1));
+    assert!(rt; is_ratio(sum(&large, &tiny), 1_000_000_000_000_000_001, 1_000_000));
+}
+
+#[test]
+fn fractions_have_an_order_and_a_text(rt: HostRuntime) {
+    let rows = [
+        (1, 2, 1, 3, Ordering::Greater),
+        (-1, 2, -1, 3, Ordering::Less),
+        (2, 4, 1, 2, Ordering::Equal),
+        (-1, 2, 1, 3, Ordering::Less),
+        (0, 9, 0, -4, Ordering::Equal),
+    ];
+    for (a, b, c, d, order) in rows {
+        let left = ratio(a, b).expect(&rt, "a fraction");
+        let right = ratio(c, d).expect(&rt, "a fraction");
+        assert!(rt; left.compare(&right) == order);
+    }
+    let mut out = Vec::from_slice(rt.alloc(), b"t ").expect(&rt, "memory");
+    for (num, den) in [(15, 10), (-15, 10), (4, -2), (0, 3), (-1, 3)] {
+        let value = ratio(num, den).expect(&rt, "a fraction");
+        print_frac(&mut out, &value).expect(&rt, "memory");
+        out.push(b' ').expect(&rt, "memory");
+    }
+    assert!(rt; out.as_slice() == b"t 3/2 -3/2 -2 0 -1/3 ".as_slice());
+}
