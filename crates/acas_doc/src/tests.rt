@@ -2,7 +2,7 @@
 use crate::fault::{DocError, DocKind};
 use crate::getters::{list, table, text, whole};
 use crate::items::{item, table_item, text_item};
-use crate::known::only_keys;
+use crate::known::{least_unknown_is_named, only_keys};
 use crate::path::{fault_at, path_of_item, path_of_key};
 use std::alloc::Global;
 use toml::Table;
@@ -154,6 +154,7 @@ fn names_the_least_unknown_key(rt: HostRuntime) {
         );
     }
     let table = toml::table_from_str(alloc, "b = 1\na = 1\n").expect(&rt, "a document");
+    least_unknown_is_named(&table, b"", "b");
     assert!(rt; only_keys(alloc, &table, b"t", "a b c").is_ok());
     assert!(rt;
         is_fault(

@@ -1,26 +1,23 @@
 -- A document that says a model within its limits passes the rules of its lists.
-use Rattle.std.proofs.Common.{◌≡◌, ◌≢◌, ℕ, zero, suc, ◌+◌, ◌-◌, ◌*◌, ◌^◌, ◌<◌, ◌≤◌, true, false, Bool, IsTrue, ◌==◌, eqb, cond, List, [], ◌∷◌, length, map, take, get_or, zip, position, codes, ℤ, pos, negsuc, ◌≤ℤ◌, int_le, nat_lt, unsigned_abs, bytes_eq, Option, Some, None, Result, Ok, Err, refl, sym, subst, ap, ◌∙◌, inl, inr, arith}
-use Rattle.std.specs.List.{AllByRecursion, IsDistinct, list_any, position_or_len}
+use Rattle.std.proofs.Common.{◌≡◌, ◌≢◌, ℕ, zero, suc, ◌-◌, ◌^◌, ◌<◌, ◌≤◌, true, false, Bool, IsTrue, ◌==◌, eqb, List, [], ◌∷◌, length, map, take, get_or, position, codes, ℤ, pos, negsuc, unsigned_abs, bytes_eq, Some, Ok, refl, sym, subst, ◌∙◌, inl, inr, arith}
+use Rattle.std.specs.List.{IsDistinct, list_any, position_or_len}
 use Rattle.std.proofs.lemmas.Bool.{cases_Bool, false≢true, eqb-true, le-leb}
 use Rattle.std.proofs.lemmas.List.{get_or-map, get_or-take, length-map, length-take}
-use Rattle.std.proofs.lemmas.List.Quantifiers.{position-Some}
 use Rattle.std.proofs.lemmas.Map.Steps.{length-le_from_distinct_below}
 use Rattle.std.proofs.lemmas.Slice.Eq.{bytes_eq-Decides}
-use Rattle.toml.specs.Data.{Data, Members, no_members, integer, string, boolean, table}
-use Rattle.acas_spec.specs.Steps.{◌>>=◌, ◌>>◌, fault_as, each}
-use Rattle.acas_spec.specs.Model.{ModelData, advisory_at, choices_at, point_at}
+use Rattle.toml.specs.Data.{Members, no_members, integer, string, boolean, table}
+use Rattle.acas_spec.specs.Model.{ModelData}
 use Rattle.acas_spec.specs.Accepted.{is_name, IsAccepted, IsAdvisory, IsChoiceList, IsPoint, AreDistinct}
 use Rattle.acas_spec.specs.declared.parts.Advisory.{Advisory}
 use Rattle.acas_spec.specs.declared.parts.Choice.{Choice}
 use Rattle.acas_spec.specs.declared.parts.SigmaPoint.{SigmaPoint}
 use Rattle.acas_doc.specs.Paths.{key_path, item_path}
 use Rattle.acas_doc.proofs.Holds.{true-int_le, whole_at_passes, text_at_passes, list_at_passes, whole_item_passes, text_item_passes, table_item_passes}
-use Rattle.acas_model.specs.declared.fault.ModelFault.{ModelFault}
 use Rattle.acas_model.specs.Advisories.{name_at, advisory_of, advisory_item, advisory_items, new_name, distinct}
-use Rattle.acas_model.specs.Choices.{named, or_unknown, first_time, choice_item, choice_items, cost_item, cost_items, choices_from, some_choice, choices_of, choices_item, choice_lists, Advised, advised_of}
+use Rattle.acas_model.specs.Choices.{named, choice_item, choice_items, cost_item, cost_items, choices_from, some_choice, choices_of, choices_item, choice_lists, Advised, advised_of}
 use Rattle.acas_model.specs.Noise.{point_of, point_item, point_items, points_of}
-use Rattle.acas_model.specs.Text.{HasOnly, HoldsText, HoldsWhole, HoldsList, IsAdvisoryText, IsSigmaText, IsDocumentText}
-use Rattle.acas_model.proofs.Places.{ReadAt, each_from, none_from, all_from, same_lists}
+use Rattle.acas_model.specs.Text.{HasOnly, HoldsText, HoldsWhole, HoldsList, IsDocumentText}
+use Rattle.acas_model.proofs.Places.{each_from, none_from, all_from}
 use Rattle.acas_model.proofs.PassNumbers.{only_passes, within_abs, ≤ℤ-trans}
 use Rattle.acas_model.proofs.ReadAdvisories.{no_advisory}
 use Rattle.acas_model.proofs.ReadChoices.{name_of, no_choice_there}
@@ -44,10 +41,10 @@ equal_bytes : (xs ys : List ℕ) → xs ≡ ys → bytes_eq xs ys ≡ true
 equal_bytes xs ys e = (bytes_eq-Decides xs ys).1 e
 
 other_bytes : (xs ys : List ℕ) → xs ≢ ys → bytes_eq xs ys ≡ false
-other_bytes xs ys n = elim (cases_Bool (bytes_eq xs ys)) [ | inl same ↦ absurd (n ((bytes_eq-Decides xs ys).0 same)) | inr differ ↦ differ ]
+other_bytes xs ys n = elim (cases_Bool (bytes_eq xs ys)) [ inl same ↦ absurd (n ((bytes_eq-Decides xs ys).0 same)) | inr differ ↦ differ ]
 
 other_numbers : (a b : ℕ) → a ≢ b → (a == b) ≡ false
-other_numbers a b n = elim (cases_Bool (a == b)) [ | inl same ↦ absurd (n (eqb-true a b same)) | inr differ ↦ differ ]
+other_numbers a b n = elim (cases_Bool (a == b)) [ inl same ↦ absurd (n (eqb-true a b same)) | inr differ ↦ differ ]
 
 -- two advisories of different places have different names
 names_apart : (m : ModelData) → IsAccepted m → (i j : ℕ) → i < j → j < length m.advisories → (get_or m.advisories i no_advisory).name ≢ (get_or m.advisories j no_advisory).name
@@ -60,9 +57,9 @@ new_name_passes : (m : ModelData) → IsAccepted m → (k : ℕ) → k < length 
 unfolding new_name
 new_name_passes m valid k within =
     let none : list_any (λ b. bytes_eq b.name (get_or m.advisories k no_advisory).name) (take k m.advisories) ≡ false =
-      none_from (λ b. bytes_eq b.name (get_or m.advisories k no_advisory).name) (take k m.advisories) no_advisory (λ i h.
-        let above : i < k = omega (arith, h, length-take k m.advisories) in
-        rw (get_or-take k m.advisories i no_advisory above) (other_bytes _ _ (names_apart m valid i k above within))) in
+    none_from (λ b. bytes_eq b.name (get_or m.advisories k no_advisory).name) (take k m.advisories) no_advisory (λ i h.
+    let above : i < k = omega (arith, h, length-take k m.advisories) in
+    rw (get_or-take k m.advisories i no_advisory above) (other_bytes _ _ (names_apart m valid i k above within))) in
     rw none refl
 
 distinct_passes : (m : ModelData) → IsAccepted m → distinct m.advisories ≡ Ok m.advisories
@@ -104,12 +101,12 @@ advisories_pass doc m says valid =
     each_from (λ before d. advisory_item (length before) d) [] m.advisories (map table ts) (boolean false) no_advisory (record {
       long = sym says.advisory.long ∙ sym (length-map ts table);
       at = λ k h.
-        let in_ts : k < length ts = omega (arith, h, length-map ts table) in
-        let in_list : k < length m.advisories = omega (arith, in_ts, says.advisory.long) in
-        let item : get_or (map table ts) k (boolean false) ≡ table (get_or ts k no_members) = get_or-map table ts k no_members (boolean false) in_ts in
-        let text = says.advisory.says k in_list in
-        rw (item, place_is k m.advisories in_list)
-        (advisory_item_passes k (get_or ts k no_members) (get_or m.advisories k no_advisory) (says.advisory.keys k in_list) text.name text.lo text.hi (valid.advisories k (omega (arith, in_list, valid.advisory_count))));
+          let in_ts : k < length ts = omega (arith, h, length-map ts table) in
+          let in_list : k < length m.advisories = omega (arith, in_ts, says.advisory.long) in
+          let item : get_or (map table ts) k (boolean false) ≡ table (get_or ts k no_members) = get_or-map table ts k no_members (boolean false) in_ts in
+          let text = says.advisory.says k in_list in
+          rw (item, place_is k m.advisories in_list)
+          (advisory_item_passes k (get_or ts k no_members) (get_or m.advisories k no_advisory) (says.advisory.keys k in_list) text.name text.lo text.hi (valid.advisories k (omega (arith, in_list, valid.advisory_count))));
     })
 
 -- ---- choices
@@ -144,12 +141,12 @@ chosen_pass m valid path advisory chosen known distinct =
     each_from (choice_item m.advisories path advisory) [] chosen ds (boolean false) 0 (record {
       long = sym (length-map chosen (λ a. string (name_of m.advisories a)));
       at = λ k h.
-        let within : k < length chosen = omega (arith, h, length-map chosen (λ a. string (name_of m.advisories a))) in
-        let item : get_or ds k (boolean false) ≡ string (name_of m.advisories (get_or chosen k 0)) = get_or-map (λ a. string (name_of m.advisories a)) chosen k 0 (boolean false) within in
-        let new : list_any (λ b. b == get_or chosen k 0) (take k chosen) ≡ false = none_from (λ b. b == get_or chosen k 0) (take k chosen) 0 (λ i g.
+          let within : k < length chosen = omega (arith, h, length-map chosen (λ a. string (name_of m.advisories a))) in
+          let item : get_or ds k (boolean false) ≡ string (name_of m.advisories (get_or chosen k 0)) = get_or-map (λ a. string (name_of m.advisories a)) chosen k 0 (boolean false) within in
+          let new : list_any (λ b. b == get_or chosen k 0) (take k chosen) ≡ false = none_from (λ b. b == get_or chosen k 0) (take k chosen) 0 (λ i g.
           let above : i < k = omega (arith, g, length-take k chosen) in
           rw (get_or-take k chosen i 0 above) (other_numbers _ _ (distinct.apart i k above within))) in
-        rw item (choice_passes m valid path advisory (take k chosen) (get_or chosen k 0) (known k within) new);
+          rw item (choice_passes m valid path advisory (take k chosen) (get_or chosen k 0) (known k within) new);
     })
 
 cost_passes : (path : List ℕ) (place : ℕ) (z : ℤ) → unsigned_abs z ≤ 1000000000 → cost_item path place (integer z) ≡ Ok z
@@ -164,9 +161,9 @@ costs_pass path costs within =
     each_from (λ before d. cost_item path (length before) d) [] costs (map integer costs) (boolean false) (pos 0) (record {
       long = sym (length-map costs integer);
       at = λ k h.
-        let in_costs : k < length costs = omega (arith, h, length-map costs integer) in
-        let item : get_or (map integer costs) k (boolean false) ≡ integer (get_or costs k (pos 0)) = get_or-map integer costs k (pos 0) (boolean false) in_costs in
-        rw item (cost_passes path (length (take k costs)) (get_or costs k (pos 0)) (within k in_costs));
+          let in_costs : k < length costs = omega (arith, h, length-map costs integer) in
+          let item : get_or (map integer costs) k (boolean false) ≡ integer (get_or costs k (pos 0)) = get_or-map integer costs k (pos 0) (boolean false) in_costs in
+          rw item (cost_passes path (length (take k costs)) (get_or costs k (pos 0)) (within k in_costs));
     })
 
 -- different numbers below a count are not more than the count
@@ -209,11 +206,11 @@ choices_pass m valid t path advisory choices is named_list cost_list =
     let long : length items ≡ length choices = length-map chosen (λ a. string (name_of m.advisories a)) ∙ length-map choices (λ c. c.advisory) in
     let long_costs : length (map integer costs) ≡ length choices = length-map costs integer ∙ length-map choices (λ c. c.cost) in
     let known : (k : ℕ) → k < length chosen → get_or chosen k 0 < length m.advisories = λ k h.
-      let within : k < length choices = omega (arith, h, length-map choices (λ c. c.advisory)) in
-      subst (λ a. a < length m.advisories) (sym (get_or-map (λ c. c.advisory) choices k no_choice_there 0 within)) (is.each k within).advisory in
+    let within : k < length choices = omega (arith, h, length-map choices (λ c. c.advisory)) in
+    subst (λ a. a < length m.advisories) (sym (get_or-map (λ c. c.advisory) choices k no_choice_there 0 within)) (is.each k within).advisory in
     let paid : (k : ℕ) → k < length costs → unsigned_abs (get_or costs k (pos 0)) ≤ 1000000000 = λ k h.
-      let within : k < length choices = omega (arith, h, length-map choices (λ c. c.cost)) in
-      subst (λ z. unsigned_abs z ≤ 1000000000) (sym (get_or-map (λ c. c.cost) choices k no_choice_there (pos 0) within)) (is.each k within).cost in
+    let within : k < length choices = omega (arith, h, length-map choices (λ c. c.cost)) in
+    subst (λ z. unsigned_abs z ≤ 1000000000) (sym (get_or-map (λ c. c.cost) choices k no_choice_there (pos 0) within)) (is.each k within).cost in
     let few : length items ≤ 2 ^ 32 - 1 = omega (arith, long, length-map choices (λ c. c.advisory), few_distinct chosen (length m.advisories) is.distinct known, valid.advisory_count, valid.grid.few_advisories) in
     rw (
       list_at_passes t path (codes "choices") 0 (2 ^ 32 - 1) items named_items (omega arith) few,
@@ -239,13 +236,13 @@ lists_pass doc m says valid =
     each_from (λ before d. choices_item m.advisories (length before) d) [] m.choices (map table ts) (boolean false) [] (record {
       long = count ∙ sym says.advisory.long ∙ sym (length-map ts table);
       at = λ k h.
-        let in_ts : k < length ts = omega (arith, h, length-map ts table) in
-        let in_list : k < length m.advisories = omega (arith, in_ts, says.advisory.long) in
-        let in_choices : k < length m.choices = omega (arith, in_list, count) in
-        let item : get_or (map table ts) k (boolean false) ≡ table (get_or ts k no_members) = get_or-map table ts k no_members (boolean false) in_ts in
-        let text = says.advisory.says k in_list in
-        let is : IsChoiceList (length m.advisories) (get_or m.choices k []) = subst (λ n. IsChoiceList n (get_or m.choices k [])) (sym valid.advisory_count) (valid.choices k (omega (arith, in_list, valid.advisory_count))) in
-        rw (item, place_is k m.choices in_choices) (choices_item_passes m valid k (get_or ts k no_members) (get_or m.choices k []) is text.choices text.costs);
+          let in_ts : k < length ts = omega (arith, h, length-map ts table) in
+          let in_list : k < length m.advisories = omega (arith, in_ts, says.advisory.long) in
+          let in_choices : k < length m.choices = omega (arith, in_list, count) in
+          let item : get_or (map table ts) k (boolean false) ≡ table (get_or ts k no_members) = get_or-map table ts k no_members (boolean false) in_ts in
+          let text = says.advisory.says k in_list in
+          let is : IsChoiceList (length m.advisories) (get_or m.choices k []) = subst (λ n. IsChoiceList n (get_or m.choices k [])) (sym valid.advisory_count) (valid.choices k (omega (arith, in_list, valid.advisory_count))) in
+          rw (item, place_is k m.choices in_choices) (choices_item_passes m valid k (get_or ts k no_members) (get_or m.choices k []) is text.choices text.costs);
     })
 
 abbrev pub advised_in : ModelData → Advised
@@ -291,10 +288,10 @@ points_pass doc m says valid =
     let items : point_items (map table ts) ≡ Ok m.points = each_from (λ before d. point_item (length before) d) [] m.points (map table ts) (boolean false) no_point (record {
       long = sym long;
       at = λ k h.
-        let in_ts : k < length ts = omega (arith, h, length-map ts table) in
-        let in_list : k < length m.points = omega (arith, in_ts, says.sigma.long) in
-        let item : get_or (map table ts) k (boolean false) ≡ table (get_or ts k no_members) = get_or-map table ts k no_members (boolean false) in_ts in
-        let text = says.sigma.says k in_list in
-        rw (item, place_is k m.points in_list) (point_item_passes k (get_or ts k no_members) (get_or m.points k no_point) (says.sigma.keys k in_list) text.weight text.own text.intruder (valid.points k in_list));
+          let in_ts : k < length ts = omega (arith, h, length-map ts table) in
+          let in_list : k < length m.points = omega (arith, in_ts, says.sigma.long) in
+          let item : get_or (map table ts) k (boolean false) ≡ table (get_or ts k no_members) = get_or-map table ts k no_members (boolean false) in_ts in
+          let text = says.sigma.says k in_list in
+          rw (item, place_is k m.points in_list) (point_item_passes k (get_or ts k no_members) (get_or m.points k no_point) (says.sigma.keys k in_list) text.weight text.own text.intruder (valid.points k in_list));
     }) in
     rw (list_at_passes doc [] (codes "sigma") 1 25 (map table ts) says.sigma.there (omega (arith, long, valid.some_points)) (omega (arith, long, valid.few_points)), items) refl

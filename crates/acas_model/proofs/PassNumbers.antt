@@ -1,24 +1,19 @@
 -- A document that says a model within its limits passes the rules of its numbers and axes.
-use Rattle.std.proofs.Common.{◌≡◌, ℕ, zero, suc, ◌+◌, ◌-◌, ◌*◌, ◌^◌, ◌<◌, ◌≤◌, true, false, List, [], length, map, take, get_or, codes, ℤ, pos, negsuc, ◌*ℤ◌, ◌≤ℤ◌, int_le, unsigned_abs, Some, Result, Ok, Err, refl, sym, subst, ap, ◌∙◌, arith}
+use Rattle.std.proofs.Common.{◌≡◌, ℕ, suc, ◌-◌, ◌*◌, ◌^◌, ◌<◌, ◌≤◌, false, List, [], length, map, take, get_or, codes, ℤ, pos, negsuc, ◌*ℤ◌, ◌≤ℤ◌, unsigned_abs, Some, Ok, refl, sym, subst, ap, ◌∙◌, arith}
 use Rattle.std.proofs.lemmas.Bool.{le-leb, leb-true, false≢true}
 use Rattle.std.proofs.lemmas.Int.{unsigned_abs-mul}
 use Rattle.std.proofs.lemmas.List.{get_or-map, length-map}
-use Rattle.toml.specs.Data.{Data, Members, integer, boolean, table, get_member}
+use Rattle.toml.specs.Data.{Members, integer, boolean, table, get_member}
 use Rattle.acas_spec.specs.Axis.{IsAxis, IsWithin, place_value}
 use Rattle.acas_spec.specs.Model.{ModelData}
 use Rattle.acas_spec.specs.Accepted.{IsAccepted}
-use Rattle.acas_spec.specs.Steps.{◌>>=◌, ◌>>◌, fault_as, each}
-use Rattle.acas_doc.specs.Keys.{list_at, whole_at, whole_item}
 use Rattle.acas_doc.specs.Known.{only_known}
 use Rattle.acas_doc.specs.Paths.{key_path}
 use Rattle.acas_doc.proofs.Holds.{int_le-true, true-int_le, whole_at_passes, table_at_passes, list_at_passes, whole_item_passes}
 use Rattle.acas_doc.proofs.LeastUnknown.{only_known_passes}
-use Rattle.acas_grid.specs.Axis.{axis_of}
 use Rattle.acas_model.specs.declared.axes.Axes.{Axes}
 use Rattle.acas_model.specs.declared.fault.AxisName.{AxisName}
 use Rattle.acas_model.specs.declared.fault.AxisName.TheVariants.{Altitude, OwnRate, IntruderRate}
-use Rattle.acas_model.specs.declared.fault.ModelFault.{ModelFault}
-use Rattle.acas_model.specs.declared.fault.ModelFault.TheVariants.{Axis}
 use Rattle.acas_model.specs.declared.numbers.Puck.{Puck}
 use Rattle.acas_model.specs.declared.numbers.Closing.{Closing}
 use Rattle.acas_model.specs.declared.numbers.Pilot.{Pilot}
@@ -26,8 +21,8 @@ use Rattle.acas_model.specs.declared.numbers.Numbers.{Numbers}
 use Rattle.acas_model.specs.Document.{in_doc, number_at, closed_table}
 use Rattle.acas_model.specs.Axes.{scaled_item, scaled_items, axis_at, grid_table, altitudes, own_rates, intruder_rates, axes_of}
 use Rattle.acas_model.specs.Numbers.{puck_table, half_height, puck_of, closing_of, pilot_of, contact_of, numbers_of}
-use Rattle.acas_model.specs.Text.{HasOnly, HoldsWhole, HoldsList, HoldsTable, HoldsAxis, IsGridText, IsPuckText, IsClosingText, IsPilotText, IsCostText, IsDocumentText}
-use Rattle.acas_model.proofs.Places.{ReadAt, each_from}
+use Rattle.acas_model.specs.Text.{HasOnly, HoldsWhole, HoldsAxis, IsDocumentText}
+use Rattle.acas_model.proofs.Places.{each_from}
 use Rattle.acas_model.proofs.Rising.{is_axis}
 
 -- ---- ranges
@@ -92,10 +87,10 @@ scaled_passes path scale zs axis same within =
     each_from (λ before d. scaled_item path scale (length before) d) [] axis (map integer zs) (boolean false) (pos 0) (record {
       long = long;
       at = λ k h.
-        let in_zs : k < length zs = omega (arith, h, length-map zs integer) in
-        let item : get_or (map integer zs) k (boolean false) ≡ integer (get_or zs k (pos 0)) = get_or-map integer zs k (pos 0) (boolean false) in_zs in
-        let value : get_or axis k (pos 0) ≡ pos scale *ℤ get_or zs k (pos 0) = ap (λ ys. get_or ys k (pos 0)) same ∙ get_or-map (λ z. pos scale *ℤ z) zs k (pos 0) (pos 0) in_zs in
-        rw (item, value) (scaled_item_passes path scale (length (take k axis)) (get_or zs k (pos 0)) (within k in_zs));
+          let in_zs : k < length zs = omega (arith, h, length-map zs integer) in
+          let item : get_or (map integer zs) k (boolean false) ≡ integer (get_or zs k (pos 0)) = get_or-map integer zs k (pos 0) (boolean false) in_zs in
+          let value : get_or axis k (pos 0) ≡ pos scale *ℤ get_or zs k (pos 0) = ap (λ ys. get_or ys k (pos 0)) same ∙ get_or-map (λ z. pos scale *ℤ z) zs k (pos 0) (pos 0) in_zs in
+          rw (item, value) (scaled_item_passes path scale (length (take k axis)) (get_or zs k (pos 0)) (within k in_zs));
     })
 
 axis_passes : (grid : Members) (key : List ℕ) (scale : ℕ) (name : AxisName) (axis : List ℤ) → 0 < scale → HoldsAxis grid key scale axis → IsAxis axis → IsWithin (scale * 10000) axis
@@ -106,8 +101,8 @@ axis_passes grid key scale name axis some holds is within =
     let long : length axis ≡ length zs = ap length holds.scaled ∙ length-map zs (λ z. pos scale *ℤ z) in
     let short : length (map integer zs) ≤ 2 ^ 32 - 1 = omega (arith, length-map zs integer, long, is.at_most) in
     let each_within : (k : ℕ) → k < length zs → unsigned_abs (get_or zs k (pos 0)) ≤ 10000 = λ k h.
-      let value : place_value axis k ≡ pos scale *ℤ get_or zs k (pos 0) = ap (λ ys. get_or ys k (pos 0)) holds.scaled ∙ get_or-map (λ z. pos scale *ℤ z) zs k (pos 0) (pos 0) h in
-      within_scaled scale (get_or zs k (pos 0)) some (subst (λ z. unsigned_abs z ≤ scale * 10000) value (within.bounded k (omega (arith, h, long)))) in
+    let value : place_value axis k ≡ pos scale *ℤ get_or zs k (pos 0) = ap (λ ys. get_or ys k (pos 0)) holds.scaled ∙ get_or-map (λ z. pos scale *ℤ z) zs k (pos 0) (pos 0) h in
+    within_scaled scale (get_or zs k (pos 0)) some (subst (λ z. unsigned_abs z ≤ scale * 10000) value (within.bounded k (omega (arith, h, long)))) in
     rw (list_at_passes grid (codes "grid") key 0 (2 ^ 32 - 1) (map integer zs) holds.there (omega arith) short, scaled_passes (key_path (codes "grid") key) scale zs axis holds.scaled each_within, is_axis axis is) refl
 
 abbrev pub axes_in : ModelData → Axes

@@ -1,5 +1,5 @@
 -- An accepted text says its model.
-use Rattle.std.proofs.Common.{◌≡◌, ℕ, ◌+◌, ◌*◌, ◌<◌, ◌≤◌, true, false, List, [], length, map, get_or, codes, pos, IsUtf8, Option, Some, None, Result, Ok, Err, refl, sym, subst, ap, ◌∙◌, inl, inr, arith}
+use Rattle.std.proofs.Common.{◌≡◌, ℕ, ◌<◌, false, List, [], length, map, get_or, codes, pos, IsUtf8, Option, Some, None, Result, Ok, Err, refl, sym, subst, ap, ◌∙◌, inl, inr, arith}
 use Rattle.std.specs.Str.{is_utf8}
 use Rattle.std.proofs.lemmas.Bool.{cases_Bool}
 use Rattle.std.proofs.lemmas.List.{get_or-map, length-map}
@@ -7,8 +7,7 @@ use Rattle.std.proofs.lemmas.Str.{IsUtf8-from_is_utf8}
 use Rattle.toml.specs.Data.{Data, Members, no_members, table, boolean}
 use Rattle.toml.specs.Data as datum
 use Rattle.toml.specs.Parse.{parse_document}
-use Rattle.acas_spec.specs.Steps.{◌>>=◌, ◌>>◌}
-use Rattle.acas_spec.specs.Model.{ModelData, advisory_at, choices_at, point_at}
+use Rattle.acas_spec.specs.Model.{ModelData}
 use Rattle.acas_spec.specs.declared.parts.SigmaPoint.{SigmaPoint}
 use Rattle.acas_spec.proofs.Each.{bind_ok, same_ok}
 use Rattle.acas_model.specs.declared.axes.Axes.{Axes}
@@ -23,11 +22,10 @@ use Rattle.acas_model.specs.Noise.{points_of, weights}
 use Rattle.acas_model.specs.Whole.{top_keys, version_of, horizon_of, window, few_entries, horizon_built, grid_from, model_with, model_in, model_of}
 use Rattle.acas_model.specs.Text.{HasOnly, HoldsWhole, HoldsList, HoldsTable, HoldsTables, IsGridText, IsPuckText, IsClosingText, IsPilotText, IsCostText, IsAdvisoryText, IsSigmaText, IsDocumentText, IsModelText}
 use Rattle.acas_model.proofs.Places.{same_lists}
-use Rattle.acas_model.proofs.ReadNumbers.{step_ok, passed_ok, only_ok, IsNumber, number_ok, IsTable, IsReadNumbers, numbers_ok}
+use Rattle.acas_model.proofs.ReadNumbers.{step_ok, passed_ok, only_ok, number_ok, IsTable, IsReadNumbers, numbers_ok}
 use Rattle.acas_model.proofs.ReadAxes.{IsReadAxes, axes_ok}
-use Rattle.acas_model.proofs.ReadAdvisories.{IsReadAdvisory, IsReadAdvisoryItem, no_advisory}
-use Rattle.acas_model.proofs.ReadChoices.{IsReadChoices, IsReadChoicesItem}
-use Rattle.acas_model.proofs.ReadNoise.{IsReadPoint, AreReadPoints, points_ok, weights_ok, no_point}
+use Rattle.acas_model.proofs.ReadChoices.{IsReadChoices}
+use Rattle.acas_model.proofs.ReadNoise.{AreReadPoints, points_ok, weights_ok}
 use Rattle.acas_model.proofs.Accepted.{IsReadAdvised, advised_ok, horizon_ok, window_ok, entries_ok, built_ok, accepted}
 
 -- ---- the document
@@ -70,10 +68,10 @@ tables_again : (ds : List Data) → ((k : ℕ) → k < length ds → (t : Member
 unfolding tables members
 tables_again ds at =
     same_lists ds (map table (map members ds)) (boolean false) (sym (length-map (map members ds) table ∙ length-map ds members)) (λ k within.
-      let inner = at k within in
-      let here : get_or (map table (map members ds)) k (boolean false) ≡ table (members (get_or ds k (boolean false))) =
-        get_or-map table (map members ds) k no_members (boolean false) (omega (arith, within, length-map ds members)) ∙ ap table (get_or-map members ds k (boolean false) no_members within) in
-      inner.1 ∙ ap (λ d. table (members d)) (sym inner.1) ∙ sym here)
+    let inner = at k within in
+    let here : get_or (map table (map members ds)) k (boolean false) ≡ table (members (get_or ds k (boolean false))) =
+    get_or-map table (map members ds) k no_members (boolean false) (omega (arith, within, length-map ds members)) ∙ ap table (get_or-map members ds k (boolean false) no_members within) in
+    inner.1 ∙ ap (λ d. table (members d)) (sym inner.1) ∙ sym here)
 
 tables_long : (ds : List Data) → length (tables ds) ≡ length ds
 unfolding tables
@@ -95,23 +93,23 @@ advisories_say doc horizon axes numbers advised points given = record {
   there = subst (HoldsList doc (codes "advisory")) (tables_again given.items (λ k within. ((given.each.at k within).inner, (given.each.at k within).there))) given.there;
   long = tables_long given.items ∙ sym given.each.long;
   keys = λ k within.
-    let in_items : k < length given.items = omega (arith, within, given.each.long) in
-    let item = given.each.at k in_items in
-    subst (HasOnly (codes "name lo hi choices costs")) (table_there given.items k item.inner in_items item.there) item.says.keys;
+      let in_items : k < length given.items = omega (arith, within, given.each.long) in
+      let item = given.each.at k in_items in
+      subst (HasOnly (codes "name lo hi choices costs")) (table_there given.items k item.inner in_items item.there) item.says.keys;
   says = λ k within.
-    let in_items : k < length given.items = omega (arith, within, given.each.long) in
-    let item = given.each.at k in_items in
-    let list = given.lists.at k in_items in
-    let here = table_there given.items k item.inner in_items item.there in
-    let again : list.inner ≡ item.inner = table_there given.items k list.inner in_items list.there ∙ sym here in
-    let chosen = subst (λ t. IsReadChoices advised.advisories t (get_or advised.choices k [])) again list.says in
-    subst (IsAdvisoryText (model_with (grid_from horizon axes advised) numbers advised.advisories advised.choices points) k) here (record {
-      name = item.says.name;
-      lo = item.says.lo;
-      hi = item.says.hi;
-      choices = chosen.choices;
-      costs = chosen.costs;
-    });
+      let in_items : k < length given.items = omega (arith, within, given.each.long) in
+      let item = given.each.at k in_items in
+      let list = given.lists.at k in_items in
+      let here = table_there given.items k item.inner in_items item.there in
+      let again : list.inner ≡ item.inner = table_there given.items k list.inner in_items list.there ∙ sym here in
+      let chosen = subst (λ t. IsReadChoices advised.advisories t (get_or advised.choices k [])) again list.says in
+      subst (IsAdvisoryText (model_with (grid_from horizon axes advised) numbers advised.advisories advised.choices points) k) here (record {
+        name = item.says.name;
+        lo = item.says.lo;
+        hi = item.says.hi;
+        choices = chosen.choices;
+        costs = chosen.costs;
+      });
 }
 
 points_say : (doc : Members) (m : ModelData) → AreReadPoints doc m.points → HoldsTables doc (codes "sigma") (codes "weight own intruder") (length m.points) (IsSigmaText m)
@@ -120,13 +118,13 @@ points_say doc m read = record {
   there = subst (HoldsList doc (codes "sigma")) (tables_again read.items (λ k within. ((read.at k within).inner, (read.at k within).there))) read.there;
   long = tables_long read.items ∙ sym read.long;
   keys = λ k within.
-    let in_items : k < length read.items = omega (arith, within, read.long) in
-    let item = read.at k in_items in
-    subst (HasOnly (codes "weight own intruder")) (table_there read.items k item.inner in_items item.there) item.says.keys;
+      let in_items : k < length read.items = omega (arith, within, read.long) in
+      let item = read.at k in_items in
+      subst (HasOnly (codes "weight own intruder")) (table_there read.items k item.inner in_items item.there) item.says.keys;
   says = λ k within.
-    let in_items : k < length read.items = omega (arith, within, read.long) in
-    let item = read.at k in_items in
-    subst (IsSigmaText m k) (table_there read.items k item.inner in_items item.there) (record { weight = item.says.weight; own = item.says.own; intruder = item.says.intruder });
+      let in_items : k < length read.items = omega (arith, within, read.long) in
+      let item = read.at k in_items in
+      subst (IsSigmaText m k) (table_there read.items k item.inner in_items item.there) (record { weight = item.says.weight; own = item.says.own; intruder = item.says.intruder });
 }
 
 -- the version, which is read and not kept

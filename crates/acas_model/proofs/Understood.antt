@@ -1,12 +1,9 @@
 -- A text that says a model within its limits is accepted with that model.
-use Rattle.std.proofs.Common.{◌≡◌, ℕ, ◌≤◌, List, codes, pos, nat_le, ◌==◌, sum_by, Some, Result, Ok, Err, refl, sym, subst, ap, ◌∙◌, arith}
+use Rattle.std.proofs.Common.{◌≡◌, ℕ, ◌≤◌, List, codes, sum_by, Ok, refl, sym, subst, ap, ◌∙◌, arith}
 use Rattle.std.proofs.lemmas.Bool.{le-leb}
 use Rattle.toml.specs.Data.{Members}
-use Rattle.acas_spec.specs.Steps.{◌>>=◌, ◌>>◌}
 use Rattle.acas_spec.specs.Model.{ModelData, GridData, entries, weight_of}
 use Rattle.acas_spec.specs.Accepted.{IsAccepted}
-use Rattle.acas_model.specs.declared.fault.ModelFault.{ModelFault}
-use Rattle.acas_model.specs.Document.{document_of}
 use Rattle.acas_model.specs.Noise.{weights}
 use Rattle.acas_model.specs.Whole.{top_keys, version_of, horizon_of, window, few_entries, horizon_built, grid_from, model_with, model_in, model_of}
 use Rattle.acas_model.specs.Text.{IsDocumentText, IsModelText}
@@ -70,7 +67,7 @@ understood bytes m says =
     let grid = grid_again m valid in
     let few : few_entries (grid_from m.grid.horizon (axes_in m) (advised_in m)) ≡ Ok tt = entries_pass _ (subst (λ g. entries g ≤ 4000000) (sym grid) valid.grid.entries) in
     let built : model_with (grid_from m.grid.horizon (axes_in m) (advised_in m)) (numbers_in m) m.advisories m.choices m.points ≡ m =
-      ap (λ g. model_with g (numbers_in m) m.advisories m.choices m.points) grid ∙ model_again m says.no_delay in
+    ap (λ g. model_with g (numbers_in m) m.advisories m.choices m.points) grid ∙ model_again m says.no_delay in
     rw (
       document_read bytes doc says.text says.toml,
       keys_pass doc m says.keys,

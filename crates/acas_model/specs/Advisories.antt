@@ -35,6 +35,7 @@ advisory_item place d = do
   table ← in_doc (table_item (codes "advisory") place d)
   advisory_of table (item_path (codes "advisory") place) place
 
+-- each item of the list is one
 unfoldable pub advisory_items : List Data → Result (List Advisory) ModelFault
 advisory_items ds = each (λ before d. advisory_item (length before) d) [] ds
 

@@ -37,6 +37,7 @@ grid_table doc = closed_table doc (codes "grid") (codes "altitude own_rate intru
 unfoldable pub altitudes : Members → Result (List ℤ) ModelFault
 altitudes grid = axis_at grid (codes "altitude") 120 Altitude
 
+-- rates are in ft/min in the file and in the model
 unfoldable pub own_rates : Members → Result (List ℤ) ModelFault
 own_rates grid = axis_at grid (codes "own_rate") 1 OwnRate
 

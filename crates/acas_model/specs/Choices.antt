@@ -33,12 +33,15 @@ choice_item advisories path advisory before d = do
   a ← or_unknown advisory (length before) (named advisories name)
   first_time advisory before a
 
+-- the numbers of the advisories that a list names
 unfoldable pub choice_items : List Advisory → List ℕ → ℕ → List Data → Result (List ℕ) ModelFault
 choice_items advisories path advisory ds = each (choice_item advisories path advisory) [] ds
 
+-- a cost is a whole number from -10^9 to 10^9
 unfoldable pub cost_item : List ℕ → ℕ → Data → Result ℤ ModelFault
 cost_item path place d = in_doc (whole_item path place (negsuc 999999999) (pos 1000000000) d)
 
+-- the costs of a list
 unfoldable pub cost_items : List ℕ → List Data → Result (List ℤ) ModelFault
 cost_items path ds = each (λ before d. cost_item path (length before) d) [] ds
 
@@ -60,14 +63,17 @@ choices_of advisories table path advisory = do
   costs ← cost_items (key_path path (codes "costs")) cost_list
   Ok (choices_from chosen costs)
 
+-- what may be chosen under the advisory at a place of the list `advisory`
 unfoldable pub choices_item : List Advisory → ℕ → Data → Result (List Choice) ModelFault
 choices_item advisories place d = do
   table ← in_doc (table_item (codes "advisory") place d)
   choices_of advisories table (item_path (codes "advisory") place) place
 
+-- what may be chosen under each advisory
 unfoldable pub choice_lists : List Advisory → List Data → Result (List (List Choice)) ModelFault
 choice_lists advisories ds = each (λ before d. choices_item advisories (length before) d) [] ds
 
+-- the advisories by number, and what may be chosen under each
 pub record Advised : Type 0 where
   pub advisories : List Advisory
   pub choices : List (List Choice)

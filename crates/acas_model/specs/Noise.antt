@@ -11,7 +11,7 @@ use Rattle.acas_model.specs.declared.fault.ModelFault.{ModelFault}
 use Rattle.acas_model.specs.declared.fault.ModelFault.TheVariants.{Weights}
 use Rattle.acas_model.specs.Document.{in_doc}
 
--- the table of a sigma point
+-- the table of a sigma point: its keys, its weight, its changes of both rates
 unfoldable pub point_of : Members → List ℕ → Result SigmaPoint ModelFault
 point_of table path = do
   in_doc (only_known path (codes "weight own intruder") table)
@@ -20,11 +20,13 @@ point_of table path = do
   intruder ← in_doc (whole_at table path (codes "intruder") (negsuc 4999) (pos 5000))
   Ok (record { weight = weight; own = own; intruder = intruder })
 
+-- an item of the list is such a table
 unfoldable pub point_item : ℕ → Data → Result SigmaPoint ModelFault
 point_item place d = do
   table ← in_doc (table_item (codes "sigma") place d)
   point_of table (item_path (codes "sigma") place)
 
+-- each item of the list is one
 unfoldable pub point_items : List Data → Result (List SigmaPoint) ModelFault
 point_items ds = each (λ before d. point_item (length before) d) [] ds
 

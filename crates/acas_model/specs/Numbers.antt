@@ -26,7 +26,7 @@ puck_of doc = do
   feet ← half_height puck
   Ok (record { radius = radius; half = 120 * feet })
 
--- the closing speeds, in ft/s
+-- the least closing speed, then the greatest, which is not below it, in ft/s
 unfoldable pub closing_of : Members → Result Closing ModelFault
 closing_of doc = do
   closing ← closed_table doc (codes "closing") (codes "least greatest")
@@ -34,7 +34,7 @@ closing_of doc = do
   greatest ← number_at closing (codes "closing") (codes "greatest") least 5000
   Ok (record { least = least; greatest = greatest })
 
--- the accelerations of a pilot, in ft/min per second
+-- the least acceleration of a pilot who follows an advisory, then the greatest, which is not below it, in ft/min per second
 unfoldable pub pilot_of : Members → Result Pilot ModelFault
 pilot_of doc = do
   pilot ← closed_table doc (codes "pilot") (codes "pull limit")
@@ -42,7 +42,7 @@ pilot_of doc = do
   limit ← number_at pilot (codes "pilot") (codes "limit") pull 2000
   Ok (record { pull = pull; limit = limit })
 
--- the cost of contact
+-- the cost of contact, in units
 unfoldable pub contact_of : Members → Result ℤ ModelFault
 contact_of doc = do
   cost ← closed_table doc (codes "cost") (codes "contact")

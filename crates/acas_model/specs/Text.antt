@@ -58,14 +58,17 @@ pub record IsPuckText (m : ModelData) (t : Members) : Type 0 where
   pub half_height : HoldsWhole t (codes "half_height") (pos feet)
   pub half : m.half ≡ 120 * feet
 
+-- closing speeds are in ft/s
 pub record IsClosingText (m : ModelData) (t : Members) : Type 0 where
   pub least : HoldsWhole t (codes "least") (pos m.least)
   pub greatest : HoldsWhole t (codes "greatest") (pos m.greatest)
 
+-- accelerations are in ft/min per second
 pub record IsPilotText (m : ModelData) (t : Members) : Type 0 where
   pub pull : HoldsWhole t (codes "pull") (pos m.pull)
   pub limit : HoldsWhole t (codes "limit") (pos m.limit)
 
+-- the cost of contact is in units
 pub record IsCostText (m : ModelData) (t : Members) : Type 0 where
   pub contact : HoldsWhole t (codes "contact") m.contact
 
@@ -77,6 +80,7 @@ pub record IsAdvisoryText (m : ModelData) (p : ℕ) (t : Members) : Type 0 where
   pub choices : HoldsList t (codes "choices") (map (λ c. string (advisory_at m c.advisory).name) (choices_at m p))
   pub costs : HoldsList t (codes "costs") (map (λ c. integer c.cost) (choices_at m p))
 
+-- a sigma point stands as its weight and its changes of both rates
 pub record IsSigmaText (m : ModelData) (q : ℕ) (t : Members) : Type 0 where
   pub weight : HoldsWhole t (codes "weight") (point_at m q).weight
   pub own : HoldsWhole t (codes "own") (point_at m q).own

@@ -5,6 +5,7 @@ use Rattle.acas_spec.specs.Accepted.{IsAccepted}
 use Rattle.acas_model.specs.declared.model.Model.TheInside.{Inside}
 use Rattle.acas_model.specs.Whole.{model_with}
 
+-- the numbers of each part under the names of the plain data
 abbrev pub model_view : Inside → ModelData
 model_view m = model_with m.grid m.numbers m.advisories.items (map (λ v. v.items) m.choices.items) m.points.items
 

@@ -110,6 +110,7 @@ fn choice_items(
     Ok(chosen)
 }
 
+/// The cost at a place of a list.
 #[tactic(auto, unfolding(crate::specs::Choices::cost_item))]
 fn cost_item(alloc: Global, items: &[Value], path: &[u8], place: u32) -> Result<i64, ModelFault>
     requires { place < length items.now }
@@ -131,6 +132,7 @@ fn cost_items(alloc: Global, items: &[Value], path: &[u8]) -> Result<Vec<i64>, M
     Ok(costs)
 }
 
+/// Each choice with its cost.
 fn paired(alloc: Global, chosen: &[u8], costs: &[i64]) -> Result<Vec<Choice>, AllocError>
     ensures { IfOk result (λ v. v.items ≡ rules.choices_from chosen.now costs.now) }
 {

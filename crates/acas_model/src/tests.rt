@@ -1,5 +1,6 @@
 //! Texts of models, and what is said of each.
 use crate::fault::{AxisName, ModelFault, NamePlace};
+use crate::laws::accepted_texts_say_their_models;
 use crate::model::Model;
 use crate::whole::read_model;
 use acas_doc::DocKind;
@@ -64,6 +65,7 @@ fn says_numbers(model: &Model) -> bool {
 
 #[test]
 fn reads_any_spelling(rt: HostRuntime) {
+    accepted_texts_say_their_models();
     for text in [PLAIN, OTHER] {
         match read_model(rt.alloc(), text.as_bytes()) {
             Ok(model) => {
