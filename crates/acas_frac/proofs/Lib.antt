@@ -1,3 +1,4 @@
 pub mod SignedProducts
 pub mod RoundingLaws
 pub mod Lowest
+pub mod Bounds

@@ -121,9 +121,7 @@ impl Frac {
     {
         let (a, b) = self.parts();
         let (c, d) = other.parts();
-        let left = times(a, d);
-        let right = times(c, b);
-        let num = plus(left, right);
+        let num = plus(times(a, d), times(c, b));
         let den = times(b, d);
         Frac::lowest(num, den)
     }
@@ -136,9 +134,7 @@ impl Frac {
     {
         let (a, b) = self.parts();
         let (c, d) = other.parts();
-        let left = times(a, d);
-        let right = times(c, b);
-        let num = minus(left, right);
+        let num = minus(times(a, d), times(c, b));
         let den = times(b, d);
         Frac::lowest(num, den)
     }

@@ -1,5 +1,5 @@
 //! Fractions with signs, zero and numbers at the bounds, and quotients rounded both ways.
-ghost use Rattle.std.specs.Prelude.{◌^◌, ◌≤◌, IsTrue, unsigned_abs};
+ghost use Rattle.std.specs.Prelude.{◌^◌, ◌<◌, ◌≤◌, IsTrue, unsigned_abs};
 ghost use Rattle.acas_frac.specs.Fraction.{Fraction};
 
 use crate::frac::Frac;
@@ -65,6 +65,7 @@ fn fractions_are_in_lowest_terms(rt: HostRuntime) {
 
 // Whether products and sums with another such fraction are within the bounds.
 fn is_small(value: &Frac) -> bool
+    ensures some { 0 < Fraction.den value.now }
     ensures num { IsTrue result → unsigned_abs (Fraction.num value.now) ≤ 10 ^ 12 }
     ensures den { IsTrue result → Fraction.den value.now ≤ 10 ^ 6 }
 {

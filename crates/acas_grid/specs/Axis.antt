@@ -1,5 +1,5 @@
 -- Why a list of numbers is no axis, and where a number stands on one.
-use Rattle.std.specs.Prelude.{ℕ, ◌+◌, ◌-◌, ◌<◌, ◌≤◌, List, [], ◌∷◌, length, ℤ, int_lt, nat_lt, ◌≤ℤ◌, Option, Some, None, Result, Ok, Err, if◌then◌else◌}
+use Rattle.std.specs.Prelude.{ℕ, ◌+◌, ◌-◌, ◌<◌, ◌≤◌, List, [], ◌∷◌, length, ℤ, int_lt, nat_lt, ◌≤ℤ◌, ◌<ℤ◌, Option, Some, None, Result, Ok, Err, if◌then◌else◌}
 use Rattle.std.specs.Int.{int_max, int_min}
 use Rattle.acas_spec.specs.Axis.{place_value}
 use Rattle.acas_grid.specs.declared.axis.AxisFault.{AxisFault}
@@ -22,6 +22,12 @@ axis_of values =
     if nat_lt (length values) 2 then Err TooShort
     else if nat_lt 129 (length values) then Err TooLong
     else rising_or_fault values (first_fall 0 values)
+
+-- the number after a place is the first that is not above the one before it
+pub record IsFirstFall (values : List ℤ) (before : ℕ) : Type 0 where
+  pub inside : before + 1 < length values
+  pub falls : place_value values (before + 1) ≤ℤ place_value values before
+  pub rising : (place : ℕ) → place < before → place_value values place <ℤ place_value values (place + 1)
 
 -- the two ends of an axis
 abbrev pub first_value : List ℤ → ℤ

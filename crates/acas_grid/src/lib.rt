@@ -8,7 +8,7 @@ mod place;
 
 pub use axis::{Axis, AxisFault};
 pub use grid::Grid;
-pub use laws::numbers_are_one_to_one;
+pub use laws::{falls_are_first, numbers_are_one_to_one};
 pub use place::{Point, Vertex};
 
 #[cfg(test)]

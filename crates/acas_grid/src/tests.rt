@@ -23,6 +23,7 @@ fn fault_of_steps(alloc: Global, count: u8, step: i8) -> Result<Option<AxisFault
 #[test]
 fn axes_have_from_2_to_129_numbers_that_rise(rt: HostRuntime) {
     let alloc = rt.alloc();
+    crate::laws::falls_are_first();
     let falls: [(&[i64], Option<AxisFault>); 9] = [
         (&[], Some(AxisFault::TooShort)),
         (&[7], Some(AxisFault::TooShort)),
