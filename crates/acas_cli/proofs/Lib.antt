@@ -1,0 +1,7 @@
+mod BuiltHorizon
+mod Digits
+mod Lines
+mod Names
+mod Pushed
+mod StateNumbers
+mod ValuesLines

@@ -1,0 +1,11 @@
+use Rattle.std.proofs.Common.{◌≤◌}
+use Rattle.acas_print.specs.Printing.{Prints, below}
+use Rattle.acas_process.specs.Compiled.{compiled}
+use Rattle.acas_cli.specs.ValuesText.{state_line}
+use Rattle.acas_cli.proofs.table_lines.print_layer.Given as goal
+
+abbrev pub invariant-loop-state : goal.invariant-loop-state
+invariant-loop-state g l = record {
+  printed : Prints (g.O.Sink.written l.initial.out) (g.O.Sink.written l.out) l.initial.pen.buffer l.pen.buffer (below l.state (state_line l.model (compiled l.model) l.layer.n));
+  later : g.O.Sink.faults l.initial.out ≤ g.O.Sink.faults l.out;
+}

@@ -1,0 +1,14 @@
+pub mod Codes
+pub mod Words
+pub mod Forms
+pub mod Outcome
+pub mod Calls
+pub mod Outside
+pub mod ModelFile
+pub mod Answers
+pub mod FaultText
+pub mod ErrorLine
+pub mod LineParts
+pub mod ValuesText
+pub mod States
+pub mod Layer

@@ -1,0 +1,20 @@
+-- The forms of words.
+use Rattle.std.specs.Prelude.{ℕ, nat_le, not, ◌==◌, ◌&&◌, Bool, List, [], ◌∷◌, length, slice_index, Option, Some, None, if◌then◌else◌, codes}
+use Rattle.std.specs.Str.{bytes_eq}
+
+-- a command with the names of its files, each as the bytes of its word
+pub data Form : Type 0 where
+  Values : (model : List ℕ) → Form
+
+-- a file is named by 1 to 255 bytes that do not begin with `-`
+abbrev pub is_file_name : List ℕ → Bool
+is_file_name word = nat_le 1 (length word) && nat_le (length word) 255 && not (slice_index word 0 == 45)
+
+-- the form that the words have; most words have none
+abbrev pub form_of : List (List ℕ) → Option Form
+form_of (verb ∷ model ∷ []) = if bytes_eq verb (codes "values") && is_file_name model then Some (Values model) else None
+form_of words = None
+
+-- the files that a form names
+abbrev pub names_of : Form → List (List ℕ)
+names_of (Values model) = model ∷ []

@@ -1,0 +1,19 @@
+//! The top call: everything that the program `acas` does, over any folder and any two outputs.
+#![tactic(auto)]
+
+mod entry_lines;
+mod error_line;
+mod fault_text;
+mod line_fields;
+mod model_file;
+mod states;
+mod status;
+mod table_lines;
+mod terminal_layer;
+mod top_call;
+mod values;
+mod words;
+
+pub use status::{Cause, FileRole, Status, Work};
+pub use top_call::run;
+pub use words::{Command, command_of};

@@ -1,0 +1,104 @@
+//! The lines of a table, printed state by state.
+ghost use Rattle.std.specs.Prelude.{◌≡◌, ◌<◌, ◌≤◌, ◌++◌, [], IfOk, OnOk, OnErr, length};
+ghost use Rattle.acas_spec.specs.Model.{states};
+ghost use Rattle.acas_outside.specs.Bytes.{Appends, AppendsPart};
+ghost use Rattle.acas_outside.specs.Counts.{Rose};
+ghost use Rattle.acas_print.specs.Printing.{Prints};
+ghost use Rattle.acas_process.specs.Compiled.{compiled};
+ghost use Rattle.acas_cli.specs.Layer.{IsAdvised, IsLayer};
+ghost use Rattle.acas_cli.specs.ValuesText.{layer_lines, state_line};
+
+use crate::entry_lines::write_entry;
+use crate::states::{state_present, state_vertex};
+use acas_model::Model;
+use acas_outside::{Failed, Sink};
+use acas_print::PrintBuffer;
+use acas_units::{Line, Pair};
+use std::alloc::{AllocError, Global};
+
+/// What printing takes: a line to build in, and the bytes that wait to be written. Its memory is taken when it is made.
+#[derive(Drop)]
+pub(crate) struct Pen {
+    pub(crate) line: Line,
+    pub(crate) buffer: PrintBuffer,
+}
+
+impl Pen {
+    /// A pen that has printed nothing.
+    pub(crate) fn make(alloc: Global) -> Result<Pen, AllocError>
+        ensures { IfOk result (λ pen. pen.buffer ≡ []) }
+    {
+        let line = Line::make(alloc)?;
+        let buffer = PrintBuffer::make(alloc)?;
+        Ok(Pen { line, buffer })
+    }
+}
+
+/// A layer of a table: how many seconds are to go, and the values and the advice of each state by its number.
+#[derive(Clone, Copy)]
+pub(crate) struct Layer<'t> {
+    pub(crate) n: u32,
+    pub(crate) pairs: &'t [Pair],
+    pub(crate) advice: &'t [u8],
+}
+
+/// Prints the lines of a layer of the compiled table.
+pub(crate) fn print_layer<O: Sink>(
+    model: &Model,
+    layer: &Layer<'_>,
+    pen: &mut Pen,
+    out: &mut O,
+) -> Result<(), Failed>
+    requires layer { IsLayer model.now (compiled model.now) layer.now.n layer.now.pairs.now layer.now.advice.now }
+    requires advised { IsAdvised model.now.grid layer.now.n layer.now.advice.now }
+    ensures ok { OnOk result (Prints (O.written out.old) (O.written out.new) pen.old.buffer pen.new.buffer (layer_lines model.now (compiled model.now) layer.now.n)) }
+    ensures err { OnErr result (AppendsPart (O.written out.old) (O.written out.new) (pen.old.buffer ++ layer_lines model.now (compiled model.now) layer.now.n)) }
+    ensures failed { OnErr result (Rose (O.faults out.old) (O.faults out.new)) }
+    ensures faults { O.faults out.old ≤ O.faults out.new }
+{
+    for state in 0..model.grid().states() {
+        print_state(model, layer, state, pen, out)?;
+    }
+    Ok(())
+}
+
+// Prints the line of a state.
+fn print_state<O: Sink>(
+    model: &Model,
+    layer: &Layer<'_>,
+    state: u32,
+    pen: &mut Pen,
+    out: &mut O,
+) -> Result<(), Failed>
+    requires layer { IsLayer model.now (compiled model.now) layer.now.n layer.now.pairs.now layer.now.advice.now }
+    requires advised { IsAdvised model.now.grid layer.now.n layer.now.advice.now }
+    requires state { state < states model.now.grid }
+    ensures ok { OnOk result (Prints (O.written out.old) (O.written out.new) pen.old.buffer pen.new.buffer (state_line model.now (compiled model.now) layer.now.n state)) }
+    ensures err { OnErr result (AppendsPart (O.written out.old) (O.written out.new) (pen.old.buffer ++ state_line model.now (compiled model.now) layer.now.n state)) }
+    ensures failed { OnErr result (Rose (O.faults out.old) (O.faults out.new)) }
+    ensures faults { O.faults out.old ≤ O.faults out.new }
+{
+    write_state(&mut pen.line, model, layer, state);
+    pen.buffer.print(out, pen.line.bytes())?;
+    Ok(())
+}
+
+// Makes the line of a state.
+fn write_state(line: &mut Line, model: &Model, layer: &Layer<'_>, state: u32)
+    requires layer { IsLayer model.now (compiled model.now) layer.now.n layer.now.pairs.now layer.now.advice.now }
+    requires advised { IsAdvised model.now.grid layer.now.n layer.now.advice.now }
+    requires state { state < states model.now.grid }
+    ensures value { line.new ≡ state_line model.now (compiled model.now) layer.now.n state }
+    ensures short { length line.new ≤ 1024 }
+{
+    let grid = model.grid();
+    write_entry(
+        line,
+        model,
+        layer.n,
+        state_present(grid, state),
+        state_vertex(grid, state),
+        layer.pairs[state as usize],
+        layer.advice[state as usize],
+    );
+}

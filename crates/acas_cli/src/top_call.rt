@@ -1,0 +1,91 @@
+//! The top call.
+ghost use Rattle.std.specs.Prelude.{◌≡◌, ◌↔◌, IsTrue, All, None, map, string_bytes};
+ghost use Rattle.acas_outside.specs.Outside.{outside};
+ghost use Rattle.acas_cli.specs.declared.status.Cause.TheVariants.{Words};
+ghost use Rattle.acas_cli.specs.Answers.{Answers, AnswersForm};
+ghost use Rattle.acas_cli.specs.Calls.{CallsFor};
+ghost use Rattle.acas_cli.specs.Forms.{form_of_command};
+ghost use Rattle.acas_cli.specs.Codes.{code_of};
+ghost use Rattle.acas_cli.specs.ErrorLine.{Reports};
+ghost use Rattle.acas_cli.specs.Words.{form_of, names_of};
+
+use crate::error_line::{report, report_memory, report_words};
+use crate::status::{Cause, Status, Work};
+use crate::values::values;
+use crate::words::{Command, command_of};
+use acas_outside::{Folder, Sink};
+use acas_units::Line;
+use std::alloc::Global;
+
+/// Does all that the program does, for the words after its name: the command that they are the form of, over this folder,
+/// with its output on `out` and, where it is not done, one line on `err`.
+pub fn run<F: Folder, O: Sink, E: Sink>(
+    alloc: Global,
+    words: &[String],
+    folder: &mut F,
+    out: &mut O,
+    err: &mut E,
+    _work: &mut Work,
+) -> Status
+    requires served { All (λ word. IsTrue (F.serves folder.old word)) (map string_bytes words.now) }
+
+    // Words of no form are refused, and no others.
+    ensures words { (result.cause ≡ Words) ↔ (form_of (map string_bytes words.now) ≡ None) }
+
+    // Each answer has its cause, and what is printed and stored is what the words call for.
+    ensures answers { AnswersForm (form_of (map string_bytes words.now)) result.cause
+        (outside F.holds F.misses F.faults O.written O.faults folder.old out.old)
+        (outside F.holds F.misses F.faults O.written O.faults folder.new out.new) }
+    ensures code { result.code ≡ code_of result.cause }
+    ensures line { Reports result.cause (map string_bytes words.now) (E.written err.old) (E.written err.new) (E.faults err.old) (E.faults err.new) }
+{
+    let cause = answer_and_report(alloc, words, folder, out, err);
+    Status {
+        code: cause.code(),
+        cause,
+    }
+}
+
+fn answer_and_report<F: Folder, O: Sink, E: Sink>(
+    alloc: Global,
+    words: &[String],
+    folder: &mut F,
+    out: &mut O,
+    err: &mut E,
+) -> Cause
+    requires served { All (λ word. IsTrue (F.serves folder.old word)) (map string_bytes words.now) }
+    ensures words { (result ≡ Words) ↔ (form_of (map string_bytes words.now) ≡ None) }
+    ensures answers { AnswersForm (form_of (map string_bytes words.now)) result
+        (outside F.holds F.misses F.faults O.written O.faults folder.old out.old)
+        (outside F.holds F.misses F.faults O.written O.faults folder.new out.new) }
+    ensures line { Reports result (map string_bytes words.now) (E.written err.old) (E.written err.new) (E.faults err.old) (E.faults err.new) }
+{
+    let Some(command) = command_of(words) else {
+        report_words(words, err);
+        return Cause::Words;
+    };
+    let Ok(mut line) = Line::make(alloc) else {
+        report_memory(words, err);
+        return Cause::Memory;
+    };
+    let cause = answer(alloc, &command, folder, out);
+    report(words, &cause, &mut line, err);
+    cause
+}
+
+// The answer to a command.
+fn answer<F: Folder, O: Sink>(
+    alloc: Global,
+    command: &Command<'_>,
+    folder: &mut F,
+    out: &mut O,
+) -> Cause
+    requires served { All (λ name. IsTrue (F.serves folder.old name)) (names_of (form_of_command command.now)) }
+    ensures { Answers (CallsFor (form_of_command command.now)) result
+        (outside F.holds F.misses F.faults O.written O.faults folder.old out.old)
+        (outside F.holds F.misses F.faults O.written O.faults folder.new out.new) }
+{
+    match command {
+        Command::Values { model } => values(alloc, model, folder, out),
+    }
+}
