@@ -1,22 +1,29 @@
 //! Words of no form.
 use crate::setting::Setting;
 use acas_cli::Cause;
+use std::alloc::Global;
+use std::process::Abort;
 use std::test::Fail;
+
+fn refused(rt: &impl Abort, alloc: Global, texts: &[&str]) -> Result<(), Fail> {
+    let mut at = Setting::make(alloc, &[], &[], 4096)?;
+    let status = at.run(alloc, texts)?;
+    assert_eq!(rt; status.code, 2);
+    assert!(rt; matches!(status.cause, Cause::Words));
+    assert_eq!(rt; at.out.written(), b"".as_slice());
+    assert_eq!(rt; at.err.written(), b"acas: words refused\n".as_slice());
+    Ok(())
+}
 
 #[test]
 fn words_of_no_form_are_refused(rt: HostRuntime) -> Result<(), Fail> {
     let alloc = rt.alloc();
-    let mut long = String::new(alloc);
-    for _ in 0..256 {
-        long.push_str("n")?;
-    }
-    let rows: [&[&str]; 14] = [
+    let rows: [&[&str]; 13] = [
         &[],
         &["values"],
         &["values", "a", "a"],
         &["values", "-a"],
         &["values", ""],
-        &["values", &long],
         &["Values", "a"],
         &["audit", "--reported", "c", "t"],
         &["audit", "c", "--reported"],
@@ -27,17 +34,24 @@ fn words_of_no_form_are_refused(rt: HostRuntime) -> Result<(), Fail> {
         &[""],
     ];
     for texts in rows {
-        let mut at = Setting::make(alloc, &[], &[], 4096)?;
-        let status = at.run(alloc, texts)?;
-        assert_eq!(rt; status.code, 2);
-        assert!(rt; matches!(status.cause, Cause::Words));
-        assert_eq!(rt; at.out.written(), b"".as_slice());
-        assert_eq!(rt; at.err.written(), b"acas: words refused\n".as_slice());
+        refused(&rt, alloc, texts)?;
+    }
+    Ok(())
+}
+
+#[test]
+fn a_name_has_at_most_255_bytes(rt: HostRuntime) -> Result<(), Fail> {
+    let alloc = rt.alloc();
+    let mut name = String::new(alloc);
+    for _ in 0..255 {
+        name.push_str("n")?;
     }
 
-    // A name of 255 bytes is a form: the file is looked for.
+    // The file is looked for.
     let mut at = Setting::make(alloc, &[], &[], 4096)?;
-    let status = at.run(alloc, &["values", &long[1..]])?;
+    let status = at.run(alloc, &["values", &name])?;
     assert_eq!(rt; status.code, 3);
-    Ok(())
+
+    name.push_str("n")?;
+    refused(&rt, alloc, &["values", &name])
 }
