@@ -239,12 +239,6 @@ fn names_the_first_rule(rt: HostRuntime) {
     );
     assert!(rt;
         matches!(
-            fault_of(alloc, "horizon = 0", "horizon = 1"),
-            Some(ModelFault::HorizonNotBuilt)
-        )
-    );
-    assert!(rt;
-        matches!(
             fault_of(
                 alloc,
                 "radius = 500\nhalf_height = 100\n[closing]\nleast = 500",
