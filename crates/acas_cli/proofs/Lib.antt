@@ -1,7 +1,4 @@
-mod BuiltHorizon
 mod Digits
 mod Lines
 mod Names
-mod Pushed
-mod StateNumbers
-mod ValuesLines
+mod TableLines

@@ -20,7 +20,6 @@ fault_line (fault.Weights total) words = refl
 fault_line (fault.Window needed allowed) words = refl
 fault_line (fault.TooManyEntries entries) words = refl
 fault_line fault.Memory words = refl
-fault_line fault.HorizonNotBuilt words = refl
 
 pub line_of_its_parts : (cause : Cause) (words : List (List ℕ)) → line_of_parts (line_head cause) (line_subject cause words) (line_tail cause) ≡ error_line cause words
 line_of_its_parts Done words = refl

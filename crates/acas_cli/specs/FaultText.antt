@@ -65,5 +65,4 @@ fault_text (fault.RepeatedName at) = repeated_text at.advisory at.choice
 fault_text (fault.Weights total) = weights_text total
 fault_text (fault.Window needed allowed) = window_text needed allowed
 fault_text (fault.TooManyEntries entries) = entries_text entries
-fault_text fault.HorizonNotBuilt = codes "horizon not built"
 fault_text fault.Memory = codes "out of memory"

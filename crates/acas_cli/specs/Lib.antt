@@ -10,5 +10,3 @@ pub mod FaultText
 pub mod ErrorLine
 pub mod LineParts
 pub mod ValuesText
-pub mod States
-pub mod Layer

@@ -5,7 +5,7 @@ use Rattle.acas_spec.specs.Axis.{place_value}
 use Rattle.acas_spec.specs.Model.{ModelData, advisory_at, states}
 use Rattle.acas_units.specs.Printed.{millionths}
 use Rattle.acas_print.specs.Printing.{below}
-use Rattle.acas_cli.specs.States.{state_present, state_vertex}
+use Rattle.acas_step.specs.States.{state_present, state_vertex}
 use Rattle.acas_grid.specs.declared.place.Vertex.{Vertex}
 use Rattle.acas_process.specs.Bounds.{Table}
 use Rattle.acas_process.specs.Compiled.{compiled}

@@ -41,7 +41,6 @@ fn write_fault_tail(line: &mut Line, fault: &ModelFault)
         ModelFault::Window { needed, allowed } => write_window(line, *needed, *allowed),
         ModelFault::TooManyEntries { entries } => write_entries(line, *entries),
         ModelFault::Memory => put_text(line, "out of memory"),
-        ModelFault::HorizonNotBuilt => put_text(line, "horizon not built"),
     }
 }
 

@@ -18,7 +18,6 @@ pub(crate) fn read_model_file<F: Folder>(
 ) -> Result<Model, Cause>
     requires { IsTrue (F.serves folder.old name.now) }
     ensures ok { IfOk result (λ m. Given (F.holds folder.old) name.now (λ file. IsModelFile file m)) }
-    ensures built { IfOk result (λ m. m.grid.horizon ≡ 0) }
     ensures err { IfErr result (λ cause. RefusesModel name.now cause (beside F.holds F.misses F.faults folder.old) (beside F.holds F.misses F.faults folder.new)) }
     ensures holds { F.holds folder.new ≡ F.holds folder.old }
     ensures serves { F.serves folder.new ≡ F.serves folder.old }

@@ -5,14 +5,16 @@ ghost use Rattle.acas_outside.specs.Bytes.{Appends, AppendsPart};
 ghost use Rattle.acas_outside.specs.Counts.{Rose};
 ghost use Rattle.acas_print.specs.Printing.{Prints};
 ghost use Rattle.acas_process.specs.Compiled.{compiled};
-ghost use Rattle.acas_cli.specs.Layer.{IsAdvised, IsLayer};
-ghost use Rattle.acas_cli.specs.ValuesText.{layer_lines, state_line};
+ghost use Rattle.acas_sweep.specs.Layer.{IsAdvised, IsLayer};
+ghost use Rattle.acas_sweep.specs.Layers.{AreLayers};
+ghost use Rattle.acas_cli.specs.ValuesText.{layer_lines, state_line, table_lines, values_text};
 
 use crate::entry_lines::write_entry;
-use crate::states::{state_present, state_vertex};
 use acas_model::Model;
 use acas_outside::{Failed, Sink};
 use acas_print::PrintBuffer;
+use acas_step::{state_present, state_vertex};
+use acas_sweep::{Layers, advices_are_advisories};
 use acas_units::{Line, Pair};
 use std::alloc::{AllocError, Global};
 
@@ -36,14 +38,79 @@ impl Pen {
 
 /// A layer of a table: how many seconds are to go, and the values and the advice of each state by its number.
 #[derive(Clone, Copy)]
-pub(crate) struct Layer<'t> {
-    pub(crate) n: u32,
-    pub(crate) pairs: &'t [Pair],
-    pub(crate) advice: &'t [u8],
+struct Layer<'t> {
+    n: u32,
+    pairs: &'t [Pair],
+    advice: &'t [u8],
 }
 
-/// Prints the lines of a layer of the compiled table.
-pub(crate) fn print_layer<O: Sink>(
+/// Prints all lines of the compiled table, which has these layers, with a pen that has printed nothing.
+pub(crate) fn print_table<O: Sink>(
+    model: &Model,
+    layers: &Layers,
+    pen: &mut Pen,
+    out: &mut O,
+) -> Result<(), Failed>
+    requires layers { AreLayers model.now layers.now }
+    requires empty { pen.old.buffer ≡ [] }
+    ensures ok { OnOk result (Appends (O.written out.old) (O.written out.new) (values_text model.now)) }
+    ensures err { OnErr result (AppendsPart (O.written out.old) (O.written out.new) (values_text model.now)) }
+    ensures failed { OnErr result (Rose (O.faults out.old) (O.faults out.new)) }
+    ensures faults { O.faults out.old ≤ O.faults out.new }
+{
+    print_layers(model, layers, pen, out)?;
+    pen.buffer.flush(out)?;
+    Ok(())
+}
+
+// Prints the lines of each layer.
+fn print_layers<O: Sink>(
+    model: &Model,
+    layers: &Layers,
+    pen: &mut Pen,
+    out: &mut O,
+) -> Result<(), Failed>
+    requires { AreLayers model.now layers.now }
+    ensures ok { OnOk result (Prints (O.written out.old) (O.written out.new) pen.old.buffer pen.new.buffer (table_lines model.now (compiled model.now))) }
+    ensures err { OnErr result (AppendsPart (O.written out.old) (O.written out.new) (pen.old.buffer ++ table_lines model.now (compiled model.now))) }
+    ensures failed { OnErr result (Rose (O.faults out.old) (O.faults out.new)) }
+    ensures faults { O.faults out.old ≤ O.faults out.new }
+{
+    for n in 0..model.grid().horizon + 1 {
+        print_numbered(model, layers, n, pen, out)?;
+    }
+    Ok(())
+}
+
+// Prints the lines of the layer with n seconds to go.
+fn print_numbered<O: Sink>(
+    model: &Model,
+    layers: &Layers,
+    n: u32,
+    pen: &mut Pen,
+    out: &mut O,
+) -> Result<(), Failed>
+    requires layers { AreLayers model.now layers.now }
+    requires n { n ≤ model.now.grid.horizon }
+    ensures ok { OnOk result (Prints (O.written out.old) (O.written out.new) pen.old.buffer pen.new.buffer (layer_lines model.now (compiled model.now) n)) }
+    ensures err { OnErr result (AppendsPart (O.written out.old) (O.written out.new) (pen.old.buffer ++ layer_lines model.now (compiled model.now) n)) }
+    ensures failed { OnErr result (Rose (O.faults out.old) (O.faults out.new)) }
+    ensures faults { O.faults out.old ≤ O.faults out.new }
+{
+    // Above layer 0 each advice is an advisory, by the model's limits.
+    let _ = model.grid();
+    advices_are_advisories();
+    let layer = Layer {
+        n,
+        pairs: layers.pairs(n),
+        advice: layers.advice(n),
+    };
+    print_layer(model, &layer, pen, out)?;
+    Ok(())
+}
+
+// Prints the lines of a layer of the compiled table.
+fn print_layer<O: Sink>(
     model: &Model,
     layer: &Layer<'_>,
     pen: &mut Pen,

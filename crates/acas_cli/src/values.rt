@@ -1,22 +1,22 @@
 //! The command `values`.
-ghost use Rattle.std.specs.Prelude.{◌≡◌, ◌≤◌, [], IsTrue, OnOk, OnErr, IsErrOf};
+ghost use Rattle.std.specs.Prelude.{◌≡◌, ◌≤◌, IsTrue, IfOk, OnOk, IsErrOf};
 ghost use Rattle.acas_outside.specs.Bytes.{Appends, AppendsPart};
 ghost use Rattle.acas_outside.specs.Counts.{Rose};
 ghost use Rattle.acas_outside.specs.Outside.{outside};
+ghost use Rattle.acas_sweep.specs.Layers.{AreLayers};
 ghost use Rattle.acas_cli.specs.Answers.{Answers};
 ghost use Rattle.acas_cli.specs.Calls.{CallsFor};
-ghost use Rattle.acas_cli.specs.Layer.{IsLayer};
-ghost use Rattle.acas_process.specs.Compiled.{compiled};
 ghost use Rattle.acas_cli.specs.ValuesText.{values_text};
 ghost use Rattle.acas_cli.specs.Words.{Values};
 ghost use Rattle.acas_cli.specs.declared.values.PrintFault.{PrintFault};
 
 use crate::model_file::read_model_file;
 use crate::status::Cause;
-use crate::table_lines::{Layer, Pen, print_layer};
-use crate::terminal_layer::terminal_layer;
+use crate::table_lines::{Pen, print_table};
 use acas_model::Model;
 use acas_outside::{Failed, Folder, Sink};
+use acas_step::Backups;
+use acas_sweep::{Layers, backups_are_few, sweep_list};
 use std::alloc::{AllocError, Global};
 
 /// Prints the compiled table of a model. It takes all its memory before the first byte goes out.
@@ -72,7 +72,6 @@ impl From<Failed> for PrintFault {
 }
 
 fn print_values<O: Sink>(alloc: Global, model: &Model, out: &mut O) -> Result<(), PrintFault>
-    requires { model.now.grid.horizon ≡ 0 }
     ensures ok { OnOk result (Appends (O.written out.old) (O.written out.new) (values_text model.now)) }
     ensures part { IsErrOf result PrintFault.Output → AppendsPart (O.written out.old) (O.written out.new) (values_text model.now) }
     ensures failed { IsErrOf result PrintFault.Output → Rose (O.faults out.old) (O.faults out.new) }
@@ -80,37 +79,19 @@ fn print_values<O: Sink>(alloc: Global, model: &Model, out: &mut O) -> Result<()
     ensures faults { O.faults out.old ≤ O.faults out.new }
 {
     let mut pen = Pen::make(alloc)?;
-    let layer = terminal_layer(alloc, model)?;
-    print_all(
-        model,
-        &Layer {
-            n: 0,
-            pairs: &layer.pairs,
-            advice: &layer.advice,
-        },
-        &mut pen,
-        out,
-    )?;
+    let layers = compiled_layers(alloc, model)?;
+    print_table(model, &layers, &mut pen, out)?;
     Ok(())
 }
 
-// Prints a table of one layer.
-fn print_all<O: Sink>(
-    model: &Model,
-    layer: &Layer<'_>,
-    pen: &mut Pen,
-    out: &mut O,
-) -> Result<(), Failed>
-    requires horizon { model.now.grid.horizon ≡ 0 }
-    requires first { layer.now.n ≡ 0 }
-    requires layer { IsLayer model.now (compiled model.now) layer.now.n layer.now.pairs.now layer.now.advice.now }
-    requires empty { pen.old.buffer ≡ [] }
-    ensures ok { OnOk result (Appends (O.written out.old) (O.written out.new) (values_text model.now)) }
-    ensures err { OnErr result (AppendsPart (O.written out.old) (O.written out.new) (values_text model.now)) }
-    ensures failed { OnErr result (Rose (O.faults out.old) (O.faults out.new)) }
-    ensures faults { O.faults out.old ≤ O.faults out.new }
+// The layers of the compiled table.
+fn compiled_layers(alloc: Global, model: &Model) -> Result<Layers, AllocError>
+    ensures { IfOk result (λ layers. AreLayers model.now layers) }
 {
-    print_layer(model, layer, pen, out)?;
-    pen.buffer.flush(out)?;
-    Ok(())
+    // By the model's limits a table takes fewer backups than the counter holds.
+    let _ = model.grid();
+    backups_are_few();
+    let mut count = Backups::new();
+    let layers = sweep_list(alloc, model, &mut count)?;
+    Ok(layers)
 }

@@ -1,7 +1,8 @@
 //! What `values` prints.
-use crate::models::{MODEL_A, replaced};
+use crate::models::{MODEL_A, MODEL_D, MODEL_E, model_b, replaced};
 use crate::setting::Setting;
 use acas_cli::{Cause, FileRole};
+use std::alloc::Global;
 use std::test::Fail;
 
 /// The lines of the first model.
@@ -21,6 +22,57 @@ const LINES_A: &str = "0 clear 0 0 0 5.000000 5.000000 -
 0 level 200 0 600 0.000000 0.000000 -
 0 level 200 600 0 0.000000 0.000000 -
 0 level 200 600 600 0.000000 0.000000 -
+";
+
+/// The lines of the model of three sigma points, worked out apart from this program.
+const LINES_B: &str = "0 clear 0 0 0 1.000000 1.000000 -
+0 clear 0 0 600 1.000000 1.000000 -
+0 clear 0 600 0 1.000000 1.000000 -
+0 clear 0 600 600 1.000000 1.000000 -
+0 clear 30 0 0 0.000000 0.000000 -
+0 clear 30 0 600 0.000000 0.000000 -
+0 clear 30 600 0 0.000000 0.000000 -
+0 clear 30 600 600 0.000000 0.000000 -
+0 level 0 0 0 1.000000 1.000000 -
+0 level 0 0 600 1.000000 1.000000 -
+0 level 0 600 0 1.000000 1.000000 -
+0 level 0 600 600 1.000000 1.000000 -
+0 level 30 0 0 0.000000 0.000000 -
+0 level 30 0 600 0.000000 0.000000 -
+0 level 30 600 0 0.000000 0.000000 -
+0 level 30 600 600 0.000000 0.000000 -
+1 clear 0 0 0 0.944444 0.944445 clear
+1 clear 0 0 600 0.666666 0.666667 clear
+1 clear 0 600 0 1.000000 1.000000 clear
+1 clear 0 600 600 0.944444 0.944445 clear
+1 clear 30 0 0 0.055555 0.055556 clear
+1 clear 30 0 600 0.000000 0.000000 clear
+1 clear 30 600 0 0.333333 0.333334 clear
+1 clear 30 600 600 0.055555 0.055556 clear
+1 level 0 0 0 0.944444 0.944445 clear
+1 level 0 0 600 0.666666 0.666667 clear
+1 level 0 600 0 1.000000 1.000000 clear
+1 level 0 600 600 0.944444 0.944445 clear
+1 level 30 0 0 0.055555 0.055556 clear
+1 level 30 0 600 0.000000 0.000000 clear
+1 level 30 600 0 0.333333 0.333334 clear
+1 level 30 600 600 0.055555 0.055556 clear
+2 clear 0 0 0 0.814814 0.814816 clear
+2 clear 0 0 600 0.524690 0.524692 clear
+2 clear 0 600 0 0.981481 0.981482 clear
+2 clear 0 600 600 0.913579 0.913581 clear
+2 clear 30 0 0 0.086419 0.086421 clear
+2 clear 30 0 600 0.018518 0.018519 clear
+2 clear 30 600 0 0.475308 0.475310 clear
+2 clear 30 600 600 0.185184 0.185186 clear
+2 level 0 0 0 0.814814 0.814816 clear
+2 level 0 0 600 0.524690 0.524692 clear
+2 level 0 600 0 0.981481 0.981482 clear
+2 level 0 600 600 0.913579 0.913581 clear
+2 level 30 0 0 0.086419 0.086421 clear
+2 level 30 0 600 0.018518 0.018519 clear
+2 level 30 600 0 0.475308 0.475310 clear
+2 level 30 600 600 0.185184 0.185186 clear
 ";
 
 #[test]
@@ -114,5 +166,104 @@ fn a_file_is_absent_or_too_long(rt: HostRuntime) -> Result<(), Fail> {
     assert!(rt; matches!(absent.cause, Cause::Absent(FileRole::Model)));
     let long = at.run(alloc, &["values", "long"])?;
     assert!(rt; matches!(long.cause, Cause::TooLong(FileRole::Model)));
+    Ok(())
+}
+
+// What is printed of a model.
+fn printed(alloc: Global, text: &str) -> Result<Setting, Fail> {
+    let mut at = Setting::make(alloc, &[], &[], 65_536)?;
+    at.folder.put("m", text.as_bytes().to_vec(alloc)?)?;
+    let status = at.run(alloc, &["values", "m"])?;
+    if status.code != 0 {
+        return Err(Fail::from("refused"));
+    }
+    Ok(at)
+}
+
+fn has_lines(bytes: &[u8], lines: &[&str]) -> bool {
+    let Ok(text) = std::str::from_utf8(bytes) else {
+        return false;
+    };
+    for line in lines {
+        if text.split_once(line).is_none() {
+            return false;
+        }
+    }
+    true
+}
+
+#[test]
+fn values_go_back_from_the_end(rt: HostRuntime) -> Result<(), Fail> {
+    let alloc = rt.alloc();
+    let b = model_b(alloc)?;
+    let at = printed(alloc, &b)?;
+    assert_eq!(rt; at.out.written(), LINES_B.as_bytes());
+
+    // Where a second leads to a vertex, both values are the cost.
+    let text = replaced(alloc, MODEL_A, "horizon = 0", "horizon = 1")?;
+    let text = replaced(alloc, &text, "[0, 200]", "[0, 10]")?;
+    let text = replaced(alloc, &text, "half_height = 100", "half_height = 1")?;
+    let text = replaced(alloc, &text, "contact = 5", "contact = 7")?;
+    let text = replaced(alloc, &text, "costs = [0]", "costs = [1]")?;
+    let text = replaced(alloc, &text, "costs = [0]", "costs = [1]")?;
+    let at = printed(alloc, &text)?;
+    assert!(rt;
+        has_lines(
+            at.out.written(),
+            &[
+                "\n1 clear 0 0 0 8.000000 8.000000 clear\n",
+                "\n1 clear 0 0 600 1.000000 1.000000 clear\n"
+            ]
+        )
+    );
+
+    // The first choice wins a tie.
+    let text = replaced(alloc, &b, "lo = -500\nhi = 500", "lo = -10000\nhi = 10000")?;
+    let text = replaced(
+        alloc,
+        &text,
+        "choices = [\"clear\"]\ncosts = [0]",
+        "choices = [\"level\", \"clear\"]\ncosts = [0, 0]",
+    )?;
+    let at = printed(alloc, &text)?;
+    assert!(rt;
+        has_lines(
+            at.out.written(),
+            &["\n2 clear 0 0 600 0.524690 0.524692 level\n"]
+        )
+    );
+    Ok(())
+}
+
+#[test]
+fn larger_tables_are_as_worked_out_apart(rt: HostRuntime) -> Result<(), Fail> {
+    let alloc = rt.alloc();
+    let at = printed(alloc, MODEL_D)?;
+    assert_eq!(rt; at.out.written().len(), 134_064);
+    assert!(rt;
+        has_lines(
+            at.out.written(),
+            &[
+                "\n10 clear 0 1500 3000 3.881645 3.881651 clear\n",
+                "\n30 descend -670 1500 3000 2.247384 2.247408 clear\n",
+                "\n30 descend 0 0 0 4.825895 4.825910 climb\n"
+            ]
+        )
+    );
+    let at = printed(alloc, MODEL_E)?;
+    assert_eq!(rt; at.out.written().len(), 37_138_990);
+    assert!(rt;
+        has_lines(
+            at.out.written(),
+            &[
+                "\n1 clear -100 2000 -2500 2108.000000 2108.000000 climb-fast\n",
+                "\n10 climb -400 -1500 2500 1741.850120 1741.850133 no-descend\n",
+                "\n25 level 0 0 1500 3.989125 3.989156 clear\n",
+                "\n40 clear 600 1000 -1000 7.207987 7.208039 clear\n",
+                "\n40 descend -900 -1500 500 7.029088 7.029144 no-descend\n",
+                "\n40 climb-fast 1000 2500 2500 0.093210 0.093252 clear\n"
+            ]
+        )
+    );
     Ok(())
 }

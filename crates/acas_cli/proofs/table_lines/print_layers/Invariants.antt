@@ -1,0 +1,11 @@
+use Rattle.std.proofs.Common.{◌≤◌}
+use Rattle.acas_print.specs.Printing.{Prints, below}
+use Rattle.acas_process.specs.Compiled.{compiled}
+use Rattle.acas_cli.specs.ValuesText.{layer_lines}
+use Rattle.acas_cli.proofs.table_lines.print_layers.Given as goal
+
+abbrev pub invariant-loop-n : goal.invariant-loop-n
+invariant-loop-n g l = record {
+  printed : Prints (g.O.Sink.written l.initial.out) (g.O.Sink.written l.out) l.initial.pen.buffer l.pen.buffer (below l.n (layer_lines l.model (compiled l.model)));
+  later : g.O.Sink.faults l.initial.out ≤ g.O.Sink.faults l.out;
+}
