@@ -2,3 +2,4 @@ mod Digits
 mod Lines
 mod Names
 mod TableLines
+mod PrintedValues

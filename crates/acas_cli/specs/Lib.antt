@@ -10,3 +10,4 @@ pub mod FaultText
 pub mod ErrorLine
 pub mod LineParts
 pub mod ValuesText
+pub mod Headline

@@ -4,6 +4,7 @@
 mod entry_lines;
 mod error_line;
 mod fault_text;
+mod laws;
 mod line_fields;
 mod model_file;
 mod status;
@@ -12,6 +13,7 @@ mod top_call;
 mod values;
 mod words;
 
+pub use laws::printed_values_bound_costs;
 pub use status::{Cause, FileRole, Status, Work};
 pub use top_call::run;
 pub use words::{Command, command_of};
