@@ -1,0 +1,5 @@
+mod Least
+mod Written
+mod StateNumbers
+mod Over
+mod Below

@@ -1,0 +1,10 @@
+use Rattle.std.proofs.Common.{◌≡◌, ◌+◌, ◌*◌}
+use Rattle.acas_sweep.specs.Entries.{AreOver}
+use Rattle.acas_sweep.specs.Layers.{choice_count}
+use Rattle.acas_sweep.proofs.layer.fill_over.Given as goal
+
+abbrev pub invariant-loop-vertex : goal.invariant-loop-vertex
+invariant-loop-vertex l = record {
+  over : AreOver l.model l.below l.vertex l.pairs l.advice;
+  counted : l.count ≡ l.initial.count + l.vertex * choice_count l.model;
+}

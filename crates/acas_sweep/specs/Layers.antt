@@ -1,0 +1,38 @@
+-- All layers of a compiled table, and how many backups they take.
+use Rattle.std.specs.Prelude.{◌≡◌, ℕ, ◌+◌, ◌*◌, ◌≤◌, List, length, slice_range, sum_by}
+use Rattle.acas_spec.specs.Model.{ModelData, vertices}
+use Rattle.acas_units.specs.declared.pair.Pair.{Pair}
+use Rattle.acas_process.specs.Compiled.{compiled}
+use Rattle.acas_sweep.specs.Layer.{IsLayer}
+
+-- all layers of a table, from no second to go up to the horizon, one after the other, each with so many states
+pub record LayersData : Type 0 where
+  pub horizon : ℕ
+  pub states : ℕ
+  pub pairs : List Pair
+  pub advice : List ℕ
+
+-- the pairs with n seconds to go
+abbrev pub pairs_of : LayersData → ℕ → List Pair
+pairs_of layers n = slice_range layers.pairs (n * layers.states) (n * layers.states + layers.states)
+
+-- the advices with n seconds to go
+abbrev pub advice_of : LayersData → ℕ → List ℕ
+advice_of layers n = slice_range layers.advice (n * layers.states) (n * layers.states + layers.states)
+
+-- the layers are those of the model's compiled table
+pub record AreLayers (m : ModelData) (layers : LayersData) : Type 0 where
+  pub horizon : layers.horizon ≡ m.grid.horizon
+  pub layer : (n : ℕ) → n ≤ m.grid.horizon → IsLayer m (compiled m) n (pairs_of layers n) (advice_of layers n)
+
+-- how many choices there are under all present advisories
+abbrev pub choice_count : ModelData → ℕ
+choice_count m = sum_by (λ choices. length choices) m.choices
+
+-- a layer above layer 0 takes a backup for each vertex and choice
+abbrev pub layer_backups : ModelData → ℕ
+layer_backups m = vertices m.grid * choice_count m
+
+-- a table has as many layers above layer 0 as the horizon says
+abbrev pub backup_count : ModelData → ℕ
+backup_count m = m.grid.horizon * layer_backups m

@@ -1,0 +1,59 @@
+//! One layer of the compiled table.
+ghost use Rattle.std.specs.Prelude.{◌≡◌, ◌+◌, ◌<◌, ◌≤◌, ◌^◌, length};
+ghost use Rattle.acas_spec.specs.Model.{states, vertices};
+ghost use Rattle.acas_process.specs.Compiled.{compiled};
+ghost use Rattle.acas_step.specs.States.{vertex_at};
+ghost use Rattle.acas_sweep.specs.Entries.{AreBelow, AreOver, IsWhole};
+ghost use Rattle.acas_sweep.specs.Layers.{layer_backups};
+
+use crate::means::means_at;
+use crate::vertex::fill_vertex;
+use acas_model::Model;
+use acas_step::{Backups, terminal};
+use acas_units::Pair;
+
+// The values of a vertex with no second to go.
+fn terminal_pair(model: &Model, vertex: u32) -> Pair
+    requires { vertex < vertices model.now.grid }
+    ensures upper { result.upper ≡ (compiled model.now).upper 0 0 (vertex_at model.now.grid vertex) }
+    ensures lower { result.lower ≡ (compiled model.now).lower 0 0 (vertex_at model.now.grid vertex) }
+{
+    let cost = 1_000_000 * terminal(model, vertex);
+    Pair {
+        upper: cost,
+        lower: cost,
+    }
+}
+
+/// Writes the layer with no second to go: the cost at the end, and no advice, which is written 255.
+pub(crate) fn fill_first(model: &Model, pairs: &mut [Pair], advice: &mut [u8])
+    requires pairs { states model.now.grid ≤ length pairs.old }
+    requires advice { states model.now.grid ≤ length advice.old }
+    ensures { AreBelow model.now 1 pairs.new advice.new }
+{
+    for state in 0..model.grid().states() {
+        pairs[state as usize] = terminal_pair(model, state % model.grid().vertices());
+        advice[state as usize] = 255;
+    }
+}
+
+/// Writes a layer over the one below, vertex by vertex. It takes no memory.
+pub(crate) fn fill_over(
+    model: &Model,
+    below: &[Pair],
+    pairs: &mut [Pair],
+    advice: &mut [u8],
+    count: &mut Backups,
+)
+    requires below { IsWhole model.now below.now }
+    requires pairs { states model.now.grid ≤ length pairs.old }
+    requires advice { states model.now.grid ≤ length advice.old }
+    requires count { count.old + layer_backups model.now < 2 ^ 64 }
+    ensures over { AreOver model.now below.now (vertices model.now.grid) pairs.new advice.new }
+    ensures count { count.new ≡ count.old + layer_backups model.now }
+{
+    for vertex in 0..model.grid().vertices() {
+        let means = means_at(model, vertex, below);
+        fill_vertex(model, vertex, &means, pairs, advice, count);
+    }
+}

@@ -1,0 +1,16 @@
+//! The compiled table of a model, layer by layer, from no second to go up to the horizon. The method is backward induction on a
+//! Markov decision process, as in ATC-371 (Kochenderfer and Chryssanthacopoulos, MIT Lincoln Laboratory, 2011), with bounds
+//! from both sides.
+#![tactic(auto)]
+
+mod best;
+mod laws;
+mod layer;
+mod layers;
+mod means;
+mod sweep;
+mod vertex;
+
+pub use laws::advices_are_advisories;
+pub use layers::Layers;
+pub use sweep::sweep_list;
