@@ -1,0 +1,4 @@
+pub mod Lists
+pub mod KeyLoop
+pub mod LeastUnknown
+pub mod Holds

@@ -1,0 +1,25 @@
+-- What a reader of a document answers.
+use Rattle.std.specs.Prelude.{◌≡◌, Result, Ok, Err, IsErr}
+use Rattle.acas_doc.specs.declared.fault.DocFault.{DocFault}
+use Rattle.acas_doc.specs.declared.fault.DocError.{DocError}
+use Rattle.acas_doc.specs.declared.fault.DocError.TheVariants as errors
+
+-- the fault is this one, or memory ran out in its place
+abbrev pub Stands : DocFault → DocError → Type 0
+Stands f (errors.Fault g) = g ≡ f
+Stands f errors.Memory = Unit {0}
+
+-- the rules give this fault, or memory ran out where they give some fault
+abbrev pub Fails : {Y : Type 0} → DocError → Result Y DocFault → Type 0
+Fails (errors.Fault f) rules = rules ≡ Err f
+Fails errors.Memory rules = IsErr rules
+
+-- the call gave what the rules give, seen by view; memory runs out only in place of a fault
+abbrev pub Answers : {X Y : Type 0} → (X → Y) → Result X DocError → Result Y DocFault → Type 0
+Answers view (Ok x) rules = rules ≡ Ok (view x)
+Answers view (Err e) rules = Fails e rules
+
+-- the call gave what the rules give, seen by view
+abbrev pub Sees : {X Y E : Type 0} → (X → Y) → Result X E → Result Y E → Type 0
+Sees view (Ok x) rules = rules ≡ Ok (view x)
+Sees view (Err e) rules = rules ≡ Err e

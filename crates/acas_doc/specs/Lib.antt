@@ -1,0 +1,5 @@
+pub mod Paths
+pub mod Values
+pub mod Keys
+pub mod Known
+pub mod Answers

@@ -1,0 +1,23 @@
+//! The typed keys of a TOML table: the value at a key, or what is wrong with it and where.
+//!
+//! Each getter takes the path of the table or list that it is given, and prints the path of the key or item only where
+//! something is wrong with it. So a getter whose value passes takes no memory.
+#![tactic(auto)]
+
+mod fault;
+mod getters;
+mod items;
+mod key_text;
+mod known;
+mod path;
+mod values;
+
+pub use fault::{DocError, DocFault, DocKind};
+pub use getters::{list, table, text, whole};
+pub use items::{item, table_item, text_item};
+pub use key_text::KeyText;
+pub use known::{least_unknown_is_named, only_keys};
+pub use path::{fault_at, path_of_item, path_of_key};
+
+#[cfg(test)]
+mod tests;

@@ -1,0 +1,37 @@
+-- The document of a text, and the whole numbers at its keys.
+use Rattle.std.specs.Prelude.{ℕ, List, [], pos, unsigned_abs, if◌then◌else◌, Option, Some, None, Result, Ok, Err}
+use Rattle.std.specs.Str.{is_utf8}
+use Rattle.toml.specs.Data.{Members}
+use Rattle.toml.specs.Parse.{parse_document}
+use Rattle.acas_spec.specs.Steps.{◌>>=◌, ◌>>◌, fault_as}
+use Rattle.acas_doc.specs.declared.fault.DocFault.{DocFault}
+use Rattle.acas_doc.specs.Keys.{table_at, whole_at}
+use Rattle.acas_doc.specs.Known.{only_known}
+use Rattle.acas_model.specs.declared.fault.ModelFault.{ModelFault}
+use Rattle.acas_model.specs.declared.fault.ModelFault.TheVariants.{NotToml, Doc}
+
+-- a fault of a key is a fault of the model
+abbrev pub in_doc : {A : Type 0} → Result A DocFault → Result A ModelFault
+in_doc r = fault_as Doc r
+
+-- the document, unless the text is none
+abbrev pub or_not_toml : Option Members → Result Members ModelFault
+or_not_toml None = Err NotToml
+or_not_toml (Some ms) = Ok ms
+
+-- the bytes are a text in UTF-8, and the text is a TOML document
+unfoldable pub document_of : List ℕ → Result Members ModelFault
+document_of bytes = if is_utf8 bytes then or_not_toml (parse_document bytes) else Err NotToml
+
+-- a whole number at a key that may not be below 0
+unfoldable pub number_at : Members → List ℕ → List ℕ → ℕ → ℕ → Result ℕ ModelFault
+number_at ms path key least greatest = do
+  z ← in_doc (whole_at ms path key (pos least) (pos greatest))
+  Ok (unsigned_abs z)
+
+-- the table at a key of the document, which has no other keys than those named
+unfoldable pub closed_table : Members → List ℕ → List ℕ → Result Members ModelFault
+closed_table doc key known = do
+  table ← in_doc (table_at doc [] key)
+  in_doc (only_known key known table)
+  Ok table

@@ -1,0 +1,10 @@
+pub mod Answers
+pub mod Document
+pub mod Axes
+pub mod Numbers
+pub mod Advisories
+pub mod Choices
+pub mod Noise
+pub mod Whole
+pub mod View
+pub mod Text

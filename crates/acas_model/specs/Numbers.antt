@@ -1,0 +1,58 @@
+-- The tables `puck`, `closing`, `pilot` and `cost`.
+use Rattle.std.specs.Prelude.{ℕ, ◌*◌, codes, ℤ, pos, negsuc, Result, Ok}
+use Rattle.toml.specs.Data.{Members}
+use Rattle.acas_spec.specs.Steps.{◌>>=◌}
+use Rattle.acas_doc.specs.Keys.{whole_at}
+use Rattle.acas_model.specs.declared.fault.ModelFault.{ModelFault}
+use Rattle.acas_model.specs.declared.numbers.Puck.{Puck}
+use Rattle.acas_model.specs.declared.numbers.Closing.{Closing}
+use Rattle.acas_model.specs.declared.numbers.Pilot.{Pilot}
+use Rattle.acas_model.specs.declared.numbers.Numbers.{Numbers}
+use Rattle.acas_model.specs.Document.{in_doc, number_at, closed_table}
+
+-- `puck` is a table that has no other keys
+unfoldable pub puck_table : Members → Result Members ModelFault
+puck_table doc = closed_table doc (codes "puck") (codes "radius half_height")
+
+-- half of the puck's height, in feet
+unfoldable pub half_height : Members → Result ℕ ModelFault
+half_height puck = number_at puck (codes "puck") (codes "half_height") 1 1000
+
+-- the puck: its radius, in ft, and half of its height, which is feet in the file and ticks in the model, 120 to the foot
+unfoldable pub puck_of : Members → Result Puck ModelFault
+puck_of doc = do
+  puck ← puck_table doc
+  radius ← number_at puck (codes "puck") (codes "radius") 1 5000
+  feet ← half_height puck
+  Ok (record { radius = radius; half = 120 * feet })
+
+-- the least closing speed, then the greatest, which is not below it, in ft/s
+unfoldable pub closing_of : Members → Result Closing ModelFault
+closing_of doc = do
+  closing ← closed_table doc (codes "closing") (codes "least greatest")
+  least ← number_at closing (codes "closing") (codes "least") 1 5000
+  greatest ← number_at closing (codes "closing") (codes "greatest") least 5000
+  Ok (record { least = least; greatest = greatest })
+
+-- the least acceleration of a pilot who follows an advisory, then the greatest, which is not below it, in ft/min per second
+unfoldable pub pilot_of : Members → Result Pilot ModelFault
+pilot_of doc = do
+  pilot ← closed_table doc (codes "pilot") (codes "pull limit")
+  pull ← number_at pilot (codes "pilot") (codes "pull") 1 2000
+  limit ← number_at pilot (codes "pilot") (codes "limit") pull 2000
+  Ok (record { pull = pull; limit = limit })
+
+-- the cost of contact, in units
+unfoldable pub contact_of : Members → Result ℤ ModelFault
+contact_of doc = do
+  cost ← closed_table doc (codes "cost") (codes "contact")
+  in_doc (whole_at cost (codes "cost") (codes "contact") (negsuc 999999999) (pos 1000000000))
+
+-- the four tables, each in turn
+unfoldable pub numbers_of : Members → Result Numbers ModelFault
+numbers_of doc = do
+  puck ← puck_of doc
+  closing ← closing_of doc
+  pilot ← pilot_of doc
+  contact ← contact_of doc
+  Ok (record { puck = puck; closing = closing; pilot = pilot; contact = contact })

@@ -1,0 +1,25 @@
+//! The text of a model, and the model that it says.
+//!
+//! A model is a TOML document. Its rules are looked at in a fixed order, and the first that fails is the fault.
+#![tactic(auto)]
+
+mod advisories;
+mod axes;
+mod choices;
+mod document;
+mod fault;
+mod laws;
+mod model;
+mod noise;
+mod numbers;
+mod whole;
+
+pub use acas_doc::{DocFault, DocKind, KeyText};
+pub use acas_spec::{Advisory, Choice, Name, SigmaPoint};
+pub use fault::{AxisName, ModelFault, NamePlace};
+pub use laws::accepted_texts_say_their_models;
+pub use model::Model;
+pub use whole::read_model;
+
+#[cfg(test)]
+mod tests;

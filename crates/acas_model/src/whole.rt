@@ -1,0 +1,155 @@
+//! The rules of a model's text, in their order.
+ghost use Rattle.std.specs.Prelude.{◌≡◌, ◌≤◌, ◌+◌, ◌*◌, length, map, IfOk};
+ghost use Rattle.std.specs.List.{AllByRecursion};
+ghost use Rattle.toml.specs.View.{table_view};
+ghost use Rattle.acas_spec.specs.Model.{entries};
+ghost use Rattle.acas_model.specs.Answers.{Gives};
+ghost use Rattle.acas_model.specs.Whole as rules;
+
+use crate::axes::{Axes, axes_of};
+use crate::choices::{Advised, advised_of};
+use crate::document::{document_of, number};
+use crate::fault::ModelFault;
+use crate::model::Model;
+use crate::noise::{points_of, weights};
+use crate::numbers::numbers_of;
+use acas_doc::only_keys;
+use acas_grid::Grid;
+use std::alloc::Global;
+use toml::Table;
+
+/// That the document has no unknown key.
+#[tactic(auto, unfolding(crate::specs::Whole::top_keys))]
+fn top_keys(alloc: Global, document: &Table) -> Result<(), ModelFault>
+    ensures { Gives (λ u. u) result (rules.top_keys (table_view document.now)) }
+{
+    Ok(only_keys(
+        alloc,
+        document,
+        b"",
+        "version horizon grid puck closing pilot cost advisory sigma",
+    )?)
+}
+
+/// The version, which is 1.
+#[tactic(auto, unfolding(crate::specs::Whole::version_of))]
+fn version_of(alloc: Global, document: &Table) -> Result<u32, ModelFault>
+    ensures { Gives (λ n. n) result (rules.version_of (table_view document.now)) }
+{
+    number(alloc, document, b"", "version", 1, 1)
+}
+
+/// The horizon, in seconds.
+#[tactic(auto, unfolding(crate::specs::Whole::horizon_of))]
+fn horizon_of(alloc: Global, document: &Table) -> Result<u32, ModelFault>
+    ensures value { Gives (λ n. n) result (rules.horizon_of (table_view document.now)) }
+    ensures range { IfOk result (λ n. n ≤ 120) }
+{
+    number(alloc, document, b"", "horizon", 0, 120)
+}
+
+/// The way of some seconds at a closing speed, in ft.
+fn travelled(seconds: u32, speed: u32) -> u32
+    requires seconds { seconds ≤ 120 }
+    requires speed { speed ≤ 5000 }
+    ensures value { result ≡ seconds * speed }
+    ensures high { result ≤ 600000 }
+{
+    seconds * speed
+}
+
+/// That a way is at most another.
+fn at_most(needed: u32, allowed: u32) -> Result<(), ModelFault>
+    ensures { result ≡ rules.at_most needed allowed }
+{
+    if needed <= allowed {
+        Ok(())
+    } else {
+        Err(ModelFault::Window {
+            needed: i64::from(needed),
+            allowed: i64::from(allowed),
+        })
+    }
+}
+
+/// That at the least closing speed the horizon and the way through the puck are over within 600 seconds.
+#[tactic(auto, unfolding(crate::specs::Whole::window))]
+fn window(horizon: u32, radius: u32, least: u32) -> Result<(), ModelFault>
+    requires horizon { horizon ≤ 120 }
+    requires radius { radius ≤ 5000 }
+    requires least { least ≤ 5000 }
+    ensures { result ≡ rules.window horizon radius least }
+{
+    at_most(travelled(horizon, least) + 2 * radius, 600 * least)
+}
+
+/// That a table over the grid has at most 4,000,000 entries.
+#[tactic(auto, unfolding(crate::specs::Whole::few_entries))]
+fn few_entries(grid: &Grid) -> Result<(), ModelFault>
+    ensures { result ≡ rules.few_entries grid.now }
+{
+    let entries = grid.entries();
+    if entries <= 4_000_000 {
+        Ok(())
+    } else {
+        Err(ModelFault::TooManyEntries { entries })
+    }
+}
+
+/// That the horizon is 0.
+#[tactic(auto, unfolding(crate::specs::Whole::horizon_built))]
+fn horizon_built(horizon: u32) -> Result<(), ModelFault>
+    ensures { result ≡ rules.horizon_built horizon }
+{
+    if horizon == 0 {
+        Ok(())
+    } else {
+        Err(ModelFault::HorizonNotBuilt)
+    }
+}
+
+/// The grid of these axes.
+fn grid_of(horizon: u32, axes: Axes, advised: &Advised) -> Grid
+    requires horizon { horizon ≤ 120 }
+    requires few { length advised.now.advisories.items ≤ 16 }
+    ensures { result ≡ rules.grid_from horizon axes (record { advisories = advised.now.advisories.items; choices = map (λ l. l.items) advised.now.choices.items }) }
+{
+    Grid {
+        h: axes.h,
+        v0: axes.v0,
+        v1: axes.v1,
+        advisories: advised.advisories.len() as u32,
+        horizon,
+    }
+}
+
+/// The model of a document.
+#[tactic(auto, unfolding(crate::specs::Whole::model_in))]
+fn model_in(alloc: Global, document: &Table) -> Result<Model, ModelFault>
+    ensures { Gives (λ m. m) result (rules.model_in (table_view document.now)) }
+{
+    top_keys(alloc, document)?;
+    version_of(alloc, document)?;
+    let horizon = horizon_of(alloc, document)?;
+    let axes = axes_of(alloc, document)?;
+    let numbers = numbers_of(alloc, document)?;
+    let advised = advised_of(alloc, document)?;
+    let points = points_of(alloc, document)?;
+    weights(&points)?;
+    window(horizon, numbers.puck.radius, numbers.closing.least)?;
+    let grid = grid_of(horizon, axes, &advised);
+    few_entries(&grid)?;
+    horizon_built(horizon)?;
+    Ok(Model::new(grid, numbers, advised, points))
+}
+
+/// The model that a text says, or the first rule that the text fails. The bytes are those of a TOML document with the keys
+/// `version`, `horizon`, `grid`, `puck`, `closing`, `pilot`, `cost`, `advisory` and `sigma`; comments, inline tables, dotted
+/// keys and any order of the keys are accepted.
+#[tactic(auto, unfolding(crate::specs::Whole::model_of))]
+pub fn read_model(alloc: Global, bytes: &[u8]) -> Result<Model, ModelFault>
+    ensures { Gives (λ m. m) result (rules.model_of bytes.now) }
+{
+    let document = document_of(alloc, bytes)?;
+    model_in(alloc, &document)
+}

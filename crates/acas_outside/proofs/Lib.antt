@@ -1,0 +1,5 @@
+pub mod Inserted
+mod StoredFiles
+pub mod Appended
+pub mod Grown
+pub mod ReadSoFar

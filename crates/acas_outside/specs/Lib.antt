@@ -1,0 +1,9 @@
+pub mod Counts
+pub mod Bytes
+pub mod Files
+pub mod Whole
+pub mod Outside
+pub mod Calls
+pub mod MemorySink
+pub mod Stored
+pub mod MemoryFolder

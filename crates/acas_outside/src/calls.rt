@@ -1,0 +1,34 @@
+//! The calls that are to fail.
+ghost use Rattle.std.specs.Prelude.{◌≡◌, ◌+◌, ◌-◌, ◌^◌, min, IsTrue, ◌↔◌, Contains};
+
+/// The calls of one kind: the numbers of those that are to fail, how many were made, and how many failed.
+#[derive(Drop)]
+pub(crate) struct Calls {
+    pub(crate) listed: Vec<u64>,
+    pub(crate) made: u64,
+    pub(crate) failed: u64,
+}
+
+impl Calls {
+    pub(crate) fn new(listed: Vec<u64>) -> Calls
+        ensures listed { result.listed.items ≡ listed.items }
+        ensures made { result.made ≡ 0 }
+        ensures failed { result.failed ≡ 0 }
+    {
+        Calls {
+            listed,
+            made: 0,
+            failed: 0,
+        }
+    }
+
+    // Counts a call, and says whether it is to fail.
+    pub(crate) fn count(&mut self) -> bool
+        ensures listed { IsTrue result ↔ Contains self.old.listed.items self.old.made }
+        ensures made { self.new ≡ record self.old { made = min (self.old.made + 1) (2 ^ 64 - 1) } }
+    {
+        let is_listed = self.listed.contains(&self.made);
+        self.made = self.made.saturating_add(1);
+        is_listed
+    }
+}

@@ -1,0 +1,152 @@
+//! The files and streams of the system. They tell no content.
+ghost use Rattle.std.specs.Prelude.{◌≡◌, ◌+◌, ◌≤◌, None, true, length, drop, IfOk};
+
+use crate::folder::{Folder, ReadMiss};
+use crate::sink::{Failed, Sink};
+use std::fs::{self, OpenOptions};
+use std::io::{self, ErrorKind, Read, Seek, SeekFrom, Write};
+use std::rt::Files;
+
+/// How many bytes one read of a file asks for.
+const PIECE: usize = 4096;
+
+/// The files of the system, which a runtime opens. A read of a name that the system does not find is a miss, and each
+/// other call that fails is a fault.
+#[derive(Drop)]
+pub struct RealFolder<'r, R: Files> {
+    rt: &'r R,
+    faults: u64,
+    misses: u64,
+}
+
+impl<'r, R: Files> RealFolder<'r, R> {
+    /// The files that this runtime opens, of which no call was made yet.
+    pub fn new(rt: &'r R) -> RealFolder<'r, R>
+        ensures faults { ⟦<RealFolder<'r, R> as Folder>⟧.faults result ≡ 0 }
+        ensures misses { ⟦<RealFolder<'r, R> as Folder>⟧.misses result ≡ 0 }
+        ensures untold { ⟦<RealFolder<'r, R> as Folder>⟧.holds result ≡ None }
+    {
+        RealFolder {
+            rt,
+            faults: 0,
+            misses: 0,
+        }
+    }
+}
+
+impl<R: Files> Folder for RealFolder<'_, R> {
+    ghost holds = { λ _. None };
+
+    ghost faults = { λ folder. folder.faults };
+
+    ghost misses = { λ folder. folder.misses };
+
+    ghost serves = { λ _ _. true };
+
+    fn read(&mut self, name: &str, at: u64, into: &mut [u8]) -> Result<usize, ReadMiss> {
+        let mut file = match fs::open(self.rt, name) {
+            Ok(file) => file,
+            Err(error) => {
+                if error.kind() == ErrorKind::NotFound {
+                    self.misses = self.misses.saturating_add(1);
+                    return Err(ReadMiss::Absent);
+                }
+                self.faults = self.faults.saturating_add(1);
+                return Err(ReadMiss::Failed);
+            }
+        };
+        match read_at(&mut file, at, into) {
+            Ok(count) => Ok(count),
+            Err(_) => {
+                self.faults = self.faults.saturating_add(1);
+                Err(ReadMiss::Failed)
+            }
+        }
+    }
+
+    fn create(&mut self, name: &str) -> Result<(), Failed> {
+        match fs::create(self.rt, name) {
+            Ok(_) => Ok(()),
+            Err(_) => {
+                self.faults = self.faults.saturating_add(1);
+                Err(Failed)
+            }
+        }
+    }
+
+    fn append(&mut self, name: &str, piece: &[u8]) -> Result<usize, Failed> {
+        match append_once(self.rt, name, piece) {
+            Ok(count) => {
+                if count == 0 && !piece.is_empty() {
+                    self.faults = self.faults.saturating_add(1);
+                }
+                Ok(count)
+            }
+            Err(_) => {
+                self.faults = self.faults.saturating_add(1);
+                Err(Failed)
+            }
+        }
+    }
+}
+
+// One write behind the end of a file that is there.
+fn append_once<R: Files>(rt: &R, name: &str, piece: &[u8]) -> io::Result<usize>
+    ensures { IfOk result (λ n. n ≤ length piece.now) }
+{
+    let mut how = OpenOptions::new();
+    how.append(true);
+    let mut file = how.open(rt, name)?;
+    file.write(piece)
+}
+
+// One read from a place on.
+fn read_at<F: Read + Seek>(file: &mut F, at: u64, into: &mut [u8]) -> io::Result<usize>
+    ensures bound { IfOk result (λ n. n ≤ length into.new) }
+    ensures rest { IfOk result (λ n. drop n into.new ≡ drop n into.old) }
+{
+    file.seek(SeekFrom::Start(at))?;
+    let mut piece = [0u8; PIECE];
+    let room = into.len().min(PIECE);
+    let count = file.read(&mut piece[..room])?;
+    into[..count].copy_from_slice(&piece[..count]);
+    Ok(count)
+}
+
+/// A stream of the system, which a writer takes. Each write that fails, or takes nothing of a piece, is a fault.
+#[derive(Drop)]
+pub struct RealSink<W: Write + Drop> {
+    writer: W,
+    faults: u64,
+}
+
+impl<W: Write + Drop> RealSink<W> {
+    /// The stream of this writer, on which no call was made yet.
+    pub fn new(writer: W) -> RealSink<W>
+        ensures faults { ⟦<RealSink<W> as Sink>⟧.faults result ≡ 0 }
+        ensures untold { ⟦<RealSink<W> as Sink>⟧.written result ≡ None }
+    {
+        RealSink { writer, faults: 0 }
+    }
+}
+
+impl<W: Write + Drop> Sink for RealSink<W> {
+    ghost written = { λ _. None };
+
+    ghost faults = { λ sink. sink.faults };
+
+    fn write(&mut self, piece: &[u8]) -> Result<usize, Failed> {
+        match self.writer.write(piece) {
+            Ok(count) => {
+                if count == 0 && !piece.is_empty() {
+                    self.faults = self.faults.saturating_add(1);
+                }
+                Ok(count)
+            }
+            Err(_) => {
+                self.faults = self.faults.saturating_add(1);
+                Err(Failed)
+            }
+        }
+    }
+}

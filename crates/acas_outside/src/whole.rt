@@ -1,0 +1,95 @@
+//! Files that are read whole.
+ghost use Rattle.std.specs.Prelude.{◌≡◌, ◌≤◌, ◌<◌, ◌^◌, ◌+◌, IsTrue, IfOk, IsErrOf, length};
+ghost use Rattle.acas_outside.specs.Counts.{Rose};
+ghost use Rattle.acas_outside.specs.Bytes.{IsBytes};
+ghost use Rattle.acas_outside.specs.Files.{Given};
+ghost use Rattle.acas_outside.specs.Whole.{ReadsWhole, ReadsOn};
+
+use crate::folder::{Folder, ReadMiss};
+use std::alloc::Global;
+use thiserror::Error;
+
+/// Why a whole read gave no bytes.
+#[derive(Clone, Copy, Debug, PartialEq, Eq, Error)]
+pub enum ReadFault {
+    /// The name is not held.
+    #[error("the file is absent")]
+    Absent = 1,
+    /// A read failed.
+    #[error("a read of the file failed")]
+    Failed = 2,
+    /// The file has more bytes than the limit.
+    #[error("the file is too long")]
+    TooLong = 3,
+    /// Memory was refused.
+    #[error("out of memory")]
+    Memory = 4,
+}
+
+/// How many bytes one read asks for.
+const PIECE: usize = 4096;
+
+/// Reads all bytes of a file, up to its end, where it has at most `limit` of them.
+///
+/// It asks for at most `limit + 1` bytes, so that a file that is too long is not read to its end.
+pub fn read_whole<F: Folder>(
+    alloc: Global,
+    folder: &mut F,
+    name: &str,
+    limit: u64,
+) -> Result<Vec<u8>, ReadFault>
+    requires served { IsTrue (F.serves folder.old name.now) }
+    requires limit { limit ≤ 1000000000 }
+    ensures given { Given (F.holds folder.old) name.now (λ file. ReadsWhole file limit result) }
+    ensures bound { IfOk result (λ bytes. length bytes.items ≤ limit) }
+    ensures bytes { IfOk result (λ bytes. IsBytes bytes.items) }
+    ensures holds { F.holds folder.new ≡ F.holds folder.old }
+    ensures serves { F.serves folder.new ≡ F.serves folder.old }
+    ensures failed { IsErrOf result ReadFault.Failed → Rose (F.faults folder.old) (F.faults folder.new) }
+    ensures absent { IsErrOf result ReadFault.Absent → Rose (F.misses folder.old) (F.misses folder.new) }
+    ensures faults { F.faults folder.old ≤ F.faults folder.new }
+    ensures misses { F.misses folder.old ≤ F.misses folder.new }
+{
+    let mut bytes = Vec::new(alloc);
+    while bytes.len() as u64 <= limit {
+        let room = limit as usize + 1 - bytes.len();
+        if read_more(folder, name, &mut bytes, room)? == 0 {
+            return Ok(bytes);
+        }
+    }
+    Err(ReadFault::TooLong)
+}
+
+// Appends what one read gives behind the bytes that are read, and says how many these are. There are none only at the end.
+fn read_more<F: Folder>(
+    folder: &mut F,
+    name: &str,
+    bytes: &mut Vec<u8>,
+    room: usize,
+) -> Result<usize, ReadFault>
+    requires served { IsTrue (F.serves folder.old name.now) }
+    requires room { 0 < room }
+    requires small { length bytes.old.items < 2 ^ 60 }
+    ensures given { Given (F.holds folder.old) name.now (λ file. ReadsOn file bytes.old.items bytes.new.items result) }
+    ensures bytes { IfOk result (λ n. IsBytes bytes.new.items) }
+    ensures grows { IfOk result (λ n. length bytes.new.items ≡ length bytes.old.items + n) }
+    ensures bound { IfOk result (λ n. n ≤ room) }
+    ensures limit { IsErrOf result ReadFault.TooLong → ⊥ }
+    ensures holds { F.holds folder.new ≡ F.holds folder.old }
+    ensures serves { F.serves folder.new ≡ F.serves folder.old }
+    ensures failed { IsErrOf result ReadFault.Failed → Rose (F.faults folder.old) (F.faults folder.new) }
+    ensures absent { IsErrOf result ReadFault.Absent → Rose (F.misses folder.old) (F.misses folder.new) }
+    ensures faults { F.faults folder.old ≤ F.faults folder.new }
+    ensures misses { F.misses folder.old ≤ F.misses folder.new }
+{
+    let mut piece = [0u8; PIECE];
+    let asked = room.min(PIECE);
+    match folder.read(name, bytes.len() as u64, &mut piece[..asked]) {
+        Ok(count) => match bytes.extend_from_slice(&piece[..count]) {
+            Ok(()) => Ok(count),
+            Err(_) => Err(ReadFault::Memory),
+        },
+        Err(ReadMiss::Absent) => Err(ReadFault::Absent),
+        Err(ReadMiss::Failed) => Err(ReadFault::Failed),
+    }
+}
