@@ -36,7 +36,7 @@ pub record HasShare (g : GridData) (s : Point) (total : ℤ) (c : Corner) (y : V
 pub record AreCorners (g : GridData) (s : Point) (corners : List Corner) (total : ℤ) : Type 0 where
   pub lower : Vertex
   pub holds : IsLowerCorner g lower s
-  pub total : total ≡ pos (cell_product g lower)
+  pub product : total ≡ pos (cell_product g lower)
   pub each : (n : ℕ) (d : Corner) (e : Vertex) → n < 8 → HasShare g s total (get_or corners n d) (get_or (corners_from lower) n e)
   pub others : (y : Vertex) → IsVertex g y → ((n : ℕ) (e : Vertex) → n < 8 → get_or (corners_from lower) n e ≢ y) → share g s y ≡ 0
 

@@ -1,11 +1,10 @@
 //! The cell that holds a point, and its eight corners with their interpolation weights.
-ghost use Rattle.std.specs.Prelude.{◌≡◌, ℕ, ◌*◌, ◌+◌, ◌≤◌};
+ghost use Rattle.std.specs.Prelude.{◌≡◌, ◌*◌, ◌+◌, ◌<◌, ◌≤◌, pos};
 ghost use Rattle.acas_spec.specs.Accepted.{IsGrid};
-ghost use Rattle.acas_spec.specs.Axis.{IsWithin};
 ghost use Rattle.acas_grid.specs.Axis.{IsBetweenEnds};
 ghost use Rattle.acas_grid.specs.Grid.{IsInside, IsVertex};
 ghost use Rattle.acas_step.specs.Corners.{AreCorners, IsInterpolation, IsWeighting};
-ghost use Rattle.acas_step.specs.Ends.{FitsGrid, IsCorner, IsEnds, IsRound, place_on, vertex_on, weight_on};
+ghost use Rattle.acas_step.specs.Ends.{FitsGrid, IsCorner, IsEnds, IsRound, place_on, weight_of_cell, weight_on};
 
 use crate::layer::Side;
 use crate::layer::Side::{Lower, Upper};
@@ -44,15 +43,12 @@ pub struct Cell {
 
 fn ends_of(axis: &Axis, x: i64) -> Ends
     requires { IsBetweenEnds axis.now x }
-    ensures ends { IsEnds axis.now x result }
-    ensures narrow { (most : ℕ) → IsWithin most axis.now → result.lower + result.upper ≤ 2 * most }
+    ensures { IsEnds axis.now x result }
 {
     let cell = axis.cell_of(x);
-    Ends {
-        cell,
-        lower: axis.value(cell + 1).abs_diff(x),
-        upper: x.abs_diff(axis.value(cell)),
-    }
+    let upper = x.abs_diff(axis.value(cell));
+    let lower = axis.value(cell + 1).abs_diff(x);
+    Ends { cell, lower, upper }
 }
 
 fn cell_of(grid: &Grid, point: Point) -> Cell
@@ -119,7 +115,13 @@ fn corner_at(grid: &Grid, cell: &Cell, h: Side, v0: Side, v1: Side) -> Corner
 }
 
 // What the weights of the corners sum to.
-fn total_of(cell: &Cell) -> i128 {
+fn total_of(cell: &Cell) -> i128
+    requires h { cell.now.h.lower + cell.now.h.upper ≤ 2_400_000 }
+    requires v0 { cell.now.v0.lower + cell.now.v0.upper ≤ 20_000 }
+    requires v1 { cell.now.v1.lower + cell.now.v1.upper ≤ 20_000 }
+    ensures value { result ≡ pos (weight_of_cell cell.now) }
+    ensures light { weight_of_cell cell.now ≤ 960_000_000_000_000 }
+{
     let weight = product(
         cell.h.lower + cell.h.upper,
         cell.v0.lower + cell.v0.upper,

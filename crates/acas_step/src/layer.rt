@@ -32,7 +32,7 @@ fn weighted(weight: i128, value: i64) -> i128
     ensures high { result ≤ℤ (pos (2 ^ 63) *ℤ weight) }
     ensures low { (neg_ℤ (pos (2 ^ 63)) *ℤ weight) ≤ℤ result }
 {
-    weight * i128::from(value)
+    weight * value as i128
 }
 
 // The sum of a layer's values by the weights of corners, where the states of an advisory begin at `first`.

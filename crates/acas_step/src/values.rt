@@ -74,7 +74,7 @@ fn by_weight(weight: i64, value: i128) -> i128
     ensures value { result ≡ weight *ℤ value }
     ensures small { unsigned_abs result ≤ 2 ^ 63 * unsigned_abs weight }
 {
-    i128::from(weight) * value
+    weight as i128 * value
 }
 
 fn total_weight(model: &Model) -> i128
