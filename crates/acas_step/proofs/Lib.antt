@@ -1,0 +1,8 @@
+pub mod StateNumbers
+pub mod Commands
+pub mod CornerLaws
+pub mod ShareLaws
+pub mod Weights
+pub mod SumSteps
+pub mod Quotients
+pub mod Means

@@ -1,0 +1,5 @@
+pub mod States
+pub mod Corners
+pub mod Layer
+pub mod Values
+pub mod Ends

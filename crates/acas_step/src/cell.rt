@@ -1,0 +1,157 @@
+//! The cell that holds a point, and its eight corners with their interpolation weights.
+ghost use Rattle.std.specs.Prelude.{◌≡◌, ◌*◌, ◌+◌, ◌<◌, ◌≤◌, pos};
+ghost use Rattle.acas_spec.specs.Accepted.{IsGrid};
+ghost use Rattle.acas_grid.specs.Axis.{IsBetweenEnds};
+ghost use Rattle.acas_grid.specs.Grid.{IsInside, IsVertex};
+ghost use Rattle.acas_step.specs.Corners.{AreCorners, IsInterpolation, IsWeighting};
+ghost use Rattle.acas_step.specs.Ends.{FitsGrid, IsCorner, IsEnds, IsRound, place_on, weight_of_cell, weight_on};
+
+use crate::layer::Side;
+use crate::layer::Side::{Lower, Upper};
+use acas_grid::{Axis, Grid, Point, Vertex};
+use acas_model::Model;
+
+/// A vertex by its number, with its weight.
+#[derive(Clone, Copy, Debug, PartialEq, Eq)]
+pub struct Corner {
+    pub vertex: u32,
+    pub weight: i128,
+}
+
+/// The eight corners of a cell, lower before upper and the altitude outermost, and what their weights sum to.
+#[derive(Clone, Copy, Debug, PartialEq, Eq)]
+pub struct CornerSet {
+    pub corners: [Corner; 8],
+    pub total: i128,
+}
+
+// The cell of an axis that holds a number, and the weights of its two ends there: the distance to the other end.
+#[derive(Clone, Copy)]
+pub struct Ends {
+    cell: u32,
+    lower: u64,
+    upper: u64,
+}
+
+// The ends on the three axes.
+#[derive(Clone, Copy)]
+pub struct Cell {
+    h: Ends,
+    v0: Ends,
+    v1: Ends,
+}
+
+fn ends_of(axis: &Axis, x: i64) -> Ends
+    requires { IsBetweenEnds axis.now x }
+    ensures { IsEnds axis.now x result }
+{
+    let cell = axis.cell_of(x);
+    let upper = x.abs_diff(axis.value(cell));
+    let lower = axis.value(cell + 1).abs_diff(x);
+    Ends { cell, lower, upper }
+}
+
+fn cell_of(grid: &Grid, point: Point) -> Cell
+    requires grid { IsGrid grid.now }
+    requires inside { IsInside grid.now point }
+    ensures round { IsRound grid.now point result }
+    ensures fits { FitsGrid grid.now result }
+{
+    Cell {
+        h: ends_of(&grid.h, point.h),
+        v0: ends_of(&grid.v0, point.v0),
+        v1: ends_of(&grid.v1, point.v1),
+    }
+}
+
+fn place_on(ends: Ends, side: Side) -> u32
+    requires { ends.cell < 129 }
+    ensures { result ≡ place_on ends side }
+{
+    match side {
+        Lower => ends.cell,
+        Upper => ends.cell + 1,
+    }
+}
+
+fn weight_on(ends: Ends, side: Side) -> u64
+    ensures { result ≡ weight_on ends side }
+{
+    match side {
+        Lower => ends.lower,
+        Upper => ends.upper,
+    }
+}
+
+fn product(h: u64, v0: u64, v1: u64) -> u64
+    requires h { h ≤ 2_400_000 }
+    requires v0 { v0 ≤ 20_000 }
+    requires v1 { v1 ≤ 20_000 }
+    ensures value { result ≡ h * v0 * v1 }
+    ensures small { result ≤ 960_000_000_000_000 }
+{
+    h * v0 * v1
+}
+
+// The corner at these ends of the three axes.
+fn corner_at(grid: &Grid, cell: &Cell, h: Side, v0: Side, v1: Side) -> Corner
+    requires { FitsGrid grid.now cell.now }
+    ensures { IsCorner grid.now cell.now h v0 v1 result }
+{
+    let vertex = Vertex {
+        i: place_on(cell.h, h),
+        j: place_on(cell.v0, v0),
+        k: place_on(cell.v1, v1),
+    };
+    let weight = product(
+        weight_on(cell.h, h),
+        weight_on(cell.v0, v0),
+        weight_on(cell.v1, v1),
+    );
+    Corner {
+        vertex: grid.vertex_number(vertex),
+        weight: i128::from(weight),
+    }
+}
+
+// What the weights of the corners sum to.
+fn total_of(cell: &Cell) -> i128
+    requires h { cell.now.h.lower + cell.now.h.upper ≤ 2_400_000 }
+    requires v0 { cell.now.v0.lower + cell.now.v0.upper ≤ 20_000 }
+    requires v1 { cell.now.v1.lower + cell.now.v1.upper ≤ 20_000 }
+    ensures value { result ≡ pos (weight_of_cell cell.now) }
+    ensures light { weight_of_cell cell.now ≤ 960_000_000_000_000 }
+{
+    let weight = product(
+        cell.h.lower + cell.h.upper,
+        cell.v0.lower + cell.v0.upper,
+        cell.v1.lower + cell.v1.upper,
+    );
+    i128::from(weight)
+}
+
+/// The eight corners of the cell that holds a point inside the grid, lower before upper, the altitude outermost. A corner's
+/// weight is the product of three: on each axis, the distance from the point to the cell's other end. The total is the
+/// product of the cell's three gaps.
+pub fn corners(model: &Model, point: Point) -> CornerSet
+    requires { IsInside model.now.grid point }
+    ensures corners { AreCorners model.now.grid point result.corners result.total }
+    ensures sums { IsInterpolation model.now.grid point result.corners result.total }
+    ensures weights { IsWeighting model.now.grid result.corners result.total }
+{
+    let grid = model.grid();
+    let cell = cell_of(grid, point);
+    CornerSet {
+        corners: [
+            corner_at(grid, &cell, Lower, Lower, Lower),
+            corner_at(grid, &cell, Lower, Lower, Upper),
+            corner_at(grid, &cell, Lower, Upper, Lower),
+            corner_at(grid, &cell, Lower, Upper, Upper),
+            corner_at(grid, &cell, Upper, Lower, Lower),
+            corner_at(grid, &cell, Upper, Lower, Upper),
+            corner_at(grid, &cell, Upper, Upper, Lower),
+            corner_at(grid, &cell, Upper, Upper, Upper),
+        ],
+        total: total_of(&cell),
+    }
+}
