@@ -33,7 +33,7 @@ impl Backups {
     }
 
     /// Counts one backup.
-    pub(crate) fn add_one(&mut self)
+    pub fn add_one(&mut self)
         requires { self.old + 1 < 2 ^ 64 }
         ensures { self.new ≡ self.old + 1 }
     {
