@@ -1,5 +1,6 @@
 mod Least
 mod Written
-mod StateNumbers
+mod NumberedStates
+pub mod Counts
 mod Over
 mod Below

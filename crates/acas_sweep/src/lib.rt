@@ -11,6 +11,9 @@ mod means;
 mod sweep;
 mod vertex;
 
-pub use laws::advices_are_advisories;
+pub use laws::{advices_are_advisories, backups_are_few};
 pub use layers::Layers;
 pub use sweep::sweep_list;
+
+#[cfg(test)]
+mod tests;

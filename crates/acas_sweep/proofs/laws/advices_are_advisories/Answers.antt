@@ -1,12 +1,12 @@
-use Rattle.std.proofs.Common.{◌≡◌, ◌≢◌, ℕ, zero, suc, ◌<◌, List, get_or, refl, sym, subst}
+use Rattle.std.proofs.Common.{◌≢◌, ℕ, zero, suc, ◌<◌, List, get_or, refl, sym, subst}
 use Rattle.acas_spec.specs.Accepted.{IsAccepted}
 use Rattle.acas_spec.specs.Model.{ModelData, states}
 use Rattle.acas_units.specs.declared.pair.Pair.{Pair}
 use Rattle.acas_process.specs.Compiled.{compiled}
 use Rattle.acas_process.proofs.CompiledLaws.{compiled_advice_within}
 use Rattle.acas_step.specs.States.{state_present, state_vertex}
-use Rattle.acas_sweep.specs.Layer.{IsAdvised, IsLayer}
-use Rattle.acas_sweep.proofs.StateNumbers.{state_present-below}
+use Rattle.acas_sweep.specs.Layer.{IsLayer}
+use Rattle.acas_step.proofs.StateNumbers.{state_present-below}
 use Rattle.acas_sweep.proofs.laws.advices_are_advisories.Goals as goal
 
 advised : (m : ModelData) (n : ℕ) (pairs : List Pair) (advice : List ℕ) → IsAccepted m → IsLayer m (compiled m) n pairs advice → (s : ℕ) → s < states m.grid → n ≢ 0 → get_or advice s 0 < m.grid.advisories
