@@ -1,6 +1,6 @@
 -- A document that passes each rule says a model that is within its limits.
-use Rattle.std.proofs.Common.{◌≡◌, ℕ, ◌+◌, ◌*◌, ◌≤◌, List, [], length, map, codes, pos, nat_le, ◌==◌, sum_by, Ok, refl, sym, subst, ◌∙◌, arith}
-use Rattle.std.proofs.lemmas.Bool.{leb-true, eqb-true}
+use Rattle.std.proofs.Common.{◌≡◌, ℕ, ◌+◌, ◌*◌, ◌≤◌, List, [], length, map, codes, pos, nat_le, sum_by, Ok, refl, sym, subst, ◌∙◌, arith}
+use Rattle.std.proofs.lemmas.Bool.{leb-true}
 use Rattle.toml.specs.Data.{Data, Members}
 use Rattle.acas_spec.specs.Model.{GridData, entries, weight_of}
 use Rattle.acas_spec.specs.Accepted.{IsAccepted, AreDistinct}
@@ -11,14 +11,14 @@ use Rattle.acas_doc.proofs.Holds.{fault_as_ok, list_at_ok}
 use Rattle.acas_model.specs.declared.axes.Axes.{Axes}
 use Rattle.acas_model.specs.declared.numbers.Numbers.{Numbers}
 use Rattle.acas_model.specs.declared.fault.ModelFault.{ModelFault}
-use Rattle.acas_model.specs.declared.fault.ModelFault.TheVariants.{Window, TooManyEntries, HorizonNotBuilt}
+use Rattle.acas_model.specs.declared.fault.ModelFault.TheVariants.{Window, TooManyEntries}
 use Rattle.acas_model.specs.Document.{in_doc}
 use Rattle.acas_model.specs.Axes.{axes_of}
 use Rattle.acas_model.specs.Numbers.{numbers_of}
 use Rattle.acas_model.specs.Advisories.{advisory_items, distinct}
 use Rattle.acas_model.specs.Choices.{Advised, choice_lists, advised_of}
 use Rattle.acas_model.specs.Noise.{points_of, weights}
-use Rattle.acas_model.specs.Whole.{horizon_of, window, few_entries, horizon_built, grid_from, model_with}
+use Rattle.acas_model.specs.Whole.{horizon_of, window, few_entries, grid_from, model_with}
 use Rattle.acas_model.specs.Text.{HoldsList}
 use Rattle.acas_model.proofs.ReadNumbers.{passed_ok, IsNumber, number_ok, IsReadNumbers, numbers_ok}
 use Rattle.acas_model.proofs.ReadAxes.{IsReadAxes, axes_ok}
@@ -67,10 +67,6 @@ window_ok horizon radius least e =
 pub entries_ok : (g : GridData) → few_entries g ≡ Ok tt → entries g ≤ 4000000
 unfolding few_entries
 entries_ok g e = leb-true (entries g) 4000000 (test_ok (nat_le (entries g) 4000000) tt tt (TooManyEntries (entries g)) e).0
-
-pub built_ok : (horizon : ℕ) → horizon_built horizon ≡ Ok tt → horizon ≡ 0
-unfolding horizon_built
-built_ok horizon e = eqb-true horizon 0 (test_ok (horizon == 0) tt tt HorizonNotBuilt e).0
 
 pub accepted : (doc : Members) (horizon : ℕ) (axes : Axes) (numbers : Numbers) (advised : Advised) (points : List SigmaPoint)
     → IsNumber doc (codes "horizon") 0 120 horizon → IsReadAxes doc axes → IsReadNumbers doc numbers → IsReadAdvised doc advised → AreReadPoints doc points

@@ -19,14 +19,14 @@ use Rattle.acas_model.specs.Axes.{axes_of}
 use Rattle.acas_model.specs.Numbers.{numbers_of}
 use Rattle.acas_model.specs.Choices.{Advised, advised_of}
 use Rattle.acas_model.specs.Noise.{points_of, weights}
-use Rattle.acas_model.specs.Whole.{top_keys, version_of, horizon_of, window, few_entries, horizon_built, grid_from, model_with, model_in, model_of}
+use Rattle.acas_model.specs.Whole.{top_keys, version_of, horizon_of, window, few_entries, grid_from, model_with, model_in, model_of}
 use Rattle.acas_model.specs.Text.{HasOnly, HoldsWhole, HoldsList, HoldsTable, HoldsTables, IsGridText, IsPuckText, IsClosingText, IsPilotText, IsCostText, IsAdvisoryText, IsSigmaText, IsDocumentText, IsModelText}
 use Rattle.acas_model.proofs.Places.{same_lists}
 use Rattle.acas_model.proofs.ReadNumbers.{step_ok, passed_ok, only_ok, number_ok, IsTable, IsReadNumbers, numbers_ok}
 use Rattle.acas_model.proofs.ReadAxes.{IsReadAxes, axes_ok}
 use Rattle.acas_model.proofs.ReadChoices.{IsReadChoices}
 use Rattle.acas_model.proofs.ReadNoise.{AreReadPoints, points_ok, weights_ok}
-use Rattle.acas_model.proofs.Accepted.{IsReadAdvised, advised_ok, horizon_ok, window_ok, entries_ok, built_ok, accepted}
+use Rattle.acas_model.proofs.Accepted.{IsReadAdvised, advised_ok, horizon_ok, window_ok, entries_ok, accepted}
 
 -- ---- the document
 
@@ -174,9 +174,8 @@ said bytes m e =
     let w = step_ok (weights p.0) _ m p.2 in
     let t = step_ok (window h.0 n.0.puck.radius n.0.closing.least) _ m w.1 in
     let f = step_ok (few_entries (grid_from h.0 a.0 g.0)) _ m t.1 in
-    let b = step_ok (horizon_built h.0) _ m f.1 in
     let made = model_with (grid_from h.0 a.0 g.0) n.0 g.0.advisories g.0.choices p.0 in
-    let same : made ≡ m = same_ok {E = ModelFault} _ _ b.1 in
+    let same : made ≡ m = same_ok {E = ModelFault} _ _ f.1 in
     let seconds = horizon_ok doc h.0 h.1 in
     let axis = axes_ok doc a.0 a.1 in
     let number = numbers_ok doc n.0 n.1 in
@@ -189,5 +188,4 @@ said bytes m e =
       keys = document_says doc h.0 a.0 n.0 g.0 p.0 (keys_said doc k.0) (version_said doc v.0 v.1) seconds.holds axis number given point;
       accepted = accepted doc h.0 a.0 n.0 g.0 p.0 seconds axis number given point (weights_ok p.0 w.0) (window_ok h.0 n.0.puck.radius n.0.closing.least t.0) (entries_ok (grid_from h.0 a.0 g.0) f.0);
       no_delay = refl;
-      built = built_ok h.0 b.0;
     })

@@ -5,7 +5,7 @@ use Rattle.toml.specs.Data.{Members}
 use Rattle.acas_spec.specs.Model.{ModelData, GridData, entries, weight_of}
 use Rattle.acas_spec.specs.Accepted.{IsAccepted}
 use Rattle.acas_model.specs.Noise.{weights}
-use Rattle.acas_model.specs.Whole.{top_keys, version_of, horizon_of, window, few_entries, horizon_built, grid_from, model_with, model_in, model_of}
+use Rattle.acas_model.specs.Whole.{top_keys, version_of, horizon_of, window, few_entries, grid_from, model_with, model_in, model_of}
 use Rattle.acas_model.specs.Text.{IsDocumentText, IsModelText}
 use Rattle.acas_model.proofs.Bytes.{document_read}
 use Rattle.acas_model.proofs.PassNumbers.{only_passes, number_passes, axes_in, axes_pass, numbers_in, numbers_pass}
@@ -38,10 +38,6 @@ grid_again m valid = λ i. record { h = m.grid.h; v0 = m.grid.v0; v1 = m.grid.v1
 entries_pass : (g : GridData) → entries g ≤ 4000000 → few_entries g ≡ Ok tt
 unfolding few_entries
 entries_pass g h = rw (le-leb (entries g) 4000000 h) refl
-
-built_passes : (horizon : ℕ) → horizon ≡ 0 → horizon_built horizon ≡ Ok tt
-unfolding horizon_built
-built_passes horizon none = rw none refl
 
 model_again : (m : ModelData) → m.delay ≡ 0 → model_with m.grid (numbers_in m) m.advisories m.choices m.points ≡ m
 model_again m none = λ i. record {
@@ -80,5 +76,4 @@ understood bytes m says =
       weights_pass m valid,
       window_passes m valid,
       few,
-      built_passes m.grid.horizon says.built,
     ) (ap Ok built)

@@ -100,7 +100,7 @@ pub record IsDocumentText (m : ModelData) (doc : Members) : Type 0 where
   pub sigma : HoldsTables doc (codes "sigma") (codes "weight own intruder") (length m.points) (IsSigmaText m)
 
 -- the bytes are a text in UTF-8, a TOML document, and its keys say this model, which is within its limits. So far a text
--- cannot say that the pilot holds the rate at first, and no table goes back a second.
+-- cannot say that the pilot holds the rate at first.
 pub record IsModelText (bytes : List ℕ) (m : ModelData) : Type 0 where
   pub text : IsUtf8 bytes
   pub doc : Members
@@ -108,4 +108,3 @@ pub record IsModelText (bytes : List ℕ) (m : ModelData) : Type 0 where
   pub keys : IsDocumentText m doc
   pub accepted : IsAccepted m
   pub no_delay : m.delay ≡ 0
-  pub built : m.grid.horizon ≡ 0

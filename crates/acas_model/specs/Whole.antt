@@ -1,6 +1,6 @@
 -- The rules of a model's text, in the order in which they are looked at: the model that the text says, or the first
 -- rule that it fails.
-use Rattle.std.specs.Prelude.{ℕ, ◌+◌, ◌*◌, List, [], length, codes, pos, nat_le, ◌==◌, if◌then◌else◌, Result, Ok, Err}
+use Rattle.std.specs.Prelude.{ℕ, ◌+◌, ◌*◌, List, [], length, codes, pos, nat_le, if◌then◌else◌, Result, Ok, Err}
 use Rattle.toml.specs.Data.{Members}
 use Rattle.acas_spec.specs.Steps.{◌>>=◌, ◌>>◌}
 use Rattle.acas_spec.specs.Model.{GridData, ModelData, entries}
@@ -11,7 +11,7 @@ use Rattle.acas_doc.specs.Known.{only_known}
 use Rattle.acas_model.specs.declared.axes.Axes.{Axes}
 use Rattle.acas_model.specs.declared.numbers.Numbers.{Numbers}
 use Rattle.acas_model.specs.declared.fault.ModelFault.{ModelFault}
-use Rattle.acas_model.specs.declared.fault.ModelFault.TheVariants.{Window, TooManyEntries, HorizonNotBuilt}
+use Rattle.acas_model.specs.declared.fault.ModelFault.TheVariants.{Window, TooManyEntries}
 use Rattle.acas_model.specs.Document.{in_doc, document_of, number_at}
 use Rattle.acas_model.specs.Axes.{axes_of}
 use Rattle.acas_model.specs.Numbers.{numbers_of}
@@ -41,10 +41,6 @@ window horizon radius least = at_most (horizon * least + 2 * radius) (600 * leas
 -- a table over the grid has at most 4000000 entries
 unfoldable pub few_entries : GridData → Result (Unit {0}) ModelFault
 few_entries g = if nat_le (entries g) 4000000 then Ok tt else Err (TooManyEntries (entries g))
-
--- so far a table goes back no second
-unfoldable pub horizon_built : ℕ → Result (Unit {0}) ModelFault
-horizon_built horizon = if horizon == 0 then Ok tt else Err HorizonNotBuilt
 
 -- the grid of these parts
 abbrev pub grid_from : ℕ → Axes → Advised → GridData
@@ -80,7 +76,6 @@ model_in doc = do
   weights points
   window horizon numbers.puck.radius numbers.closing.least
   few_entries (grid_from horizon axes advised)
-  horizon_built horizon
   Ok (model_with (grid_from horizon axes advised) numbers advised.advisories advised.choices points)
 
 -- the model that a text says

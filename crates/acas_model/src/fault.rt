@@ -48,8 +48,6 @@ pub enum ModelFault {
     TooManyEntries { entries: u64 },
     /// There is no memory left.
     Memory,
-    /// The horizon is not 0.
-    HorizonNotBuilt,
 }
 
 impl From<AllocError> for ModelFault {

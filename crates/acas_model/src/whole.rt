@@ -96,18 +96,6 @@ fn few_entries(grid: &Grid) -> Result<(), ModelFault>
     }
 }
 
-/// That the horizon is 0.
-#[tactic(auto, unfolding(crate::specs::Whole::horizon_built))]
-fn horizon_built(horizon: u32) -> Result<(), ModelFault>
-    ensures { result ≡ rules.horizon_built horizon }
-{
-    if horizon == 0 {
-        Ok(())
-    } else {
-        Err(ModelFault::HorizonNotBuilt)
-    }
-}
-
 /// The grid of these axes.
 fn grid_of(horizon: u32, axes: Axes, advised: &Advised) -> Grid
     requires horizon { horizon ≤ 120 }
@@ -139,7 +127,6 @@ fn model_in(alloc: Global, document: &Table) -> Result<Model, ModelFault>
     window(horizon, numbers.puck.radius, numbers.closing.least)?;
     let grid = grid_of(horizon, axes, &advised);
     few_entries(&grid)?;
-    horizon_built(horizon)?;
     Ok(Model::new(grid, numbers, advised, points))
 }
 
