@@ -251,38 +251,3 @@ fn names_the_first_rule(rt: HostRuntime) {
         )
     );
 }
-
-// The horizon of the plain text with a part of it replaced.
-fn horizon_of(alloc: Global, old: &str, new: &str) -> Option<u32> {
-    match PLAIN.replace(alloc, old, new) {
-        Ok(text) => {
-            let model = read_model(alloc, text.as_bytes()).ok()?;
-            Some(model.grid().horizon)
-        }
-        Err(_) => None,
-    }
-}
-
-// The part of the plain text from the horizon to the least closing speed.
-const PART: &str =
-    "horizon = 0\n[grid]\naltitude = [-10, 0, 20]\nown_rate = [0, 600]\nintruder_rate = [-600, 600]\n[puck]\nradius = 500\nhalf_height = 100\n[closing]\nleast = 500";
-
-#[test]
-fn a_horizon_has_to_fit_the_window(rt: HostRuntime) {
-    let alloc = rt.alloc();
-    assert!(rt; horizon_of(alloc, "horizon = 0", "horizon = 120") == Some(120));
-    let fits =
-        "horizon = 100\n[grid]\naltitude = [-10, 0, 20]\nown_rate = [0, 600]\nintruder_rate = [-600, 600]\n[puck]\nradius = 2500\nhalf_height = 100\n[closing]\nleast = 10";
-    assert!(rt; horizon_of(alloc, PART, fits) == Some(100));
-    let wide =
-        "horizon = 100\n[grid]\naltitude = [-10, 0, 20]\nown_rate = [0, 600]\nintruder_rate = [-600, 600]\n[puck]\nradius = 2501\nhalf_height = 100\n[closing]\nleast = 10";
-    assert!(rt;
-        matches!(
-            fault_of(alloc, PART, wide),
-            Some(ModelFault::Window {
-                needed: 6002,
-                allowed: 6000
-            })
-        )
-    );
-}

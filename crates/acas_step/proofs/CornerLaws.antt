@@ -1,5 +1,5 @@
 -- The eight corners of a cell carry the shares of its point.
-use Rattle.std.proofs.Common.{◌≡◌, ℕ, zero, suc, ◌+◌, ◌*◌, ◌<◌, ◌≤◌, ℤ, pos, ◌+ℤ◌, ◌*ℤ◌, ◌≤ℤ◌, List, [], ◌∷◌, length, get_or, refl, ap, sym, ◌∙◌, ⊎_elim, arith}
+use Rattle.std.proofs.Common.{◌≡◌, ℕ, zero, suc, ◌+◌, ◌*◌, ◌<◌, ◌≤◌, ℤ, pos, ◌+ℤ◌, ◌*ℤ◌, List, [], ◌∷◌, length, get_or, refl, ap, sym, ◌∙◌, ⊎_elim, arith}
 use Rattle.std.proofs.lemmas.Int.{ints}
 use Rattle.std.proofs.lemmas.Bool.{cases_lt}
 use Rattle.acas_spec.specs.Accepted.{IsGrid}
@@ -9,13 +9,13 @@ use Rattle.acas_grid.specs.Grid.{vertex_number}
 use Rattle.acas_grid.specs.declared.place.Point.{Point}
 use Rattle.acas_frac.proofs.SignedProducts.{mul_assoc_ℤ}
 use Rattle.acas_process.specs.Axis.{distance, gap, gap_product, tent}
-use Rattle.acas_process.specs.Step.{grid_product, over_vertices, share}
+use Rattle.acas_process.specs.Step.{grid_product}
 use Rattle.acas_process.specs.Sums.{sum_below}
 use Rattle.acas_process.proofs.AxisLaws.{distance-add, has_cell, others}
 use Rattle.acas_process.proofs.CellLaws.{Place, at_ends, axis_sum, cell_holds, grid_sum, two_scaled}
 use Rattle.acas_process.proofs.MeanLaws.{grid_product_pos}
 use Rattle.acas_step.specs.Corners.{IsInterpolation, IsLight, IsWeighting, cell_product, corner_sum}
-use Rattle.acas_step.specs.Ends.{FitsAxis, FitsGrid, IsCorner, IsEnds, IsRound, vertex_on, weight_of_cell, weight_of_corner}
+use Rattle.acas_step.specs.Ends.{FitsAxis, FitsGrid, IsCorner, IsEnds, IsRound, vertex_on, weight_of_cell}
 use Rattle.acas_step.specs.declared.cell.Cell.{Cell}
 use Rattle.acas_step.specs.declared.cell.Corner.{Corner}
 use Rattle.acas_step.specs.declared.cell.Ends.{Ends}

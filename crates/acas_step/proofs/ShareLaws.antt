@@ -4,7 +4,6 @@ use Rattle.std.proofs.lemmas.Bool.{cases_lt}
 use Rattle.acas_spec.specs.Accepted.{IsGrid}
 use Rattle.acas_spec.specs.Axis.{IsAxis}
 use Rattle.acas_spec.specs.Model.{GridData}
-use Rattle.acas_grid.specs.Grid.{IsVertex, vertex_number}
 use Rattle.acas_grid.specs.declared.place.Point.{Point}
 use Rattle.acas_grid.specs.declared.place.Vertex.{Vertex}
 use Rattle.acas_process.specs.Axis.{tent}

@@ -1,5 +1,5 @@
 -- Bounds of a value times a weight that is not negative.
-use Rattle.std.proofs.Common.{◌≡◌, ◌*◌, ◌≤◌, ◌^◌, ℤ, pos, negsuc, ◌*ℤ◌, ◌≤ℤ◌, unsigned_abs, w64, arith}
+use Rattle.std.proofs.Common.{◌*◌, ◌≤◌, ◌^◌, ℤ, pos, negsuc, ◌*ℤ◌, ◌≤ℤ◌, unsigned_abs, w64, arith}
 use Rattle.std.proofs.lemmas.Int.{ints, fits_signed_mul, unsigned_abs-mul}
 use Rattle.std.proofs.Math.Nat.{mul-le-mul_left}
 use Rattle.acas_frac.proofs.SignedProducts.{mul-le_ℤ, mul_comm_ℤ}

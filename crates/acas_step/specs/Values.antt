@@ -1,5 +1,5 @@
 -- The value of a choice, with its own cost, and how many backups are counted.
-use Rattle.std.specs.Prelude.{◌≡◌, ℕ, ◌<◌, ◌≤◌, ℤ, ◌+ℤ◌, List, length, unsigned_abs}
+use Rattle.std.specs.Prelude.{ℕ, ◌<◌, ◌≤◌, ℤ, ◌+ℤ◌, List, length, unsigned_abs}
 use Rattle.acas_spec.specs.Model.{ModelData}
 use Rattle.acas_spec.specs.declared.parts.Choice.{Choice}
 use Rattle.acas_grid.specs.declared.place.Vertex.{Vertex}

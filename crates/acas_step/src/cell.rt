@@ -2,7 +2,7 @@
 ghost use Rattle.std.specs.Prelude.{◌≡◌, ◌*◌, ◌+◌, ◌<◌, ◌≤◌, pos};
 ghost use Rattle.acas_spec.specs.Accepted.{IsGrid};
 ghost use Rattle.acas_grid.specs.Axis.{IsBetweenEnds};
-ghost use Rattle.acas_grid.specs.Grid.{IsInside, IsVertex};
+ghost use Rattle.acas_grid.specs.Grid.{IsInside};
 ghost use Rattle.acas_step.specs.Corners.{AreCorners, IsInterpolation, IsWeighting};
 ghost use Rattle.acas_step.specs.Ends.{FitsGrid, IsCorner, IsEnds, IsRound, place_on, weight_of_cell, weight_on};
 
@@ -27,7 +27,7 @@ pub struct CornerSet {
 
 // The cell of an axis that holds a number, and the weights of its two ends there: the distance to the other end.
 #[derive(Clone, Copy)]
-pub struct Ends {
+struct Ends {
     cell: u32,
     lower: u64,
     upper: u64,
@@ -35,7 +35,7 @@ pub struct Ends {
 
 // The ends on the three axes.
 #[derive(Clone, Copy)]
-pub struct Cell {
+struct Cell {
     h: Ends,
     v0: Ends,
     v1: Ends,

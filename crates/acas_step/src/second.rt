@@ -2,7 +2,6 @@
 //! and Chryssanthacopoulos, MIT Lincoln Laboratory, 2011).
 ghost use Rattle.std.specs.Prelude.{◌≡◌, ◌<◌, ◌≤◌, pos, ◌+ℤ◌, ◌-ℤ◌, ◌*ℤ◌, length, unsigned_abs};
 ghost use Rattle.std.specs.Int.{int_min};
-ghost use Rattle.acas_spec.specs.Accepted.{IsAccepted};
 ghost use Rattle.acas_spec.specs.Model.{advisory_at, point_at, vertices};
 ghost use Rattle.acas_grid.specs.Grid.{IsInside, IsVertex};
 ghost use Rattle.acas_process.specs.Step as process;

@@ -1,7 +1,4 @@
 //! Small models, whose numbers were worked out by hand.
-ghost use Rattle.std.specs.Prelude.{◌≡◌, ◌≤◌, IfSome, length, unsigned_abs};
-ghost use Rattle.acas_spec.specs.Model.{states, vertices};
-
 use crate::cell::{Corner, CornerSet, corners};
 use crate::counter::Backups;
 use crate::ending::terminal;
@@ -230,7 +227,7 @@ fn costs_are_added_in_millionths(rt: HostRuntime) -> Result<(), Fail> {
         let pair = pair_of(&four, vertex, &choice, &zero, &mut count);
         assert!(rt; pair == want.map(|(upper, lower)| Pair { upper, lower }));
     }
-    assert!(rt; pair_of(&four, 7, &CLEAR, &zero[1..], &mut count) == None);
+    assert!(rt; pair_of(&four, 7, &CLEAR, &[], &mut count) == None);
     assert_eq!(rt; count.count(), 4);
     Ok(())
 }

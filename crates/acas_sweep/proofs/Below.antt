@@ -1,5 +1,5 @@
 -- The layers below a number of seconds to go, layer by layer.
-use Rattle.std.proofs.Common.{◌≡◌, ℕ, zero, suc, ◌+◌, ◌-◌, ◌*◌, ◌<◌, ◌≤◌, ◌⊎◌, inl, inr, ⊎_elim, ℤ, pos, unsigned_abs, List, length, get_or, take, drop, ◌++◌, refl, ap, sym, subst, ◌∙◌, arith}
+use Rattle.std.proofs.Common.{◌≡◌, ℕ, zero, suc, ◌+◌, ◌-◌, ◌*◌, ◌<◌, ◌≤◌, inl, inr, ⊎_elim, pos, List, length, get_or, take, drop, ◌++◌, refl, ap, sym, subst, ◌∙◌, arith}
 use Rattle.std.proofs.lemmas.List.{get_or-append-add, get_or-drop, get_or-take, get_or_append_left, length-drop, length-take, take_all}
 use Rattle.std.proofs.Math.Nat.{mul-le-mul_right}
 use Rattle.std.proofs.Math.Seq.{take-append_seam}
@@ -20,7 +20,7 @@ use Rattle.acas_step.specs.States.{state_present, state_vertex}
 use Rattle.acas_step.specs.declared.layer.Side.TheVariants.{Upper, Lower}
 use Rattle.acas_sweep.specs.Entries.{AreBelow, AreOver, IsEntryOf, IsWhole, entry_at}
 use Rattle.acas_sweep.specs.Layer.{IsLayer}
-use Rattle.acas_sweep.specs.Layers.{AreLayers, LayersData, advice_of, pairs_of}
+use Rattle.acas_sweep.specs.Layers.{AreLayers, LayersData}
 use Rattle.acas_sweep.proofs.Over.{below_or_at}
 use Rattle.acas_step.proofs.StateNumbers.{state_present-below}
 use Rattle.acas_sweep.proofs.NumberedStates.{state_present-state_number, state_vertex-state_number}

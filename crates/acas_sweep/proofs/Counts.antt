@@ -1,6 +1,6 @@
 -- How many backups a compiled table takes at most.
 use Rattle.std.specs.List.{IsDistinct, list_any}
-use Rattle.std.proofs.Common.{◌≡◌, ◌≢◌, ℕ, zero, suc, ◌+◌, ◌*◌, ◌<◌, ◌≤◌, List, [], ◌∷◌, length, get_or, sum_by, true, false, nat_eq, ⊎_elim, ap, refl, sym, subst, ◌∙◌, arith}
+use Rattle.std.proofs.Common.{◌≡◌, ℕ, suc, ◌+◌, ◌*◌, ◌<◌, ◌≤◌, List, [], ◌∷◌, length, get_or, sum_by, true, false, nat_eq, ⊎_elim, sym, subst, ◌∙◌, arith}
 use Rattle.std.proofs.Math.Nat.{mul-le-mul}
 use Rattle.std.proofs.lemmas.Bool.{cases_Bool, eqb-true}
 use Rattle.std.proofs.lemmas.Grind.{get_or_default_zero}
@@ -12,7 +12,7 @@ use Rattle.acas_spec.specs.Accepted.{AreDistinct, IsAccepted}
 use Rattle.acas_spec.specs.Model.{ModelData, choices_at, vertices}
 use Rattle.acas_spec.specs.declared.parts.Choice.{Choice}
 use Rattle.acas_process.specs.Cost.{advisories_of}
-use Rattle.acas_process.proofs.AcceptedLaws.{is_chosen, listed, test_apart}
+use Rattle.acas_process.proofs.AcceptedLaws.{is_chosen, test_apart}
 use Rattle.acas_sweep.specs.Layers.{backup_count, choice_count, layer_backups}
 
 -- numbers that are all below n, by their places and by value

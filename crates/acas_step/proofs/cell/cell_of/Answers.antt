@@ -1,6 +1,5 @@
 use Rattle.std.proofs.Common.{w64, rules}
 use Rattle.std.proofs.lemmas.Int.{to_z-of_z}
-use Rattle.acas_step.specs.Ends.{IsRound}
 use Rattle.acas_step.proofs.CornerLaws.{fits_grid}
 use Rattle.acas_step.proofs.cell.cell_of.Goals as goal
 use mir.Val.{SFits}

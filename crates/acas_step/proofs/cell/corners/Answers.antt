@@ -1,11 +1,10 @@
-use Rattle.std.proofs.Common.{◌≡◌, ℤ, pos, List, [], ◌∷◌, to_z, of_z, w64, sym, subst, ◌∙◌, arith, rules}
-use Rattle.std.proofs.lemmas.Int.{ints, to_z-of_z}
+use Rattle.std.proofs.Common.{ℤ, List, [], ◌∷◌, to_z, of_z, sym, subst, ◌∙◌, rules}
+use Rattle.std.proofs.lemmas.Int.{to_z-of_z}
 use Rattle.acas_spec.specs.Accepted.{IsGrid}
 use Rattle.acas_spec.specs.Model.{GridData}
 use Rattle.acas_step.specs.Corners.{AreCorners, IsInterpolation, IsWeighting}
-use Rattle.acas_step.specs.Ends.{IsRound}
 use Rattle.acas_step.specs.declared.cell.Corner.{Corner}
-use Rattle.acas_step.proofs.CornerLaws.{AreEight, interpolates, weighs}
+use Rattle.acas_step.proofs.CornerLaws.{interpolates, weighs}
 use Rattle.acas_step.proofs.ShareLaws.{are_corners}
 use Rattle.acas_step.proofs.cell.corners.Goals as goal
 use mir.Syntax.{w128}

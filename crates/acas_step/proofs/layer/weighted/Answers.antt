@@ -1,4 +1,4 @@
-use Rattle.std.proofs.Common.{◌*ℤ◌, w64, pos, negsuc, arith, rules}
+use Rattle.std.proofs.Common.{◌*ℤ◌, w64, pos, negsuc, arith}
 use Rattle.std.proofs.lemmas.Int.{ints, to_z-of_z}
 use Rattle.acas_step.proofs.Weights.{weight_high, weight_low, weighted_fits}
 use Rattle.acas_step.proofs.layer.weighted.Goals as goal

@@ -1,4 +1,4 @@
-use Rattle.std.proofs.Common.{◌≡◌, ◌+◌, ◌+ℤ◌, ◌*ℤ◌, ℤ, pos, to_z, of_z, get_or, w64, arith, rules}
+use Rattle.std.proofs.Common.{◌≡◌, ◌+◌, ◌+ℤ◌, pos, to_z, of_z, get_or, w64, arith, rules}
 use Rattle.std.proofs.lemmas.Int.{ints, to_z-of_z}
 use Rattle.acas_step.specs.Layer.{value_at}
 use Rattle.acas_step.proofs.SumSteps.{sum_step}

@@ -1,4 +1,4 @@
-use Rattle.std.proofs.Common.{◌≡◌, ◌+ℤ◌, ◌-ℤ◌, ap, ◌∙◌, w64, arith, rules}
+use Rattle.std.proofs.Common.{◌+ℤ◌, ◌-ℤ◌, ap, ◌∙◌, w64, arith, rules}
 use Rattle.std.proofs.lemmas.Int.{ints, to_z-of_z}
 use Rattle.acas_step.proofs.Commands.{point-same}
 use Rattle.acas_step.proofs.second.after_second.Goals as goal

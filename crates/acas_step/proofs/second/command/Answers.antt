@@ -1,4 +1,4 @@
-use Rattle.std.proofs.Common.{◌≡◌, ℤ, ◌-ℤ◌, w64, arith}
+use Rattle.std.proofs.Common.{◌-ℤ◌, w64, arith}
 use Rattle.std.proofs.lemmas.Int.{ints, to_z-of_z}
 use Rattle.acas_step.proofs.Commands.{command_above}
 use Rattle.acas_step.proofs.second.command.Goals as goal

@@ -1,5 +1,5 @@
-use Rattle.std.proofs.Common.{◌≡◌, ◌∙◌, ap, w64, arith, rules}
-use Rattle.std.proofs.lemmas.Int.{ints, to_z-of_z}
+use Rattle.std.proofs.Common.{◌∙◌, ap, w64, rules}
+use Rattle.std.proofs.lemmas.Int.{to_z-of_z}
 use Rattle.acas_spec.specs.Model.{GridData}
 use Rattle.acas_grid.specs.Grid.{clamp_point}
 use Rattle.acas_step.proofs.Commands.{moved_is}

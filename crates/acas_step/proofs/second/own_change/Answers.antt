@@ -1,4 +1,4 @@
-use Rattle.std.proofs.Common.{◌≡◌, ℤ, pos, to_z, of_z, w64, ◌+ℤ◌, ap, ◌∙◌, arith, rules}
+use Rattle.std.proofs.Common.{◌≡◌, to_z, of_z, w64, ◌+ℤ◌, ap, ◌∙◌, arith, rules}
 use Rattle.std.proofs.lemmas.Int.{ints, to_z-of_z}
 use Rattle.acas_spec.specs.Model.{advisory_at}
 use Rattle.acas_spec.specs.declared.parts.Advisory.{Advisory}

@@ -1,4 +1,4 @@
-use Rattle.std.proofs.Common.{◌≡◌, ◌*ℤ◌, w64, arith, rules}
+use Rattle.std.proofs.Common.{◌*ℤ◌, w64, arith}
 use Rattle.std.proofs.lemmas.Int.{ints, to_z-of_z, fits_signed_mul}
 use Rattle.acas_step.proofs.Weights.{weighted_small}
 use Rattle.acas_step.proofs.values.by_weight.Goals as goal

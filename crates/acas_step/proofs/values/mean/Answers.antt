@@ -1,4 +1,4 @@
-use Rattle.std.proofs.Common.{◌≡◌, ◌+◌, ◌*◌, ◌^◌, ◌≤◌, ◌<◌, ℕ, ℤ, pos, ◌+ℤ◌, ◌*ℤ◌, length, unsigned_abs, to_z, of_z, w64, ap, sym, subst, ◌∙◌, arith, rules}
+use Rattle.std.proofs.Common.{◌≡◌, ◌*◌, ◌^◌, ◌≤◌, ◌<◌, ℕ, ℤ, pos, ◌+ℤ◌, ◌*ℤ◌, length, unsigned_abs, to_z, w64, ap, sym, subst, ◌∙◌, arith, rules}
 use Rattle.std.proofs.lemmas.Int.{ints, to_z-of_z}
 use Rattle.std.proofs.lemmas.List.Sums.{sum_by-take-le}
 use Rattle.acas_spec.specs.Model.{GridData, total_weight, weight_of}
@@ -14,7 +14,7 @@ use Rattle.acas_process.specs.Bounds.{interpolated}
 use Rattle.acas_process.specs.Step.{moved, point_weight}
 use Rattle.acas_step.specs.Layer.{layer_values}
 use Rattle.acas_step.specs.States.{vertex_at}
-use Rattle.acas_step.proofs.Means.{IsMeanSoFar, mean_step, mean_fits}
+use Rattle.acas_step.proofs.Means.{mean_step, mean_fits}
 use Rattle.acas_step.proofs.values.mean.Goals as goal
 use mir.Syntax.{w128}
 use mir.Val.{SFits}

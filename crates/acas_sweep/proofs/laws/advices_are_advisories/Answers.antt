@@ -1,11 +1,11 @@
-use Rattle.std.proofs.Common.{◌≡◌, ◌≢◌, ℕ, zero, suc, ◌<◌, List, get_or, refl, sym, subst}
+use Rattle.std.proofs.Common.{◌≢◌, ℕ, zero, suc, ◌<◌, List, get_or, refl, sym, subst}
 use Rattle.acas_spec.specs.Accepted.{IsAccepted}
 use Rattle.acas_spec.specs.Model.{ModelData, states}
 use Rattle.acas_units.specs.declared.pair.Pair.{Pair}
 use Rattle.acas_process.specs.Compiled.{compiled}
 use Rattle.acas_process.proofs.CompiledLaws.{compiled_advice_within}
 use Rattle.acas_step.specs.States.{state_present, state_vertex}
-use Rattle.acas_sweep.specs.Layer.{IsAdvised, IsLayer}
+use Rattle.acas_sweep.specs.Layer.{IsLayer}
 use Rattle.acas_step.proofs.StateNumbers.{state_present-below}
 use Rattle.acas_sweep.proofs.laws.advices_are_advisories.Goals as goal
 

@@ -1,4 +1,4 @@
-use Rattle.std.proofs.Common.{◌≡◌, ℕ, ◌<◌, length, ap, ◌∙◌, arith}
+use Rattle.std.proofs.Common.{◌≡◌, ℕ, ◌<◌, ap, ◌∙◌, arith}
 use Rattle.acas_spec.specs.Model.{GridData, states, vertices}
 use Rattle.acas_units.specs.declared.pair.Entry.{Entry}
 use Rattle.acas_process.specs.Compiled.{compiled}

@@ -1,4 +1,4 @@
-use Rattle.std.proofs.Common.{◌≡◌, ◌+◌, ◌-◌, ◌*◌, ◌≤◌, ℕ, ap, arith}
+use Rattle.std.proofs.Common.{◌≡◌, ◌+◌, ◌-◌, ◌≤◌, ap, arith}
 use Rattle.std.proofs.Math.Nat.{mul-le-mul_right}
 use Rattle.acas_spec.specs.Model.{GridData}
 use Rattle.acas_sweep.specs.Layers.{layer_backups}

@@ -1,11 +1,6 @@
-use Rattle.std.proofs.Common.{◌≡◌, ◌+◌, ◌-◌, ◌*◌, ◌<◌, ◌≤◌, ℕ, suc, List, length, take, drop, ap, subst, sym, ◌∙◌, arith}
+use Rattle.std.proofs.Common.{◌≡◌, ◌+◌, ◌*◌, ◌≤◌, length, ap, ◌∙◌, arith}
 use Rattle.std.proofs.Math.Nat.{mul-le-mul_right}
-use Rattle.acas_spec.specs.Accepted.{IsAccepted}
-use Rattle.acas_spec.specs.Model.{GridData, ModelData, entries, states, vertices}
-use Rattle.acas_units.specs.declared.pair.Pair.{Pair}
-use Rattle.acas_process.specs.Compiled.{compiled}
-use Rattle.acas_step.specs.States.{state_present, state_vertex}
-use Rattle.acas_sweep.specs.Entries.{AreBelow, AreOver, IsEntryOf, IsWhole, entry_at}
+use Rattle.acas_spec.specs.Model.{GridData, states}
 use Rattle.acas_sweep.proofs.Below.{whole_below, next_below}
 use Rattle.acas_sweep.proofs.sweep.fill_next.Goals as goal
 
