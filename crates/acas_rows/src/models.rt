@@ -38,6 +38,48 @@ own = 0
 intruder = 0
 ";
 
+/// A model of two altitudes and three advisories, with one second to go.
+pub const MODEL_C: &str = "version = 1
+horizon = 1
+[grid]
+altitude = [-1000, -170]
+own_rate = [0, 60]
+intruder_rate = [-60, 0]
+[puck]
+radius = 500
+half_height = 100
+[closing]
+least = 500
+greatest = 500
+[pilot]
+pull = 480
+limit = 960
+[cost]
+contact = 5
+[[advisory]]
+name = \"clear\"
+lo = -10000
+hi = 10000
+choices = [\"clear\", \"climb\", \"descend\"]
+costs = [0, 0, 0]
+[[advisory]]
+name = \"climb\"
+lo = 1500
+hi = 10000
+choices = [\"clear\", \"climb\", \"descend\"]
+costs = [0, 0, 0]
+[[advisory]]
+name = \"descend\"
+lo = -10000
+hi = -1500
+choices = [\"clear\", \"climb\", \"descend\"]
+costs = [0, 0, 0]
+[[sigma]]
+weight = 1
+own = 0
+intruder = 0
+";
+
 /// A model of four altitudes and four advisories, with thirty seconds to go.
 pub const MODEL_D: &str = "version = 1
 horizon = 30
@@ -84,80 +126,6 @@ costs = [0, 1, 1, 1]
 weight = 1
 own = 0
 intruder = 0
-";
-
-/// A model as a user has it: seven advisories and forty seconds to go.
-pub const MODEL_E: &str = "version = 1
-horizon = 40
-[grid]
-altitude = [-1000, -900, -800, -700, -600, -500, -400, -300, -200, -100, 0, 100, 200, 300, 400, 500, 600, 700, 800, 900, 1000]
-own_rate = [-2500, -2000, -1500, -1000, -500, 0, 500, 1000, 1500, 2000, 2500]
-intruder_rate = [-2500, -2000, -1500, -1000, -500, 0, 500, 1000, 1500, 2000, 2500]
-[puck]
-radius = 500
-half_height = 100
-[closing]
-least = 500
-greatest = 1500
-[pilot]
-pull = 480
-limit = 960
-[cost]
-contact = 10000
-[[advisory]]
-name = \"clear\"
-lo = -10000
-hi = 10000
-choices = [\"clear\", \"no-climb\", \"no-descend\", \"level\", \"climb\", \"descend\", \"climb-fast\"]
-costs = [0, 1, 1, 2, 5, 5, 8]
-[[advisory]]
-name = \"no-climb\"
-lo = -10000
-hi = 0
-choices = [\"clear\", \"no-climb\", \"no-descend\", \"level\", \"climb\", \"descend\", \"climb-fast\"]
-costs = [0, 1, 1, 2, 5, 5, 8]
-[[advisory]]
-name = \"no-descend\"
-lo = 0
-hi = 10000
-choices = [\"clear\", \"no-climb\", \"no-descend\", \"level\", \"climb\", \"descend\", \"climb-fast\"]
-costs = [0, 1, 1, 2, 5, 5, 8]
-[[advisory]]
-name = \"level\"
-lo = -500
-hi = 500
-choices = [\"clear\", \"no-climb\", \"no-descend\", \"level\", \"climb\", \"descend\", \"climb-fast\"]
-costs = [0, 1, 1, 2, 5, 5, 8]
-[[advisory]]
-name = \"climb\"
-lo = 1500
-hi = 10000
-choices = [\"clear\", \"no-climb\", \"no-descend\", \"level\", \"climb\", \"descend\", \"climb-fast\"]
-costs = [0, 1, 1, 2, 5, 5, 8]
-[[advisory]]
-name = \"descend\"
-lo = -10000
-hi = -1500
-choices = [\"clear\", \"no-climb\", \"no-descend\", \"level\", \"climb\", \"descend\", \"climb-fast\"]
-costs = [0, 1, 1, 2, 5, 5, 8]
-[[advisory]]
-name = \"climb-fast\"
-lo = 2500
-hi = 10000
-choices = [\"clear\", \"no-climb\", \"no-descend\", \"level\", \"climb\", \"descend\", \"climb-fast\"]
-costs = [0, 1, 1, 2, 5, 5, 8]
-[[sigma]]
-weight = 2
-own = 0
-intruder = 0
-[[sigma]]
-weight = 1
-own = 60
-intruder = -60
-[[sigma]]
-weight = 1
-own = -60
-intruder = 60
 ";
 
 /// A model of two altitudes and three sigma points, with two seconds to go.

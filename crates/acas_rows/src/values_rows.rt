@@ -1,5 +1,5 @@
 //! What `values` prints.
-use crate::models::{MODEL_A, MODEL_D, MODEL_E, model_b, replaced};
+use crate::models::{MODEL_A, MODEL_C, MODEL_D, model_b, replaced};
 use crate::setting::Setting;
 use acas_cli::{Cause, FileRole};
 use std::alloc::Global;
@@ -236,8 +236,20 @@ fn values_go_back_from_the_end(rt: HostRuntime) -> Result<(), Fail> {
 }
 
 #[test]
-fn larger_tables_are_as_worked_out_apart(rt: HostRuntime) -> Result<(), Fail> {
+fn tables_are_as_worked_out_apart(rt: HostRuntime) -> Result<(), Fail> {
     let alloc = rt.alloc();
+    let at = printed(alloc, MODEL_C)?;
+    assert_eq!(rt; at.out.written().len(), 2_000);
+    assert!(rt;
+        has_lines(
+            at.out.written(),
+            &[
+                "\n1 clear -1000 0 -60 0.000000 0.000000 clear\n",
+                "\n1 clear -170 60 0 0.000000 0.000000 clear\n",
+                "\n1 climb -170 60 -60 0.000000 0.000000 clear\n"
+            ]
+        )
+    );
     let at = printed(alloc, MODEL_D)?;
     assert_eq!(rt; at.out.written().len(), 134_064);
     assert!(rt;
@@ -247,21 +259,6 @@ fn larger_tables_are_as_worked_out_apart(rt: HostRuntime) -> Result<(), Fail> {
                 "\n10 clear 0 1500 3000 3.881645 3.881651 clear\n",
                 "\n30 descend -670 1500 3000 2.247384 2.247408 clear\n",
                 "\n30 descend 0 0 0 4.825895 4.825910 climb\n"
-            ]
-        )
-    );
-    let at = printed(alloc, MODEL_E)?;
-    assert_eq!(rt; at.out.written().len(), 37_138_990);
-    assert!(rt;
-        has_lines(
-            at.out.written(),
-            &[
-                "\n1 clear -100 2000 -2500 2108.000000 2108.000000 climb-fast\n",
-                "\n10 climb -400 -1500 2500 1741.850120 1741.850133 no-descend\n",
-                "\n25 level 0 0 1500 3.989125 3.989156 clear\n",
-                "\n40 clear 600 1000 -1000 7.207987 7.208039 clear\n",
-                "\n40 descend -900 -1500 500 7.029088 7.029144 no-descend\n",
-                "\n40 climb-fast 1000 2500 2500 0.093210 0.093252 clear\n"
             ]
         )
     );
