@@ -1,0 +1,172 @@
+-- Bytes at hand, as more are read behind them.
+use Rattle.std.proofs.Common.{◌≡◌, ℕ, zero, suc, ◌+◌, ◌-◌, ◌≤◌, List, [], ◌∷◌, ◌++◌, length, take, drop, Bool, cond, Option, None, Some, Ok, Err, sym, ◌∙◌, ap, subst, arith, append_assoc}
+use Rattle.std.proofs.Math.Seq.{take-add, take-append-add}
+use Rattle.std.proofs.lemmas.List.{take-take, take-append-le, drop-take, drop-append-le, drop-drop, length-take-le, length-take, take_all}
+use Rattle.std.proofs.lemmas.Bool.{le-ltb}
+use Rattle.std.specs.FinMap.{get}
+use Rattle.acas_outside.specs.Bytes.{IsBytes}
+use Rattle.acas_outside.specs.Files.{Files, Given, Reads}
+use Rattle.acas_table.specs.declared.source.Source.{Source}
+use Rattle.acas_table.specs.Text.{part}
+use Rattle.sha2.specs.Hashers.{Holds256}
+use Rattle.acas_table.specs.Faults.{more_fault}
+use Rattle.acas_table.specs.Source.{IsHashed, IsAt, IsAtFile, Moves, GivesMore, Fills, Finds}
+use Rattle.acas_table.specs.declared.source.Miss.{Miss}
+use Rattle.acas_table.specs.declared.source.Miss.TheVariants.{Ends}
+use Rattle.acas_table.specs.declared.fault.TableFault.TheVariants.{Length}
+
+-- a buffer into which bytes were read behind its first ones
+pub refilled : (items into rest past : List ℕ) (len to n : ℕ) → to ≤ length items → n ≤ length into → to + n ≤ len
+    → take (to + n) (take len (take to items ++ (into ++ rest) ++ past)) ≡ take to items ++ take n into
+refilled items into rest past len to n first within fits =
+    let front : length (take to items) ≡ to = length-take-le to items first in
+    take-take (to + n) len (take to items ++ (into ++ rest) ++ past) fits
+    ∙ ap (λ (l : List ℕ). take (to + n) l) (append_assoc (take to items) (into ++ rest) past)
+    ∙ ap (λ (k : ℕ). take (k + n) (take to items ++ (into ++ rest ++ past))) (sym front)
+    ∙ take-append-add (take to items) (into ++ rest ++ past) n
+    ∙ ap (λ (l : List ℕ). take to items ++ take n l) (append_assoc into rest past)
+    ∙ ap (λ (l : List ℕ). take to items ++ l) (take-append-le n into (rest ++ past) within)
+
+pub ahead_more : (old new bytes into : List ℕ) (from k n place : ℕ) → from + k ≤ length old → take (from + k + n) new ≡ take (from + k) old ++ take n into
+    → part old from k ≡ part bytes place k → take n into ≡ take n (drop (place + k) bytes) → part new from (k + n) ≡ part bytes place (k + n)
+ahead_more old new bytes into from k n place room grown so_far more =
+    sym (drop-take from (k + n) new)
+    ∙ ap (λ (m : ℕ). drop from (take m new)) (omega arith)
+    ∙ ap (λ (l : List ℕ). drop from l) grown
+    ∙ drop-append-le from (take (from + k) old) (take n into) (omega (arith, length-take (from + k) old))
+    ∙ ap (λ (l : List ℕ). l ++ take n into) (drop-take from k old)
+    ∙ ap (λ (l : List ℕ). l ++ take n into) so_far
+    ∙ ap (λ (l : List ℕ). part bytes place k ++ l) (more ∙ ap (λ (l : List ℕ). take n l) (sym (drop-drop k place bytes)))
+    ∙ sym (take-add k n (drop place bytes))
+
+-- bytes behind bytes
+bytes_of_both : (a b : List ℕ) → IsBytes a → IsBytes b → IsBytes (a ++ b)
+bytes_of_both [] b front behind i = behind i
+bytes_of_both (x ∷ a) b front behind zero = front 0
+bytes_of_both (x ∷ a) b front behind (suc i) = bytes_of_both a b (λ j. front (suc j)) behind i
+
+-- what was seen stays, and grows by a field
+seen_moves : (old new : Source) (bytes : List ℕ) → new.place ≡ old.place → IsBytes (take old.place bytes) → IsBytes (take new.place bytes)
+seen_moves old new bytes place seen = subst (λ (k : ℕ). IsBytes (take k bytes)) (sym place) seen
+
+seen_more : (old new : Source) (bytes field : List ℕ) (n : ℕ) → new.place ≡ old.place + n → field ≡ part bytes old.place n → IsBytes field → IsBytes (take old.place bytes) → IsBytes (take new.place bytes)
+seen_more old new bytes field n place is small seen =
+    subst IsBytes
+    (ap (λ (l : List ℕ). take old.place bytes ++ l) is ∙ sym (take-add old.place n bytes) ∙ ap (λ (k : ℕ). take k bytes) (sym place))
+    (bytes_of_both (take old.place bytes) field seen small)
+
+-- what was read since the mark stays
+pub hashed_moves : (old new : Source) (bytes : List ℕ) → Moves old new → IsHashed old bytes → IsHashed new bytes
+hashed_moves old new bytes moves hashed = rw (moves.hasher, moves.mark, moves.place) hashed
+
+more_file : {X : Type 0} (x : X) (file : Option (List ℕ)) (old new : Source) (into : List ℕ) (n at : ℕ) → Reads file at (Ok n) into → at ≡ old.place + (old.to - old.from)
+    → new.from ≡ old.from → new.to ≡ old.to + n → Moves old new → take (old.to + n) new.buffer.items ≡ take old.to old.buffer.items ++ take n into
+    → IsAtFile old file → GivesMore {X = X} old file new (Ok x)
+more_file x None old new into n at reads place from to moves grown stands = absurd reads
+more_file x (Some bytes) old new into n at reads place from to moves grown stands =
+    let k = old.to - old.from in
+    let end : old.from + k ≡ old.to = omega (arith, old.ordered) in
+    let fresh : new.to - new.from ≡ k + n = omega (arith, old.ordered) in
+    let after : take n into ≡ take n (drop (old.place + k) bytes) = reads.bytes ∙ ap (λ (m : ℕ). take n (drop m bytes)) place in
+    let whole : take (old.from + k + n) new.buffer.items ≡ take (old.from + k) old.buffer.items ++ take n into =
+    subst (λ (m : ℕ). take (m + n) new.buffer.items ≡ take m old.buffer.items ++ take n into) (sym end) grown in
+    record {
+      ahead =
+          ap (λ (m : ℕ). part new.buffer.items m (new.to - new.from)) from
+          ∙ ap (λ (m : ℕ). part new.buffer.items old.from m) fresh
+          ∙ ahead_more old.buffer.items new.buffer.items bytes into old.from k n old.place (omega (arith, old.ordered, old.room)) whole stands.ahead after
+          ∙ ap (λ (m : ℕ). part bytes old.place m) (sym fresh)
+          ∙ ap (λ (m : ℕ). part bytes m (new.to - new.from)) (sym moves.place);
+      within = omega (arith, reads.within, stands.within, old.ordered, moves.place);
+      hashed = hashed_moves old new bytes moves stands.hashed;
+      seen = seen_moves old new bytes moves.place stands.seen;
+    }
+
+pub more_given : {X : Type 0} (x : X) (holds : Option Files) (name : List ℕ) (old new : Source) (into : List ℕ) (n at : ℕ) → Given holds name (λ file. Reads file at (Ok n) into) → at ≡ old.place + (old.to - old.from)
+    → new.from ≡ old.from → new.to ≡ old.to + n → Moves old new → take (old.to + n) new.buffer.items ≡ take old.to old.buffer.items ++ take n into
+    → Given holds name (λ file. IsAtFile old file → GivesMore {X = X} old file new (Ok x))
+more_given x None name old new into n at reads place from to moves grown = tt
+more_given x (Some files) name old new into n at reads place from to moves grown = more_file x (get files name) old new into n at reads place from to moves grown
+
+-- the first n of the bytes at hand
+pub part-first : (a b : List ℕ) (i j n k : ℕ) → n ≤ k → part a i k ≡ part b j k → part a i n ≡ part b j n
+part-first a b i j n k within same =
+    sym (take-take n k (drop i a) within) ∙ ap (λ (l : List ℕ). take n l) same ∙ take-take n k (drop j b) within
+
+part-rest_of : (a : List ℕ) (i n k : ℕ) → n ≤ k → drop n (part a i k) ≡ part a (i + n) (k - n)
+part-rest_of a i n k within =
+    ap (λ (m : ℕ). drop n (take m (drop i a))) (omega arith)
+    ∙ drop-take n (k - n) (drop i a)
+    ∙ ap (λ (l : List ℕ). take (k - n) l) (drop-drop n i a)
+
+-- and those behind them
+pub part-rest : (a b : List ℕ) (i j n k : ℕ) → n ≤ k → part a i k ≡ part b j k → part a (i + n) (k - n) ≡ part b (j + n) (k - n)
+part-rest a b i j n k within same =
+    sym (part-rest_of a i n k within) ∙ ap (λ (l : List ℕ). drop n l) same ∙ part-rest_of b j n k within
+
+pub part-join : (a : List ℕ) (i k n : ℕ) → part a i k ++ part a (i + k) n ≡ part a i (k + n)
+part-join a i k n =
+    ap (λ (l : List ℕ). part a i k ++ take n l) (sym (drop-drop k i a)) ∙ sym (take-add k n (drop i a))
+
+-- the digest, as a field is passed over
+pub hashed_more : (old new : Source) (bytes : List ℕ) (n : ℕ) → new.place ≡ old.place + n → new.mark ≡ old.mark
+    → ((m : List ℕ) → Holds256 old.hasher m → Holds256 new.hasher (m ++ part bytes old.place n)) → IsHashed old bytes → IsHashed new bytes
+hashed_more old new bytes n place mark update hashed =
+    let k = old.place - old.mark in
+    let up : old.mark + k ≡ old.place = omega (arith, old.marked) in
+    let whole : part bytes old.mark k ++ part bytes old.place n ≡ part bytes new.mark (new.place - new.mark) =
+    ap (λ (m : ℕ). part bytes old.mark k ++ part bytes m n) (sym up) ∙ part-join bytes old.mark k n
+    ∙ ap (λ (m : ℕ). part bytes old.mark m) (omega (arith, old.marked)) ∙ ap (λ (m : ℕ). part bytes m (new.place - new.mark)) (sym mark) in
+    subst (λ (l : List ℕ). Holds256 new.hasher l) whole (update (part bytes old.mark k) hashed)
+
+-- a field that is passed over
+pub passed : (old new : Source) (bytes field : List ℕ) (n : ℕ) → n ≤ old.to - old.from → field ≡ part old.buffer.items old.from n
+    → new.buffer.items ≡ old.buffer.items → new.from ≡ old.from + n → new.to ≡ old.to → new.place ≡ old.place + n → new.mark ≡ old.mark
+    → ((m : List ℕ) → Holds256 old.hasher m → Holds256 new.hasher (m ++ field)) → IsBytes field
+    → IsAt old bytes → (field ≡ part bytes old.place n) × IsAt new bytes
+passed old new bytes field n filled is buffer from to place mark update small stands =
+    let k = old.to - old.from in
+    let rest : new.to - new.from ≡ k - n = omega arith in
+    let same : field ≡ part bytes old.place n = is ∙ part-first old.buffer.items bytes old.from old.place n k filled stands.ahead in (
+      same,
+      record {
+        ahead =
+            ap (λ (l : List ℕ). part l new.from (new.to - new.from)) buffer
+            ∙ ap (λ (m : ℕ). part old.buffer.items m (new.to - new.from)) from
+            ∙ ap (λ (m : ℕ). part old.buffer.items (old.from + n) m) rest
+            ∙ part-rest old.buffer.items bytes old.from old.place n k filled stands.ahead
+            ∙ ap (λ (m : ℕ). part bytes (old.place + n) m) (sym rest)
+            ∙ ap (λ (m : ℕ). part bytes m (new.to - new.from)) (sym place);
+        within = omega (arith, stands.within);
+        hashed = hashed_more old new bytes n place mark (λ m holds. subst (λ (l : List ℕ). Holds256 new.hasher (m ++ l)) same (update m holds)) stands.hashed;
+        seen = seen_more old new bytes field n place same small stands.seen;
+      },
+    )
+
+-- a source that has read nothing is at the front of every file
+pub at_front : (s : Source) (file : Option (List ℕ)) → s.from ≡ 0 → s.to ≡ 0 → s.place ≡ 0 → s.mark ≡ 0 → Holds256 s.hasher [] → IsAtFile s file
+at_front s None from to place mark empty = from ∙ sym to
+at_front s (Some bytes) from to place mark empty =
+    let none : s.to - s.from ≡ 0 = omega arith in
+    let unread : s.place - s.mark ≡ 0 = omega arith in
+    record {
+      ahead = ap (λ (m : ℕ). part s.buffer.items s.from m) none ∙ sym (ap (λ (m : ℕ). part bytes s.place m) none);
+      within = omega arith;
+      hashed = subst (λ (l : List ℕ). Holds256 s.hasher l) (sym (ap (λ (m : ℕ). part bytes s.mark m) unread)) empty;
+      seen = subst (λ (k : ℕ). IsBytes (take k bytes)) (sym place) (λ i. omega arith);
+    }
+
+-- where the file ends behind what was read, all of it was seen
+ends_file : {X : Type 0} (x : X) (file : Option (List ℕ)) (old new : Source) (found : ℕ) → old.place ≡ old.expected → IsAtFile old file → Fills {X = Unit {0}} old 1 file new (Err (Ends found)) → Finds {X = X} (more_fault old.expected) file (Ok x)
+ends_file x None old new found place stands fills = absurd fills
+ends_file x (Some bytes) old new found place stands fills =
+    let most : length bytes ≤ old.place = omega (arith, fills.0, fills.1) in (
+      ap (λ (b : Bool). cond b (Some (Length old.expected (old.expected + 1))) None) (le-ltb old.expected (length bytes) (omega (arith, most, place))),
+      subst IsBytes (take_all old.place bytes most) stands.seen,
+    )
+
+pub ends_given : {X : Type 0} (x : X) (holds : Option Files) (name : List ℕ) (old new : Source) (miss : Miss) (found : ℕ) → miss ≡ Ends found → old.place ≡ old.expected
+    → Given holds name (λ file. IsAtFile old file → Fills {X = Unit {0}} old 1 file new (Err miss)) → Given holds name (λ file. IsAtFile old file → Finds {X = X} (more_fault old.expected) file (Ok x))
+ends_given x None name old new miss found is place fills = tt
+ends_given x (Some files) name old new miss found is place fills = λ stands.
+    ends_file x (get files name) old new found place stands (subst (λ (m : Miss). Fills {X = Unit {0}} old 1 (get files name) new (Err m)) is (fills stands))

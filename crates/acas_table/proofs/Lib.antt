@@ -1,0 +1,14 @@
+pub mod Shapes
+pub mod Growing
+pub mod Layers
+pub mod Versions
+pub mod Written
+pub mod Stored
+pub mod Flat
+pub mod States
+pub mod Ahead
+pub mod Cuts
+pub mod EntryLaws
+pub mod TextLaws
+pub mod Backward
+pub mod Found

@@ -1,0 +1,9 @@
+pub mod Shape
+pub mod Text
+pub mod Layers
+pub mod Faults
+pub mod Tables
+pub mod Pieces
+pub mod Writer
+pub mod Source
+pub mod Reader

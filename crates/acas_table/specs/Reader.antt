@@ -1,0 +1,72 @@
+-- A reader that has read the front of a file.
+use Rattle.std.specs.Prelude.{◌≡◌, ℕ, ◌+◌, ◌-◌, List, Bool, false, Option, Some, None, Result, Ok, Err, ⊤}
+use Rattle.acas_units.specs.declared.pair.Entry.{Entry}
+use Rattle.acas_table.specs.Text.{entry_at}
+use Rattle.acas_table.specs.Faults.{header_fault, entry_fault, first_below, tail_fault, first_fault}
+use Rattle.acas_table.specs.Shape.{entry_count}
+use Rattle.acas_table.specs.Source.{IsAt}
+use Rattle.acas_table.specs.Tables.{entries_below, flat_text}
+use Rattle.acas_table.specs.declared.shape.TableShape.{TableShape}
+use Rattle.acas_table.specs.declared.reader.TableReader.{TableReader}
+use Rattle.acas_table.specs.declared.fault.TableFault.{TableFault}
+use Rattle.acas_table.specs.declared.fault.TableFault.TheVariants.{Failed, Absent, Memory}
+
+-- what is seen of a reader
+pub record ReaderState : Type 0 where
+  pub shape : TableShape
+  -- how many entries it gave
+  pub given : ℕ
+  -- how many bytes it took
+  pub taken : ℕ
+  pub fault : Option TableFault
+  -- a finish answered Ok
+  pub done : Bool
+
+abbrev pub reader_state : TableReader → ReaderState
+reader_state r = record {
+  shape = r.shape;
+  given = r.given;
+  taken = r.source.place + (r.source.to - r.source.from);
+  fault = r.fault;
+  done = r.done;
+}
+
+-- the reader stands in these bytes: it has read the header and the entries that it gave, which have no fault
+pub record HasRead (digest : List ℕ) (r : TableReader) (bytes : List ℕ) : Type 0 where
+  pub header : header_fault digest r.shape bytes ≡ None
+  pub entries : first_below (entry_fault r.shape bytes) r.given ≡ None
+  pub source : IsAt r.source bytes
+  pub sound : r.fault ≡ None
+  pub more : r.done ≡ false
+
+-- `start`, at the file under the name
+abbrev pub Starts : List ℕ → TableShape → Option (List ℕ) → Result TableReader TableFault → Type 0
+Starts digest s None (Ok r) = ⊥
+Starts digest s (Some bytes) (Ok r) = HasRead digest r bytes
+Starts digest s file (Err Failed) = ⊤
+Starts digest s file (Err Memory) = ⊤
+Starts digest s file (Err Absent) = file ≡ None
+Starts digest s None (Err fault) = ⊥
+Starts digest s (Some bytes) (Err fault) = (header_fault digest s bytes ≡ Some fault) × (first_fault digest s bytes ≡ Some fault)
+
+-- `entry`, at the bytes in which the reader stands
+abbrev pub GivesEntry : List ℕ → ReaderState → List ℕ → Result Entry TableFault → Type 0
+GivesEntry digest old bytes (Ok entry) = (entry ≡ entry_at bytes old.given) × (entry_fault old.shape bytes old.given ≡ None)
+GivesEntry digest old bytes (Err Failed) = ⊤
+GivesEntry digest old bytes (Err Absent) = ⊥
+GivesEntry digest old bytes (Err Memory) = ⊥
+GivesEntry digest old bytes (Err fault) = (entry_fault old.shape bytes old.given ≡ Some fault) × (first_fault digest old.shape bytes ≡ Some fault)
+
+-- `finish`, at the bytes in which the reader stands
+abbrev pub Finishes : {X : Type 0} → List ℕ → TableShape → List ℕ → Result X TableFault → Type 0
+Finishes digest s bytes (Ok x) =
+    (tail_fault s bytes ≡ None) × (first_fault digest s bytes ≡ None) × (bytes ≡ flat_text digest s (entries_below bytes (entry_count s)))
+Finishes digest s bytes (Err Failed) = ⊤
+Finishes digest s bytes (Err Absent) = ⊥
+Finishes digest s bytes (Err Memory) = ⊥
+Finishes digest s bytes (Err fault) = (tail_fault s bytes ≡ Some fault) × (first_fault digest s bytes ≡ Some fault)
+
+-- the fault that a reader keeps of an answer
+abbrev pub kept : {X : Type 0} → Result X TableFault → Option TableFault
+kept (Ok x) = None
+kept (Err fault) = Some fault

@@ -1,0 +1,25 @@
+//! The table file: its writer and its reader.
+#![tactic(auto)]
+
+mod body;
+mod encoding;
+mod fault;
+mod header;
+mod laws;
+mod parts;
+mod pieces;
+mod reader;
+mod shape;
+mod source;
+#[cfg(test)]
+mod tests;
+mod writer;
+
+pub use fault::TableFault;
+pub use laws::{
+    layers_grow_to_the_text, lists_by_state_are_layers, only_texts_have_no_fault,
+    prefixes_are_too_short, texts_are_one_to_one, texts_are_read_again, texts_of_layers_are_flat,
+};
+pub use reader::TableReader;
+pub use shape::TableShape;
+pub use writer::{Phase, TableWriter};

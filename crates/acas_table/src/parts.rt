@@ -1,0 +1,60 @@
+//! The parts of a table behind its header, in either version.
+ghost use Rattle.std.specs.Prelude.{◌≡◌, ◌≤◌, List, ℕ, OnOk, OnErr, IsSome, IsTrue, length};
+ghost use Rattle.acas_outside.specs.Counts.{Rose};
+ghost use Rattle.acas_outside.specs.Files.{Given, Grows, GrowsPart};
+ghost use Rattle.acas_table.specs.Text.{layer_of, layer_bytes, next_base, ending};
+ghost use Rattle.acas_table.specs.Pieces.{Holds};
+
+use crate::pieces::Pieces;
+use acas_outside::{Failed, Folder};
+use acas_units::Pair;
+
+/// Appends a layer, and in version 2 its digest.
+pub fn append_layer<F: Folder>(
+    pieces: &mut Pieces,
+    version: u32,
+    folder: &mut F,
+    name: &str,
+    pairs: &[Pair],
+    advice: &[u8],
+) -> Result<(), Failed>
+    requires served { IsTrue (F.serves folder.old name.now) }
+    requires held { Given (F.holds folder.old) name.now (λ file. IsSome file) }
+    requires long { length advice.now ≡ length pairs.now }
+    requires bound { length pairs.now ≤ 4000000 }
+    ensures ok { (m : List ℕ) → Holds pieces.old m → OnOk result (Grows (F.holds folder.old) (F.holds folder.new) name.now (layer_bytes version m (layer_of pairs.now advice.now))) }
+    ensures err { (m : List ℕ) → Holds pieces.old m → OnErr result (GrowsPart (F.holds folder.old) (F.holds folder.new) name.now (layer_bytes version m (layer_of pairs.now advice.now))) }
+    ensures hashed { (m : List ℕ) → Holds pieces.old m → OnOk result (Holds pieces.new (next_base version m (layer_of pairs.now advice.now))) }
+    ensures failed { OnErr result (Rose (F.faults folder.old) (F.faults folder.new)) }
+    ensures serves { F.serves folder.new ≡ F.serves folder.old }
+    ensures faults { F.faults folder.old ≤ F.faults folder.new }
+    ensures misses { F.misses folder.old ≤ F.misses folder.new }
+{
+    pieces.layer(folder, name, pairs, advice)?;
+    if version == 1 {
+        return Ok(());
+    }
+    pieces.digest(folder, name)
+}
+
+/// Appends what follows the layers: in version 1 the digest of all that was appended.
+pub fn append_ending<F: Folder>(
+    pieces: &mut Pieces,
+    version: u32,
+    folder: &mut F,
+    name: &str,
+) -> Result<(), Failed>
+    requires served { IsTrue (F.serves folder.old name.now) }
+    requires held { Given (F.holds folder.old) name.now (λ file. IsSome file) }
+    ensures ok { (m : List ℕ) → Holds pieces.old m → OnOk result (Grows (F.holds folder.old) (F.holds folder.new) name.now (ending version m)) }
+    ensures err { (m : List ℕ) → Holds pieces.old m → OnErr result (GrowsPart (F.holds folder.old) (F.holds folder.new) name.now (ending version m)) }
+    ensures failed { OnErr result (Rose (F.faults folder.old) (F.faults folder.new)) }
+    ensures serves { F.serves folder.new ≡ F.serves folder.old }
+    ensures faults { F.faults folder.old ≤ F.faults folder.new }
+    ensures misses { F.misses folder.old ≤ F.misses folder.new }
+{
+    if version == 1 {
+        return pieces.digest(folder, name);
+    }
+    Ok(())
+}

@@ -1,0 +1,171 @@
+//! The reader of a table.
+ghost use Rattle.std.specs.Prelude.{◌≡◌, ◌≤◌, ◌+◌, ◌*◌, false};
+ghost use Rattle.std.specs.Option.{ForNone};
+ghost use Rattle.acas_table.specs.Shape.{IsShape, entry_count};
+ghost use Rattle.acas_table.specs.Text.{length_1};
+
+use crate::body::{read_end, read_entry};
+use crate::fault::TableFault;
+use crate::header::check_header;
+use crate::shape::TableShape;
+use crate::source::Source;
+use acas_model::Model;
+use acas_outside::Folder;
+use acas_units::Entry;
+use std::alloc::Global;
+
+/// A table of version 1, as it is read entry by entry.
+#[derive(Drop)]
+pub struct TableReader {
+    shape: TableShape,
+    source: Source,
+    given: u32,
+    fault: Option<TableFault>,
+    done: bool,
+    ghost limited: { IsShape shape },
+    ghost count: { given ≤ entry_count shape },
+    ghost limit: { source.limit ≡ length_1 shape + 1 },
+    ghost expected: { source.expected ≡ length_1 shape },
+    ghost place: { ForNone fault (done ≡ false → source.place ≡ 60 + 17 * given) },
+    ghost mark: { ForNone fault (done ≡ false → source.mark ≡ 0) },
+}
+
+impl TableReader {
+    ghost use Rattle.std.specs.Prelude.{◌≡◌, ◌≤◌, ◌<◌, ◌+◌, List, ℕ, None, Err, false, is_ok, IsTrue, IsErrOf, IfOk, OnOk, OnErr, IfSome, Option};
+    ghost use Rattle.acas_outside.specs.Counts.{Rose};
+    ghost use Rattle.acas_outside.specs.Files.{Given};
+    ghost use Rattle.acas_table.specs.Shape.{entry_count, shape_of};
+    ghost use Rattle.acas_table.specs.Text.{length_1};
+    ghost use Rattle.acas_table.specs.Reader.{reader_state, HasRead, Starts, GivesEntry, Finishes, kept};
+
+    /// Reads the header of a table for a model, whose text has this digest.
+    pub fn start<F: Folder>(
+        alloc: Global,
+        model: &Model,
+        digest: &[u8; 32],
+        folder: &mut F,
+        name: &str,
+    ) -> Result<TableReader, TableFault>
+        requires served { IsTrue (F.serves folder.old name.now) }
+        ensures given { Given (F.holds folder.old) name.now (λ file. Starts digest.now (shape_of model.now.grid) file result) }
+        ensures state { IfOk result (λ r. ((reader_state r).shape ≡ shape_of model.now.grid) × ((reader_state r).given ≡ 0) × ((reader_state r).fault ≡ None) × ((reader_state r).done ≡ false)) }
+        ensures taken { IfOk result (λ r. (reader_state r).taken ≤ length_1 (shape_of model.now.grid) + 1) }
+        ensures holds { F.holds folder.new ≡ F.holds folder.old }
+        ensures serves { F.serves folder.new ≡ F.serves folder.old }
+        ensures failed { IsErrOf result TableFault.Failed → Rose (F.faults folder.old) (F.faults folder.new) }
+        ensures absent { IsErrOf result TableFault.Absent → Rose (F.misses folder.old) (F.misses folder.new) }
+        ensures faults { F.faults folder.old ≤ F.faults folder.new }
+        ensures misses { F.misses folder.old ≤ F.misses folder.new }
+    {
+        TableReader::of_shape(alloc, TableShape::of(model), digest, folder, name)
+    }
+
+    /// Reads the header of a table of a shape.
+    pub(crate) fn of_shape<F: Folder>(
+        alloc: Global,
+        shape: TableShape,
+        digest: &[u8; 32],
+        folder: &mut F,
+        name: &str,
+    ) -> Result<TableReader, TableFault>
+        requires limited { IsShape shape }
+        requires served { IsTrue (F.serves folder.old name.now) }
+        ensures given { Given (F.holds folder.old) name.now (λ file. Starts digest.now shape file result) }
+        ensures state { IfOk result (λ r. ((reader_state r).shape ≡ shape) × ((reader_state r).given ≡ 0) × ((reader_state r).fault ≡ None) × ((reader_state r).done ≡ false)) }
+        ensures taken { IfOk result (λ r. (reader_state r).taken ≤ length_1 shape + 1) }
+        ensures holds { F.holds folder.new ≡ F.holds folder.old }
+        ensures serves { F.serves folder.new ≡ F.serves folder.old }
+        ensures failed { IsErrOf result TableFault.Failed → Rose (F.faults folder.old) (F.faults folder.new) }
+        ensures absent { IsErrOf result TableFault.Absent → Rose (F.misses folder.old) (F.misses folder.new) }
+        ensures faults { F.faults folder.old ≤ F.faults folder.new }
+        ensures misses { F.misses folder.old ≤ F.misses folder.new }
+    {
+        let Ok(mut source) = Source::new(alloc, shape.length()) else {
+            return Err(TableFault::Memory);
+        };
+        match check_header(&mut source, &shape, digest, folder, name) {
+            Ok(()) => Ok(TableReader {
+                shape,
+                source,
+                given: 0,
+                fault: None,
+                done: false,
+            }),
+            Err(fault) => Err(fault),
+        }
+    }
+
+    /// Reads the next entry.
+    pub fn entry<F: Folder>(&mut self, folder: &mut F, name: &str) -> Result<Entry, TableFault>
+        requires served { IsTrue (F.serves folder.old name.now) }
+        requires more { (reader_state self.old).given < entry_count (reader_state self.old).shape }
+        requires not_done { (reader_state self.old).done ≡ false }
+        ensures given { (digest : List ℕ) → Given (F.holds folder.old) name.now (λ file. IfSome file (λ bytes. HasRead digest self.old bytes → GivesEntry digest (reader_state self.old) bytes result)) }
+        ensures stands { (digest : List ℕ) → Given (F.holds folder.old) name.now (λ file. IfSome file (λ bytes. HasRead digest self.old bytes → OnOk result (HasRead digest self.new bytes))) }
+        ensures count { IfOk result (λ _. (reader_state self.new).given ≡ (reader_state self.old).given + 1) }
+        ensures same_count { OnErr result ((reader_state self.new).given ≡ (reader_state self.old).given) }
+        ensures done { (reader_state self.new).done ≡ false }
+        ensures fault { (reader_state self.new).fault ≡ kept result }
+        ensures again { IfSome (reader_state self.old).fault (λ fault. result ≡ Err fault) }
+        ensures shape { (reader_state self.new).shape ≡ (reader_state self.old).shape }
+        ensures taken { (reader_state self.new).taken ≤ length_1 (reader_state self.new).shape + 1 }
+        ensures memory { (reader_state self.old).fault ≡ None → IsErrOf result TableFault.Memory → ⊥ }
+        ensures holds { F.holds folder.new ≡ F.holds folder.old }
+        ensures serves { F.serves folder.new ≡ F.serves folder.old }
+        ensures failed { (reader_state self.old).fault ≡ None → IsErrOf result TableFault.Failed → Rose (F.faults folder.old) (F.faults folder.new) }
+        ensures absent { (reader_state self.old).fault ≡ None → IsErrOf result TableFault.Absent → Rose (F.misses folder.old) (F.misses folder.new) }
+        ensures not_held { (reader_state self.old).fault ≡ None → IsErrOf result TableFault.Absent → Given (F.holds folder.old) name.now (λ file. file ≡ None) }
+        ensures faults { F.faults folder.old ≤ F.faults folder.new }
+        ensures misses { F.misses folder.old ≤ F.misses folder.new }
+    {
+        if let Some(fault) = self.fault {
+            return Err(fault);
+        }
+        match read_entry(&mut self.source, &self.shape, self.given, folder, name) {
+            Ok(entry) => {
+                self.given += 1;
+                Ok(entry)
+            }
+            Err(fault) => {
+                self.fault = Some(fault);
+                Err(fault)
+            }
+        }
+    }
+
+    /// Reads the digest and the end.
+    pub fn finish<F: Folder>(&mut self, folder: &mut F, name: &str) -> Result<(), TableFault>
+        requires served { IsTrue (F.serves folder.old name.now) }
+        requires all { (reader_state self.old).given ≡ entry_count (reader_state self.old).shape }
+        requires not_done { (reader_state self.old).done ≡ false }
+        ensures given { (digest : List ℕ) → Given (F.holds folder.old) name.now (λ file. IfSome file (λ bytes. HasRead digest self.old bytes → Finishes digest (reader_state self.old).shape bytes result)) }
+        ensures count { (reader_state self.new).given ≡ (reader_state self.old).given }
+        ensures done { (reader_state self.new).done ≡ is_ok result }
+        ensures fault { (reader_state self.new).fault ≡ kept result }
+        ensures again { IfSome (reader_state self.old).fault (λ fault. result ≡ Err fault) }
+        ensures shape { (reader_state self.new).shape ≡ (reader_state self.old).shape }
+        ensures taken { (reader_state self.new).taken ≤ length_1 (reader_state self.new).shape + 1 }
+        ensures memory { (reader_state self.old).fault ≡ None → IsErrOf result TableFault.Memory → ⊥ }
+        ensures holds { F.holds folder.new ≡ F.holds folder.old }
+        ensures serves { F.serves folder.new ≡ F.serves folder.old }
+        ensures failed { (reader_state self.old).fault ≡ None → IsErrOf result TableFault.Failed → Rose (F.faults folder.old) (F.faults folder.new) }
+        ensures absent { (reader_state self.old).fault ≡ None → IsErrOf result TableFault.Absent → Rose (F.misses folder.old) (F.misses folder.new) }
+        ensures not_held { (reader_state self.old).fault ≡ None → IsErrOf result TableFault.Absent → Given (F.holds folder.old) name.now (λ file. file ≡ None) }
+        ensures faults { F.faults folder.old ≤ F.faults folder.new }
+        ensures misses { F.misses folder.old ≤ F.misses folder.new }
+    {
+        if let Some(fault) = self.fault {
+            return Err(fault);
+        }
+        match read_end(&mut self.source, &self.shape, folder, name) {
+            Ok(()) => {
+                self.done = true;
+                Ok(())
+            }
+            Err(fault) => {
+                self.fault = Some(fault);
+                Err(fault)
+            }
+        }
+    }
+}
