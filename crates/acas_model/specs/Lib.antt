@@ -7,4 +7,5 @@ pub mod Choices
 pub mod Noise
 pub mod Whole
 pub mod View
+pub mod Advices
 pub mod Text

@@ -1,4 +1,5 @@
 //! Texts of models, and what is said of each.
+use crate::advices::Advices;
 use crate::fault::{AxisName, ModelFault, NamePlace};
 use crate::laws::accepted_texts_say_their_models;
 use crate::model::Model;
@@ -250,4 +251,31 @@ fn names_the_first_rule(rt: HostRuntime) {
             })
         )
     );
+}
+
+// Whether an advice that is kept is found again, and alone, in a model of two layers above layer 0 and 24 states.
+fn keeps_advices(alloc: Global, model: &Model) -> bool {
+    let Ok(mut advices) = Advices::new(alloc, model) else {
+        return false;
+    };
+    let grid = model.grid();
+    if grid.horizon != 2 || grid.states() != 24 || grid.advisories != 2 {
+        return false;
+    }
+    advices.set(2, 3, 1);
+    let others = advices.at(1, 3) == 0 && advices.at(2, 2) == 0 && advices.at(2, 4) == 0;
+    others && advices.at(2, 3) == 1
+}
+
+#[test]
+fn keeps_advices_by_layer_and_state(rt: HostRuntime) {
+    let alloc = rt.alloc();
+    let model = match PLAIN.replace(alloc, "horizon = 0", "horizon = 2") {
+        Ok(text) => read_model(alloc, text.as_bytes()).ok(),
+        Err(_) => None,
+    };
+    match model {
+        Some(model) => assert!(rt; keeps_advices(alloc, &model)),
+        None => assert!(rt; false),
+    }
 }

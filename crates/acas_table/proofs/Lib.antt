@@ -5,7 +5,6 @@ pub mod Versions
 pub mod Written
 pub mod Stored
 pub mod Flat
-pub mod States
 pub mod Ahead
 pub mod Cuts
 pub mod EntryLaws

@@ -1,17 +1,13 @@
 //! What holds of the text of every table.
 ghost use Rattle.std.specs.Prelude.{◌≡◌, ◌<◌, ◌∷◌, [], ◌++◌, ℕ, List, Option, length, take, get_or, Some, None};
-ghost use Rattle.acas_spec.specs.Model.{GridData};
-ghost use Rattle.acas_process.specs.Bounds.{Table};
 ghost use Rattle.acas_units.specs.declared.pair.Entry.{Entry as TableEntry};
-ghost use Rattle.acas_units.specs.declared.pair.Pair.{Pair as TablePair};
 ghost use Rattle.acas_outside.specs.Bytes.{IsBytes};
 ghost use Rattle.acas_outside.specs.Files.{Files, Grows, GrowsPart, Stores, StoresPart};
 ghost use Rattle.acas_table.specs.declared.shape.TableShape.{TableShape as Shape};
 ghost use Rattle.acas_table.specs.declared.fault.TableFault.TheVariants.{Length};
 ghost use Rattle.acas_table.specs.Shape.{entry_count};
-ghost use Rattle.acas_table.specs.Text.{base, ending, entry_at, front, layer_bytes, layer_of, length_1, table_text, text_behind};
+ghost use Rattle.acas_table.specs.Text.{base, ending, entry_at, front, layer_bytes, length_1, table_text, text_behind};
 ghost use Rattle.acas_table.specs.Faults.{first_fault};
-ghost use Rattle.acas_table.specs.Layers.{IsLayer, layer_entries};
 ghost use Rattle.acas_table.specs.Tables.{IsTable, all_entries, entries_below, entry_number, flat_text};
 
 /// A proper prefix of a table is too short, and has no fault before that.
@@ -62,9 +58,4 @@ pub fn layers_grow_to_the_text()
     ensures part_of_end { (before old new : Option Files) (name : List ℕ) (version : ℕ) (head : List ℕ) (layers : List (List TableEntry))
         → Stores before old name (front version head layers) → GrowsPart old new name (ending version (base version head layers))
         → StoresPart before new name (text_behind version head layers) }
-{}
-
-/// Two lists that hold a table's values and advices by state are its layer.
-pub fn lists_by_state_are_layers()
-    ensures { (g : GridData) (t : Table) (n : ℕ) (pairs : List TablePair) (advice : List ℕ) → IsLayer g t n pairs advice → layer_of pairs advice ≡ layer_entries g t n }
 {}

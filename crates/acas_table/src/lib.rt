@@ -17,8 +17,8 @@ mod writer;
 
 pub use fault::TableFault;
 pub use laws::{
-    layers_grow_to_the_text, lists_by_state_are_layers, only_texts_have_no_fault,
-    prefixes_are_too_short, texts_are_one_to_one, texts_are_read_again, texts_of_layers_are_flat,
+    layers_grow_to_the_text, only_texts_have_no_fault, prefixes_are_too_short,
+    texts_are_one_to_one, texts_are_read_again, texts_of_layers_are_flat,
 };
 pub use reader::TableReader;
 pub use shape::TableShape;

@@ -6,8 +6,8 @@ ghost use Rattle.acas_table.specs.Writer.{writer_state, HasWritten};
 
 use crate::fault::TableFault;
 use crate::laws::{
-    layers_grow_to_the_text, lists_by_state_are_layers, only_texts_have_no_fault,
-    prefixes_are_too_short, texts_are_one_to_one, texts_are_read_again, texts_of_layers_are_flat,
+    layers_grow_to_the_text, only_texts_have_no_fault, prefixes_are_too_short,
+    texts_are_one_to_one, texts_are_read_again, texts_of_layers_are_flat,
 };
 use crate::reader::TableReader;
 use crate::shape::TableShape;
@@ -196,7 +196,6 @@ fn tables_are_read_as_they_were_written(rt: HostRuntime) -> Result<(), Fail> {
     texts_are_one_to_one();
     texts_of_layers_are_flat();
     layers_grow_to_the_text();
-    lists_by_state_are_layers();
     let alloc = rt.alloc();
     for most in [1, 100, 4_096] {
         let mut folder = folder_in_memory(alloc, &[], &[], most)?;

@@ -62,8 +62,7 @@ impl Line {
     /// Appends the text of a number of millionths: a `-` where it is below 0, the whole units without leading zeros, a
     /// point and six digits.
     pub fn millionths(&mut self, value: i128)
-        requires size { unsigned_abs value ≤ 10 ^ 30 }
-        requires room { length self.old + length (millionths value) ≤ LINE_BYTES }
+        requires { length self.old + length (millionths value) ≤ LINE_BYTES }
         ensures { self.new ≡ self.old ++ millionths value }
     {
         let mut buffer = Buffer::new();
