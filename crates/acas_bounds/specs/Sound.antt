@@ -1,0 +1,29 @@
+-- The first part of soundness that an entry fails.
+use Rattle.std.specs.Prelude.{ℕ, zero, suc, ℤ, Bool, nat_eq, int_lt, Option, Some, None, if◌then◌else◌}
+use Rattle.std.specs.List.{list_any}
+use Rattle.acas_spec.specs.Model.{ModelData, choices_at}
+use Rattle.acas_grid.specs.declared.place.Vertex.{Vertex}
+use Rattle.acas_process.specs.Bounds.{Table, lower_value, millionths, upper_value}
+use Rattle.acas_process.specs.Compiled.{least}
+use Rattle.acas_process.specs.Cost.{terminal_cost}
+use Rattle.acas_bounds.specs.declared.fault.BoundFault.{BoundFault}
+use Rattle.acas_bounds.specs.declared.fault.BoundFault.TheVariants.{AdviceNotAllowed, UpperTooLow, LowerTooHigh}
+
+-- the advisory a is in the list of choices where p is present
+abbrev pub is_allowed : ModelData → ℕ → ℕ → Bool
+is_allowed m p a = list_any (λ c. nat_eq c.advisory a) (choices_at m p)
+
+-- an upper value is to be at least what is needed, and a lower value at most what is allowed; the upper value is looked at first
+abbrev pub values_fault : ℤ → ℤ → ℤ → ℤ → Option BoundFault
+values_fault upper needed lower allowed =
+    if int_lt upper needed then Some (UpperTooLow upper needed) else if int_lt allowed lower then Some (LowerTooHigh lower allowed) else None
+
+-- With no second to go both sides stand against the cost at the end. Otherwise the advice is to be allowed, the upper value stands
+-- against that of the advice, and the lower value against the least lower value of the choices.
+abbrev pub bound_fault : ModelData → Table → ℕ → ℕ → Vertex → Option BoundFault
+bound_fault m t zero p x =
+    values_fault (t.upper 0 p x) (millionths (terminal_cost m x)) (t.lower 0 p x) (millionths (terminal_cost m x))
+bound_fault m t (suc n) p x =
+    if is_allowed m p (t.advice (suc n) p x)
+    then values_fault (t.upper (suc n) p x) (upper_value m (t.upper n) p x (t.advice (suc n) p x)) (t.lower (suc n) p x) (least (lower_value m (t.lower n) p x) (choices_at m p))
+    else Some AdviceNotAllowed

@@ -1,0 +1,18 @@
+//! The check of a table's entries, which takes nothing from how the table was made: whether an entry is sound by the layer
+//! below it, and if not, why. A table whose entries are all sound bounds the expected cost from both sides.
+#![tactic(auto)]
+
+mod below;
+mod check;
+mod choices;
+mod fault;
+mod laws;
+mod means;
+
+pub use check::{check_by_means, check_entry};
+pub use fault::BoundFault;
+pub use laws::sound_entries_have_no_fault;
+pub use means::fill_means;
+
+#[cfg(test)]
+mod tests;
