@@ -1,0 +1,17 @@
+pub mod Places
+pub mod Rows
+pub mod Given
+pub mod Nones
+pub mod NoRefusal
+pub mod Fields
+pub mod Same
+pub mod Written
+pub mod Tables
+pub mod CompiledTables
+pub mod Told
+pub mod Firsts
+pub mod Kept
+pub mod Answered
+pub mod Steps
+pub mod Texts
+pub mod Accepting

@@ -1,0 +1,230 @@
+-- One more entry, one more layer.
+use Rattle.std.proofs.Common.{◌≡◌, ◌≢◌, ℕ, zero, suc, ◌+◌, ◌*◌, ◌<◌, ◌≤◌, false, pos, List, length, get_or, set, Option, None, Some, Err, sym, ◌∙◌, ap, subst, arith, add-one}
+use Rattle.std.proofs.lemmas.List.{get_or-set_other, get_or-set_same, length-set}
+use Rattle.std.specs.Prelude.{Ok, Vec}
+use Rattle.std.specs.Option.{option_map}
+use Rattle.std.specs.declared.alloc.Global.{Global}
+use borrow.Author.Count.{below_more}
+use Rattle.acas_spec.specs.Model.{ModelData, entries, states}
+use Rattle.acas_grid.specs.Grid.{state_number, vertex_number}
+use Rattle.acas_units.specs.declared.pair.Entry.{Entry}
+use Rattle.acas_units.specs.declared.pair.Pair.{Pair}
+use Rattle.acas_model.specs.Advices.{AdvicesData, AreAdvicesOf, advice_at}
+use Rattle.acas_process.specs.Bounds.{Table}
+use Rattle.acas_process.specs.Cost.{MayChoose}
+use Rattle.acas_step.specs.States.{state_present, state_vertex}
+use Rattle.acas_bounds.specs.Layers.{AreMeansOf, AreValuesOf, IsEntryOf, OfBelow}
+use Rattle.acas_bounds.specs.Sound.{bound_fault}
+use Rattle.acas_bounds.specs.declared.fault.BoundFault.{BoundFault}
+use Rattle.acas_table.specs.Faults.{entry_fault, first_below}
+use Rattle.acas_table.specs.Reader.{reader_state, Finishes, GivesEntry, HasRead}
+use Rattle.acas_table.specs.Shape.{shape_of}
+use Rattle.acas_table.specs.Text.{entry_at}
+use Rattle.acas_table.specs.declared.fault.TableFault.{TableFault}
+use Rattle.acas_table.specs.declared.shape.TableShape.{TableShape}
+use Rattle.acas_table.specs.declared.reader.TableReader.{TableReader}
+use Rattle.acas_table.proofs.Found.{none_below}
+use Rattle.acas_accept.specs.Checking.{HasAccepted, HasNoRefusal, IsAnswer, IsBeforeLayer, IsCheckOf, IsInLayer, with_advice}
+use Rattle.acas_accept.specs.GivenTable.{entry_place, given_entry, given_table}
+use Rattle.acas_accept.specs.Refusals.{entry_refusal}
+use Rattle.acas_accept.specs.declared.check.TableCheck.{TableCheck}
+use Rattle.acas_accept.specs.Faults.{answered}
+use Rattle.acas_accept.specs.declared.refusal.AcceptFault.{AcceptFault}
+use Rattle.acas_accept.specs.declared.refusal.AcceptFault.TheVariants.{Refused}
+use Rattle.acas_accept.specs.declared.refusal.TableRefusal.TheVariants as refusals
+use Rattle.acas_accept.proofs.Answered.{IsPast, entry_answered_as, entry_same, finish_answered_as, header_of}
+use Rattle.acas_accept.proofs.Firsts.{at_end, in_entry, sound_refusal}
+use Rattle.acas_accept.proofs.Given.{given-place}
+use Rattle.acas_accept.proofs.Kept.{AreAdvicesOf-with, each_kept}
+use Rattle.acas_accept.proofs.Places.{entry_place-below, state-below}
+
+abbrev no_pair : Pair
+no_pair = record { upper = pos 0; lower = pos 0 }
+
+pub past : (m : ModelData) (digest : List ℕ) (t : TableCheck) (i : ℕ) (bytes : List ℕ) → IsCheckOf m t i → HasAccepted m digest t i bytes → IsPast m digest t.reader i bytes
+past m digest t i bytes check accepted = record { stands = accepted.stands; none = accepted.none; shape = check.shape; given = check.given }
+
+-- ---- an entry
+
+-- what an entry that is given says of the bytes
+pub record Takes (m : ModelData) (entry : Entry) (n state : ℕ) (bytes : List ℕ) : Type 0 where
+  pub is : entry ≡ entry_at bytes (entry_place m.grid n state)
+  pub form : entry_fault (shape_of m.grid) bytes (entry_place m.grid n state) ≡ None
+
+pub takes : (m : ModelData) (digest : List ℕ) (r : TableReader) (n state : ℕ) (bytes : List ℕ) (entry : Entry) → IsPast m digest r (entry_place m.grid n state) bytes → GivesEntry digest (reader_state r) bytes (Ok entry) → Takes m entry n state bytes
+takes m digest r n state bytes entry is gives = record {
+  is = gives.0 ∙ ap (λ (k : ℕ). entry_at bytes k) is.given;
+  form = entry_same m digest r (entry_place m.grid n state) bytes is ∙ gives.1;
+}
+
+-- it is that of the table which the bytes are read as
+taken_entry : (m : ModelData) (entry : Entry) (n state : ℕ) (bytes : List ℕ) → Takes m entry n state bytes → IsEntryOf (given_table m.grid bytes) n (state_present m.grid state) (state_vertex m.grid state) entry
+taken_entry m entry n state bytes taken =
+    let same : entry ≡ given_entry m.grid bytes n (state_present m.grid state) (state_vertex m.grid state) = taken.is ∙ sym (given-place m.grid bytes n state) in
+    record { upper = ap (λ (e : Entry). e.pair.upper) same; lower = ap (λ (e : Entry). e.pair.lower) same; advice = ap (λ (e : Entry). e.advice) same }
+
+-- what a check by the means says of it
+abbrev pub Says : ModelData → List Pair → Entry → ℕ → ℕ → Option BoundFault → Type 0
+Says m means entry n state fault =
+    (t : Table) → IsEntryOf t n (state_present m.grid state) (state_vertex m.grid state) entry → OfBelow (λ k. AreMeansOf m t k means) n
+    → bound_fault m t n (state_present m.grid state) (state_vertex m.grid state) ≡ fault
+
+refusal_is : (m : ModelData) (digest : List ℕ) (t : TableCheck) (n state : ℕ) (bytes : List ℕ) (entry : Entry) (fault : Option BoundFault) → state < states m.grid → IsInLayer m digest t n state bytes
+    → Takes m entry n state bytes → Says m t.means.items entry n state fault → entry_refusal m bytes (entry_place m.grid n state) ≡ option_map (refusals.Entry n state) fault
+refusal_is m digest t n state bytes entry fault inside within taken says =
+    sound_refusal m bytes n state fault inside taken.form (says (given_table m.grid bytes) (taken_entry m entry n state bytes taken) within.means)
+
+-- an entry that is not as it is to be
+pub fault_answered : (m : ModelData) (digest : List ℕ) (t : TableCheck) (n state : ℕ) (bytes : List ℕ) (fault : TableFault) (answer : AcceptFault) → answer ≡ answered fault
+    → IsCheckOf m t (entry_place m.grid n state) → n ≤ m.grid.horizon → state < states m.grid → IsInLayer m digest t n state bytes → GivesEntry digest (reader_state t.reader) bytes (Err fault)
+    → IsAnswer m digest bytes answer
+fault_answered m digest t n state bytes fault answer is check seconds inside within gives =
+    entry_answered_as m digest t.reader (entry_place m.grid n state) bytes fault answer is (past m digest t (entry_place m.grid n state) bytes check within.accepted) (entry_place-below m.grid n state seconds inside) gives
+
+-- an entry that is not sound
+pub unsound_answered : (m : ModelData) (digest : List ℕ) (t : TableCheck) (n state : ℕ) (bytes : List ℕ) (entry : Entry) (fault : BoundFault)
+    → IsCheckOf m t (entry_place m.grid n state) → n ≤ m.grid.horizon → state < states m.grid → IsInLayer m digest t n state bytes → GivesEntry digest (reader_state t.reader) bytes (Ok entry)
+    → Says m t.means.items entry n state (Some fault) → IsAnswer m digest bytes (Refused (refusals.Entry n state fault))
+unsound_answered m digest t n state bytes entry fault check seconds inside within gives says =
+    let is = past m digest t (entry_place m.grid n state) bytes check within.accepted in
+    in_entry m digest bytes (entry_place m.grid n state) (refusals.Entry n state fault) (header_of m digest t.reader bytes is.stands is.shape) is.none (entry_place-below m.grid n state seconds inside)
+    (refusal_is m digest t n state bytes entry (Some fault) inside within (takes m digest t.reader n state bytes entry is gives) says)
+
+-- what a check keeps of an entry, when its reader has gone on
+pub record Keeps (old : TableCheck) (r : TableReader) (new : TableCheck) (n state : ℕ) (entry : Entry) : Type 0 where
+  pub reader : new.reader ≡ r
+  pub means : new.means ≡ old.means
+  pub pairs : new.pairs.items ≡ set old.pairs.items state entry.pair
+  pub advices : new.advices ≡ with_advice old.advices n state entry.advice
+
+-- what a reader is after one more
+pub record IsOn (old new : TableReader) : Type 0 where
+  pub shape : (reader_state new).shape ≡ (reader_state old).shape
+  pub given : (reader_state new).given ≡ (reader_state old).given + 1
+  pub no_fault : (reader_state new).fault ≡ None
+  pub not_done : (reader_state new).done ≡ false
+
+pub check_next : (m : ModelData) (old : TableCheck) (r : TableReader) (new : TableCheck) (n state : ℕ) (entry : Entry) → IsCheckOf m old (entry_place m.grid n state) → n ≤ m.grid.horizon → state < states m.grid → IsOn old.reader r
+    → Keeps old r new n state entry → (1 ≤ n → MayChoose m (state_present m.grid state) entry.advice) → IsCheckOf m new (entry_place m.grid n (state + 1))
+check_next m old r new n state entry check seconds inside on keeps allowed = record {
+  valid = check.valid;
+  shape = ap (λ (x : TableReader). (reader_state x).shape) keeps.reader ∙ on.shape ∙ check.shape;
+  given = ap (λ (x : TableReader). (reader_state x).given) keeps.reader ∙ on.given ∙ omega (arith, check.given);
+  no_fault = ap (λ (x : TableReader). (reader_state x).fault) keeps.reader ∙ on.no_fault;
+  not_done = ap (λ (x : TableReader). (reader_state x).done) keeps.reader ∙ on.not_done;
+  pairs = ap length keeps.pairs ∙ length-set old.pairs.items state entry.pair ∙ check.pairs;
+  means = ap (λ (v : Vec Pair Global). length v.items) keeps.means ∙ check.means;
+  advices = subst (λ (a : AdvicesData). AreAdvicesOf m a) (sym keeps.advices) (AreAdvicesOf-with m old.advices n state entry.advice check.advices);
+  allowed =
+      subst (λ (a : AdvicesData). (k s : ℕ) → 1 ≤ k → s < states m.grid → entry_place m.grid k s < entry_place m.grid n (state + 1) → MayChoose m (state_present m.grid s) (advice_at a k s)) (sym keeps.advices)
+      (each_kept m old.advices n state entry.advice (λ k s a. MayChoose m (state_present m.grid s) a) check.advices seconds inside check.allowed allowed);
+}
+
+-- of the places below one that is written, and of that one
+each_written : (P : ℕ → Pair → Type 0) (xs : List Pair) (i : ℕ) (y d : Pair) → i < length xs → ((k : ℕ) → k < i → P k (get_or xs k d)) → P i y → (k : ℕ) → k < i + 1 → P k (get_or (set xs i y) k d)
+each_written P xs i y d inside before here =
+    below_more (λ (k : ℕ). P k (get_or (set xs i y) k d)) i
+    (λ k h. let apart : k ≢ i = λ e. absurd (omega arith) in subst (λ (z : Pair). P k z) (sym (get_or-set_other xs i k y d apart)) (before k h))
+    (subst (λ (z : Pair). P i z) (sym (get_or-set_same xs i y d inside)) here)
+
+place-next : (m : ModelData) (n state : ℕ) → entry_place m.grid n (state + 1) ≡ entry_place m.grid n state + 1
+place-next m n state = omega arith
+
+accepted_next : (m : ModelData) (digest : List ℕ) (old : TableCheck) (r : TableReader) (new : TableCheck) (n state : ℕ) (bytes : List ℕ) (entry : Entry) → IsCheckOf m old (entry_place m.grid n state) → n ≤ m.grid.horizon → state < states m.grid
+    → IsInLayer m digest old n state bytes → Takes m entry n state bytes → HasRead digest r bytes → Says m old.means.items entry n state None → Keeps old r new n state entry
+    → HasAccepted m digest new (entry_place m.grid n (state + 1)) bytes
+accepted_next m digest old r new n state bytes entry check seconds inside within taken stands says keeps = record {
+  stands = subst (λ (x : TableReader). HasRead digest x bytes) (sym keeps.reader) stands;
+  none =
+      ap (first_below (entry_refusal m bytes)) (place-next m n state)
+      ∙ none_below (entry_refusal m bytes) (entry_place m.grid n state) within.accepted.none (refusal_is m digest old n state bytes entry None inside within taken says);
+  advices =
+      subst (λ (a : AdvicesData). (k s : ℕ) → 1 ≤ k → s < states m.grid → entry_place m.grid k s < entry_place m.grid n (state + 1) → advice_at a k s ≡ (entry_at bytes (entry_place m.grid k s)).advice) (sym keeps.advices)
+      (each_kept m old.advices n state entry.advice (λ k s a. a ≡ (entry_at bytes (entry_place m.grid k s)).advice) check.advices seconds inside within.accepted.advices (λ some. ap (λ (e : Entry). e.advice) taken.is));
+}
+
+-- an entry that is sound
+pub in_layer_next : (m : ModelData) (digest : List ℕ) (old : TableCheck) (r : TableReader) (new : TableCheck) (n state : ℕ) (bytes : List ℕ) (entry : Entry) → IsCheckOf m old (entry_place m.grid n state) → n ≤ m.grid.horizon → state < states m.grid
+    → IsInLayer m digest old n state bytes → GivesEntry digest (reader_state old.reader) bytes (Ok entry) → HasRead digest r bytes → Says m old.means.items entry n state None → Keeps old r new n state entry
+    → IsInLayer m digest new n (state + 1) bytes
+in_layer_next m digest old r new n state bytes entry check seconds inside within gives stands says keeps =
+    let taken = takes m digest old.reader n state bytes entry (past m digest old (entry_place m.grid n state) bytes check within.accepted) gives in
+    record {
+      accepted = accepted_next m digest old r new n state bytes entry check seconds inside within taken stands says keeps;
+      pairs =
+          subst (λ (xs : List Pair). (s : ℕ) → s < state + 1 → get_or xs s no_pair ≡ (entry_at bytes (entry_place m.grid n s)).pair) (sym keeps.pairs)
+          (each_written (λ s p. p ≡ (entry_at bytes (entry_place m.grid n s)).pair) old.pairs.items state entry.pair no_pair (omega (arith, check.pairs)) within.pairs (ap (λ (e : Entry). e.pair) taken.is));
+      means = subst (λ (v : Vec Pair Global). OfBelow (λ k. AreMeansOf m (given_table m.grid bytes) k v.items) n) (sym keeps.means) within.means;
+    }
+
+-- ---- a layer
+
+-- the same at an equal count
+pub check_at : (m : ModelData) (t : TableCheck) (i j : ℕ) → i ≡ j → IsCheckOf m t i → IsCheckOf m t j
+check_at m t i j same check = subst (λ (k : ℕ). IsCheckOf m t k) same check
+
+pub accepted_at : (m : ModelData) (digest : List ℕ) (t : TableCheck) (i j : ℕ) (bytes : List ℕ) → i ≡ j → HasAccepted m digest t i bytes → HasAccepted m digest t j bytes
+accepted_at m digest t i j bytes same accepted = subst (λ (k : ℕ). HasAccepted m digest t k bytes) same accepted
+
+OfBelow-map : (P Q : ℕ → Type 0) (n : ℕ) → ((k : ℕ) → P k → Q k) → OfBelow P n → OfBelow Q n
+OfBelow-map P Q zero f h = tt
+OfBelow-map P Q (suc k) f h = f k h
+
+-- before its first entry, with the means of the layer below it
+pub in_layer_first : (m : ModelData) (digest : List ℕ) (old new : TableCheck) (n : ℕ) (bytes : List ℕ) → new.reader ≡ old.reader → new.advices ≡ old.advices
+    → ((t : Table) (k : ℕ) → AreValuesOf m t k old.pairs.items → AreMeansOf m t k new.means.items) → IsBeforeLayer m digest old n bytes → IsInLayer m digest new n 0 bytes
+in_layer_first m digest old new n bytes reader advices means before =
+    let at : n * states m.grid ≡ entry_place m.grid n 0 = omega arith in
+    let accepted : HasAccepted m digest old (entry_place m.grid n 0) bytes = accepted_at m digest old (n * states m.grid) (entry_place m.grid n 0) bytes at before.accepted in
+    record {
+      accepted = record {
+        stands = subst (λ (x : TableReader). HasRead digest x bytes) (sym reader) accepted.stands;
+        none = accepted.none;
+        advices =
+            subst (λ (a : AdvicesData). (k s : ℕ) → 1 ≤ k → s < states m.grid → entry_place m.grid k s < entry_place m.grid n 0 → advice_at a k s ≡ (entry_at bytes (entry_place m.grid k s)).advice) (sym advices) accepted.advices;
+      };
+      pairs = λ s none. absurd (omega (arith, none));
+      means =
+          OfBelow-map (λ k. AreValuesOf m (given_table m.grid bytes) k old.pairs.items) (λ k. AreMeansOf m (given_table m.grid bytes) k new.means.items) n (λ k values. means (given_table m.grid bytes) k values) before.values;
+    }
+
+pub before_first_layer : (m : ModelData) (digest : List ℕ) (t : TableCheck) (bytes : List ℕ) → HasAccepted m digest t 0 bytes → IsBeforeLayer m digest t 0 bytes
+before_first_layer m digest t bytes accepted = record { accepted = accepted_at m digest t 0 (0 * states m.grid) bytes (omega arith) accepted; values = tt }
+
+layer_values_are : (m : ModelData) (digest : List ℕ) (t : TableCheck) (n : ℕ) (bytes : List ℕ) → IsInLayer m digest t n (states m.grid) bytes → AreValuesOf m (given_table m.grid bytes) n t.pairs.items
+layer_values_are m digest t n bytes within = record {
+  upper = λ a y known is. ap (λ (p : Pair). p.upper) (within.pairs (state_number m.grid a (vertex_number m.grid y)) (state-below m.grid a y known is));
+  lower = λ a y known is. ap (λ (p : Pair). p.lower) (within.pairs (state_number m.grid a (vertex_number m.grid y)) (state-below m.grid a y known is));
+}
+
+row_end : (n width : ℕ) → n * width + width ≡ (n + 1) * width
+row_end n width = omega arith
+
+-- a layer that is read is the one below the next
+pub before_next_layer : (m : ModelData) (digest : List ℕ) (t : TableCheck) (n state : ℕ) (bytes : List ℕ) → state ≡ states m.grid → IsInLayer m digest t n state bytes → IsBeforeLayer m digest t (n + 1) bytes
+before_next_layer m digest t n state bytes all within =
+    let whole = subst (λ (k : ℕ). IsInLayer m digest t n k bytes) all within in
+    record {
+      accepted = accepted_at m digest t (entry_place m.grid n (states m.grid)) ((n + 1) * states m.grid) bytes (row_end n (states m.grid)) whole.accepted;
+      values = subst (λ (k : ℕ). OfBelow (λ j. AreValuesOf m (given_table m.grid bytes) j t.pairs.items) k) (sym (add-one n)) (layer_values_are m digest t n bytes whole);
+    }
+
+pub check_done : (m : ModelData) (t : TableCheck) (n state : ℕ) → state ≡ states m.grid → IsCheckOf m t (entry_place m.grid n state) → IsCheckOf m t ((n + 1) * states m.grid)
+check_done m t n state all check = check_at m t (entry_place m.grid n state) ((n + 1) * states m.grid) (ap (λ (k : ℕ). n * states m.grid + k) all ∙ row_end n (states m.grid)) check
+
+-- ---- what follows the entries
+
+pub end_answered : (X : Type 0) (m : ModelData) (digest : List ℕ) (t : TableCheck) (bytes : List ℕ) (fault : TableFault) (answer : AcceptFault) → answer ≡ answered fault → IsCheckOf m t (entries m.grid)
+    → HasAccepted m digest t (entries m.grid) bytes → Finishes {X = X} digest t.reader.shape bytes (Err fault) → IsAnswer m digest bytes answer
+end_answered X m digest t bytes fault answer is check accepted ends =
+    finish_answered_as X m digest t.reader bytes fault answer is (past m digest t (entries m.grid) bytes check accepted)
+    (subst (λ (s : TableShape). Finishes {X = X} digest s bytes (Err fault)) check.shape ends)
+
+pub whole : (X : Type 0) (m : ModelData) (digest : List ℕ) (t : TableCheck) (bytes : List ℕ) (x : X) → IsCheckOf m t (entries m.grid) → HasAccepted m digest t (entries m.grid) bytes
+    → Finishes {X = X} digest t.reader.shape bytes (Ok x) → HasNoRefusal m digest bytes
+whole X m digest t bytes x check accepted ends =
+    let good = subst (λ (s : TableShape). Finishes {X = X} digest s bytes (Ok x)) check.shape ends in
+    record {
+      none = at_end m digest bytes None (header_of m digest t.reader bytes accepted.stands check.shape) accepted.none good.0;
+      text = good.2;
+    }

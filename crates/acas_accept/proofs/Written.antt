@@ -1,0 +1,109 @@
+-- The text of a table whose entries are sound and fit is read as that table.
+use Rattle.std.proofs.Common.{◌≡◌, ℕ, zero, suc, ◌+◌, ◌*◌, ◌/◌, ◌%◌, ◌<◌, ◌≤◌, Bool, true, cond, List, length, None, sym, ◌∙◌, ap, subst, arith, w64}
+use Rattle.std.proofs.lemmas.Bool.{eq-eqb, le-ltb, lt-ltb}
+use Rattle.std.specs.Prelude.{◌==◌, FitsSigned, nat_lt}
+use Rattle.acas_spec.specs.Accepted.{IsAccepted}
+use Rattle.acas_spec.specs.Model.{ModelData, states}
+use Rattle.acas_grid.specs.Grid.{state_number, vertex_number}
+use Rattle.acas_grid.specs.declared.place.Vertex.{Vertex}
+use Rattle.acas_units.specs.declared.pair.Entry.{Entry}
+use Rattle.acas_process.specs.Bounds.{IsSound, IsSoundEntry, Table}
+use Rattle.acas_process.specs.Cost.{IsEntry}
+use Rattle.acas_process.proofs.AcceptedLaws.{is_chosen}
+use Rattle.acas_step.specs.States.{state_present, state_vertex}
+use Rattle.acas_table.specs.Faults.{advice_fault, first_fault, unless}
+use Rattle.acas_table.specs.Layers.{layers_of, state_entry, text_of}
+use Rattle.acas_table.specs.Shape.{shape_of}
+use Rattle.acas_table.specs.Tables.{IsTable, all_entries, flat_text}
+use Rattle.acas_table.specs.Text.{entry_at}
+use Rattle.acas_table.specs.declared.fault.TableFault.{TableFault}
+use Rattle.acas_table.proofs.Flat.{flat}
+use Rattle.acas_table.proofs.Shapes.{limited}
+use Rattle.acas_table.proofs.TextLaws.{entry_read, text_is_good}
+use Rattle.acas_accept.specs.Accepted.{IsWritable}
+use Rattle.acas_accept.specs.GivenTable.{entry_place, given_entry, given_table}
+use Rattle.acas_accept.proofs.Given.{all_entries-at, all_entries-place, length-all_entries}
+use Rattle.acas_accept.proofs.Places.{is_place, entry_place-below, state-below, state_entry_is, state_present-state_number, state_vertex-state_number}
+use Rattle.acas_accept.proofs.Same.{AreSame}
+
+good_if : (b : Bool) (fault : TableFault) → b ≡ true → unless b fault ≡ None
+good_if b fault good = ap (λ (c : Bool). unless c fault) good
+
+-- an advice that may stand in a layer
+advice_good : (m : ModelData) (t : Table) (n state : ℕ) → IsAccepted m → IsWritable m t → IsSound m t → n ≤ m.grid.horizon → state < states m.grid
+    → advice_fault (shape_of m.grid) (entry_place m.grid n state) (t.advice n (state_present m.grid state) (state_vertex m.grid state)) ≡ None
+advice_good m t zero state v writable sound seconds inside =
+    let g = m.grid in
+    let p : ℕ = state_present m.grid state in
+    let byte : ℕ = t.advice 0 (state_present m.grid state) (state_vertex m.grid state) in
+    good_if (cond (nat_lt (entry_place g 0 state) (states g)) (byte == 255) (nat_lt byte g.advisories)) _
+    (ap (λ (b : Bool). cond b (byte == 255) (nat_lt byte g.advisories)) (lt-ltb (entry_place g 0 state) (states g) (omega arith))
+    ∙ eq-eqb byte 255 (writable.no_advice p (state_vertex g state) (state_entry_is m 0 state seconds inside)))
+advice_good m t (suc n) state v writable sound seconds inside =
+    let g = m.grid in
+    let p : ℕ = state_present m.grid state in
+    let byte : ℕ = t.advice (suc n) (state_present m.grid state) (state_vertex m.grid state) in
+    let at = state_entry_is m (suc n) state seconds inside in
+    let entry : IsSoundEntry m t (suc n) (state_present m.grid state) (state_vertex m.grid state) = sound.entries (suc n) p (state_vertex g state) at in
+    good_if (cond (nat_lt (entry_place g (suc n) state) (states g)) (byte == 255) (nat_lt byte g.advisories)) _
+    (ap (λ (b : Bool). cond b (byte == 255) (nat_lt byte g.advisories)) (le-ltb (entry_place g (suc n) state) (states g) (omega arith))
+    ∙ lt-ltb byte g.advisories ((is_chosen m p byte v at.present entry.0).inside))
+
+-- the entries of a table, in one list
+pub is_table : (m : ModelData) (digest : List ℕ) (t : Table) → IsAccepted m → length digest ≡ 32 → IsWritable m t → IsSound m t → IsTable digest (shape_of m.grid) (all_entries (layers_of m.grid t))
+is_table m digest t v long writable sound =
+    let g = m.grid in
+    let count = length-all_entries g t in
+    record {
+      digest_is = long;
+      shape = limited g v.grid;
+      count = count;
+      upper = λ i within.
+          let inside : i < (g.horizon + 1) * states g = omega (arith, count) in
+          let at = is_place g i inside in
+          subst (λ (e : Entry). FitsSigned w64 e.pair.upper) (sym (all_entries-at g t i inside)) (writable.upper (i / states g) (state_present g (i % states g)) (state_vertex g (i % states g)) (state_entry_is m (i / states g) (i % states g) at.seconds at.state));
+      lower = λ i within.
+          let inside : i < (g.horizon + 1) * states g = omega (arith, count) in
+          let at = is_place g i inside in
+          subst (λ (e : Entry). FitsSigned w64 e.pair.lower) (sym (all_entries-at g t i inside)) (writable.lower (i / states g) (state_present g (i % states g)) (state_vertex g (i % states g)) (state_entry_is m (i / states g) (i % states g) at.seconds at.state));
+      advice = λ i within.
+          let inside : i < (g.horizon + 1) * states g = omega (arith, count) in
+          let at = is_place g i inside in
+          ap (λ (e : Entry). advice_fault (shape_of g) i e.advice) (all_entries-at g t i inside)
+          ∙ ap (λ (k : ℕ). advice_fault (shape_of g) k (state_entry g t (i / states g) (i % states g)).advice) (sym at.is)
+          ∙ advice_good m t (i / states g) (i % states g) v writable sound at.seconds at.state;
+    }
+
+text-flat : (m : ModelData) (digest : List ℕ) (t : Table) → text_of digest m.grid t ≡ flat_text digest (shape_of m.grid) (all_entries (layers_of m.grid t))
+text-flat m digest t = flat digest (shape_of m.grid) (layers_of m.grid t)
+
+pub text_without_fault : (m : ModelData) (digest : List ℕ) (t : Table) → IsTable digest (shape_of m.grid) (all_entries (layers_of m.grid t)) → first_fault digest (shape_of m.grid) (text_of digest m.grid t) ≡ None
+text_without_fault m digest t is = ap (λ (bytes : List ℕ). first_fault digest (shape_of m.grid) bytes) (text-flat m digest t) ∙ text_is_good digest (shape_of m.grid) (all_entries (layers_of m.grid t)) is
+
+-- the entry of a state, at the vertex of its number
+state_entry-at : (m : ModelData) (t : Table) (n p : ℕ) (x : Vertex) → IsEntry m n p x
+    → state_entry m.grid t n (state_number m.grid p (vertex_number m.grid x)) ≡ record { pair = record { upper = t.upper n p x; lower = t.lower n p x }; advice = t.advice n p x }
+state_entry-at m t n p x at =
+    let made : ℕ → Vertex → Entry = λ q y. record { pair = record { upper = t.upper n q y; lower = t.lower n q y }; advice = t.advice n q y } in
+    ap (λ (q : ℕ). made q (state_vertex m.grid (state_number m.grid p (vertex_number m.grid x)))) (state_present-state_number m.grid p x at.vertex)
+    ∙ ap (λ (y : Vertex). made p y) (state_vertex-state_number m.grid p x at.vertex)
+
+entry_again : (m : ModelData) (digest : List ℕ) (t : Table) (n p : ℕ) (x : Vertex) → IsTable digest (shape_of m.grid) (all_entries (layers_of m.grid t)) → IsEntry m n p x
+    → given_entry m.grid (text_of digest m.grid t) n p x ≡ record { pair = record { upper = t.upper n p x; lower = t.lower n p x }; advice = t.advice n p x }
+entry_again m digest t n p x is at =
+    let g = m.grid in
+    let state : ℕ = state_number m.grid p (vertex_number m.grid x) in
+    let inside = state-below g p x at.present at.vertex in
+    let within = entry_place-below g n state at.seconds inside in
+    ap (λ (bytes : List ℕ). entry_at bytes (entry_place g n state)) (text-flat m digest t)
+    ∙ entry_read digest (shape_of g) (all_entries (layers_of g t)) (entry_place g n state) is (omega (arith, length-all_entries g t))
+    ∙ all_entries-place g t n state at.seconds inside
+    ∙ state_entry-at m t n p x at
+
+-- the text is read as the table
+pub read_again : (m : ModelData) (digest : List ℕ) (t : Table) → IsTable digest (shape_of m.grid) (all_entries (layers_of m.grid t)) → AreSame m t (given_table m.grid (text_of digest m.grid t))
+read_again m digest t is = record {
+  upper = λ n p x at. ap (λ (e : Entry). e.pair.upper) (entry_again m digest t n p x is at);
+  lower = λ n p x at. ap (λ (e : Entry). e.pair.lower) (entry_again m digest t n p x is at);
+  advice = λ n p x at. ap (λ (e : Entry). e.advice) (entry_again m digest t n p x is at);
+}

@@ -1,0 +1,26 @@
+use Rattle.std.proofs.Common.{◌≡◌, ℕ, List, length, drop, refl, subst, sym, ◌∙◌, arith}
+use Rattle.std.proofs.lemmas.List.{take_at}
+use Rattle.std.specs.Prelude.{Vec}
+use Rattle.std.specs.declared.alloc.Global.{Global}
+use Rattle.std.specs.Vec.{with_items}
+use Rattle.acas_units.specs.declared.pair.Pair.{Pair}
+use Rattle.acas_process.specs.Bounds.{Table}
+use Rattle.acas_bounds.specs.Layers.{AreMeansOf, AreValuesOf}
+use Rattle.acas_accept.specs.declared.check.TableCheck.{TableCheck}
+use Rattle.acas_accept.proofs.Steps.{in_layer_first}
+use Rattle.acas_accept.proofs.check.TableCheck.begin_layer.Goals as goal
+
+items-with : (v : Vec Pair Global) (pairs : List Pair) → length pairs ≡ length v.items → (with_items v pairs).items ≡ pairs
+items-with v pairs long = take_at pairs (drop (length pairs) v.items) v.len (omega (arith, long, v.ok.0))
+
+pub returns-then-n-gt0-clause-given : goal.returns-then-n-gt0-clause-given
+returns-then-n-gt0-clause-given c = λ digest bytes before.
+    let m = c.args.model.now in
+    let new : TableCheck =
+    record { reader = c.args.self.now.reader; pairs = c.args.self.now.pairs; means = with_items c.args.self.now.means c.fill_means.new.means; advices = c.args.self.now.advices } in
+    let items : (with_items c.args.self.now.means c.fill_means.new.means).items ≡ c.fill_means.new.means =
+    items-with c.args.self.now.means c.fill_means.new.means (c.fill_means.ensures.count ∙ sym c.requires.check.means) in
+    let means : (t : Table) (k : ℕ) → AreValuesOf c.args.model.now t k c.args.self.now.pairs.items → AreMeansOf c.args.model.now t k c.fill_means.new.means =
+    subst (λ (pairs : List Pair). (t : Table) (k : ℕ) → AreValuesOf c.args.model.now t k pairs → AreMeansOf c.args.model.now t k c.fill_means.new.means) c.deref.ensures.value c.fill_means.ensures.means in
+    in_layer_first m digest c.args.self.now new c.args.n bytes refl refl
+    (subst (λ (pairs : List Pair). (t : Table) (k : ℕ) → AreValuesOf c.args.model.now t k c.args.self.now.pairs.items → AreMeansOf c.args.model.now t k pairs) (sym items) means) before

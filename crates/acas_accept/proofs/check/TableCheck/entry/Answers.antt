@@ -1,0 +1,70 @@
+use Rattle.std.proofs.Common.{◌<◌, ℕ, List, None, Some, Ok, Err, sym, subst, arith}
+use Rattle.acas_spec.specs.Model.{entries}
+use Rattle.acas_units.specs.declared.pair.Pair.{Pair}
+use Rattle.acas_process.proofs.AcceptedLaws.{is_chosen}
+use Rattle.acas_bounds.proofs.Allowed.{is_allowed-is}
+use Rattle.acas_step.specs.States.{state_present}
+use Rattle.acas_step.proofs.StateNumbers.{state_present-below}
+use Rattle.acas_table.specs.Reader.{reader_state, GivesEntry, HasRead}
+use Rattle.acas_table.specs.Shape.{entry_count}
+use Rattle.acas_table.specs.declared.shape.TableShape.{TableShape}
+use Rattle.acas_accept.specs.GivenTable.{entry_place}
+use Rattle.acas_accept.proofs.Places.{entry_place-below}
+use Rattle.acas_accept.proofs.Steps.{IsOn, Keeps, Says, check_next, fault_answered, unsound_answered, in_layer_next}
+use Rattle.acas_accept.proofs.Told.{told_both, told_map}
+use Rattle.acas_accept.proofs.check.TableCheck.entry.Goals as goal
+
+pub entry-requires-clause-more : goal.entry-requires-clause-more
+entry-requires-clause-more g c =
+    let m = c.args.model.now in
+    let within : entry_place c.args.model.now.grid c.args.n c.args.state < entries c.args.model.now.grid = entry_place-below m.grid c.args.n c.args.state c.requires.n c.requires.state in
+    subst (λ (s : TableShape). c.args.self.now.reader.given < entry_count s) (sym c.requires.check.shape) (subst (λ (k : ℕ). k < entries c.args.model.now.grid) (sym c.requires.check.given) within)
+
+pub returns-in-Err-clause-given : goal.returns-in-Err-clause-given
+returns-in-Err-clause-given g c = λ digest.
+    let t = c.args.self.now in
+    told_map _ c.args.name.now (λ bytes. HasRead digest c.args.self.now.reader bytes → GivesEntry digest (reader_state c.args.self.now.reader) bytes (Err c.in-Err.fault)) _
+    (λ bytes gives within. fault_answered c.args.model.now digest t c.args.n c.args.state bytes c.in-Err.fault c.refused.result c.refused.ensures c.requires.check c.requires.n c.requires.state within (gives within.accepted.stands))
+    (c.in-Err.ensures.given digest)
+
+pub keep-requires-clause-advice : goal.keep-requires-clause-advice
+keep-requires-clause-advice g c = λ some.
+    let m = c.args.model.now in
+    let p : ℕ = state_present c.args.model.now.grid c.args.state in
+    let advice : ℕ = c.in-Ok.entry.advice in
+    let chosen = (is_allowed-is m p advice).0 (c.in-Ok-check_by_means.ensures.allowed some) in
+    omega (arith, (is_chosen m p advice c.requires.check.valid (state_present-below m.grid c.args.state c.requires.state) chosen).inside, c.requires.check.advices.advisories)
+
+pub returns-in-Ok-check_by_means-clause-check : goal.returns-in-Ok-check_by_means-clause-check
+returns-in-Ok-check_by_means-clause-check g c =
+    let m = c.args.model.now in
+    let on : IsOn c.args.self.now.reader c.entry.new.self = record { shape = c.in-Ok.ensures.shape; given = c.in-Ok.ensures.count; no_fault = c.in-Ok.ensures.fault; not_done = c.in-Ok.ensures.done } in
+    let keeps : Keeps c.args.self.now c.entry.new.self c.keep.new.self c.args.n c.args.state c.in-Ok.entry =
+    record { reader = c.keep.ensures.reader; means = c.keep.ensures.means; pairs = c.keep.ensures.pairs; advices = c.keep.ensures.advices } in
+    check_next m c.args.self.now c.entry.new.self c.keep.new.self c.args.n c.args.state c.in-Ok.entry c.requires.check c.requires.n c.requires.state on keeps
+    (λ some. (is_allowed-is m (state_present m.grid c.args.state) c.in-Ok.entry.advice).0 (c.in-Ok-check_by_means.ensures.allowed (omega arith)))
+
+pub returns-in-Ok-check_by_means-clause-given : goal.returns-in-Ok-check_by_means-clause-given
+returns-in-Ok-check_by_means-clause-given g c = λ digest.
+    let m = c.args.model.now in
+    let old = c.args.self.now in
+    let says : Says c.args.model.now c.args.self.now.means.items c.in-Ok.entry c.args.n c.args.state None =
+    subst (λ (means : List Pair). Says c.args.model.now means c.in-Ok.entry c.args.n c.args.state None) c.deref.ensures.value c.in-Ok-check_by_means.ensures.value in
+    let keeps : Keeps c.args.self.now c.entry.new.self c.keep.new.self c.args.n c.args.state c.in-Ok.entry =
+    record { reader = c.keep.ensures.reader; means = c.keep.ensures.means; pairs = c.keep.ensures.pairs; advices = c.keep.ensures.advices } in
+    told_map _ c.args.name.now
+    (λ bytes. (HasRead digest c.args.self.now.reader bytes → GivesEntry digest (reader_state c.args.self.now.reader) bytes (Ok c.in-Ok.entry)) × (HasRead digest c.args.self.now.reader bytes → HasRead digest c.entry.new.self bytes)) _
+    (λ bytes both within.
+    in_layer_next m digest old c.entry.new.self c.keep.new.self c.args.n c.args.state bytes c.in-Ok.entry c.requires.check c.requires.n c.requires.state within (both.0 within.accepted.stands) (both.1 within.accepted.stands) says keeps)
+    (told_both _ c.args.name.now (λ bytes. HasRead digest c.args.self.now.reader bytes → GivesEntry digest (reader_state c.args.self.now.reader) bytes (Ok c.in-Ok.entry))
+    (λ bytes. HasRead digest c.args.self.now.reader bytes → HasRead digest c.entry.new.self bytes) (c.in-Ok.ensures.given digest) (c.in-Ok.ensures.stands digest))
+
+pub returns-in-Err-check_by_means-clause-given : goal.returns-in-Err-check_by_means-clause-given
+returns-in-Err-check_by_means-clause-given g c = λ digest.
+    let m = c.args.model.now in
+    let says : Says c.args.model.now c.args.self.now.means.items c.in-Ok.entry c.args.n c.args.state (Some c.in-Err-check_by_means.fault) =
+    subst (λ (means : List Pair). Says c.args.model.now means c.in-Ok.entry c.args.n c.args.state (Some c.in-Err-check_by_means.fault)) c.deref.ensures.value c.in-Err-check_by_means.ensures.value in
+    told_map _ c.args.name.now (λ bytes. HasRead digest c.args.self.now.reader bytes → GivesEntry digest (reader_state c.args.self.now.reader) bytes (Ok c.in-Ok.entry)) _
+    (λ bytes gives within.
+    unsound_answered m digest c.args.self.now c.args.n c.args.state bytes c.in-Ok.entry c.in-Err-check_by_means.fault c.requires.check c.requires.n c.requires.state within (gives within.accepted.stands) says)
+    (c.in-Ok.ensures.given digest)

@@ -1,0 +1,13 @@
+-- What a fault of the reader is answered as.
+use Rattle.acas_table.specs.declared.fault.TableFault.{TableFault}
+use Rattle.acas_table.specs.declared.fault.TableFault.TheVariants as faults
+use Rattle.acas_accept.specs.declared.refusal.TableRefusal.TheVariants.{Form}
+use Rattle.acas_accept.specs.declared.refusal.AcceptFault.{AcceptFault}
+use Rattle.acas_accept.specs.declared.refusal.AcceptFault.TheVariants.{Refused, Absent, Failed, Memory}
+
+-- a fault of the bytes is a refusal
+abbrev pub answered : TableFault → AcceptFault
+answered faults.Failed = Failed
+answered faults.Absent = Absent
+answered faults.Memory = Memory
+answered fault = Refused (Form fault)

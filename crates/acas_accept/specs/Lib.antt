@@ -1,0 +1,6 @@
+pub mod GivenTable
+pub mod Refusals
+pub mod Accepted
+pub mod Answers
+pub mod Faults
+pub mod Checking

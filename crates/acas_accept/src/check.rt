@@ -1,0 +1,224 @@
+//! A table in check: it is read entry by entry, and each entry is looked at before the next is read.
+ghost use Rattle.std.specs.Prelude.{◌≡◌, ◌≤◌, ◌<◌, ◌+◌, ◌*◌, List, ℕ, None, false, length, set, IsTrue, IsErrOf, IfOk, MatchResult};
+ghost use Rattle.acas_spec.specs.Model.{ModelData, entries, states};
+ghost use Rattle.acas_outside.specs.Counts.{Rose};
+ghost use Rattle.acas_outside.specs.Files.{Given};
+ghost use Rattle.acas_table.specs.Reader.{reader_state};
+ghost use Rattle.acas_table.specs.Shape.{entry_count, shape_of};
+ghost use Rattle.acas_accept.specs.GivenTable.{entry_place};
+ghost use Rattle.acas_accept.specs.Checking.{Begins, HasAccepted, HasNoRefusal, IsAnswer, IsBeforeLayer, IsCheckOf, IsInLayer, Told, with_advice};
+ghost use Rattle.acas_accept.specs.Faults.{answered};
+
+use crate::refusal::{AcceptFault, TableRefusal};
+use acas_bounds::{check_by_means, fill_means};
+use acas_model::{Advices, Model};
+use acas_outside::Folder;
+use acas_table::{TableFault, TableReader};
+use acas_units::{Entry, Pair};
+use std::alloc::{AllocError, Global};
+
+/// A table in check: its reader, the values of the layer in work, the means of the layer below it, and the advices that were read.
+#[derive(Drop)]
+pub struct TableCheck {
+    reader: TableReader,
+    pairs: Vec<Pair>,
+    means: Vec<Pair>,
+    advices: Advices,
+}
+
+fn refused(fault: TableFault) -> AcceptFault
+    ensures { result ≡ answered fault }
+{
+    match fault {
+        TableFault::Failed => AcceptFault::Failed,
+        TableFault::Absent => AcceptFault::Absent,
+        TableFault::Memory => AcceptFault::Memory,
+        fault => AcceptFault::Refused(TableRefusal::Form(fault)),
+    }
+}
+
+impl TableCheck {
+    /// Reads the header of a table of a model, whose text has this digest.
+    pub fn start<F: Folder>(
+        alloc: Global,
+        model: &Model,
+        digest: &[u8; 32],
+        folder: &mut F,
+        name: &str,
+    ) -> Result<TableCheck, AcceptFault>
+        requires served { IsTrue (F.serves folder.old name.now) }
+        ensures given { Given (F.holds folder.old) name.now (λ file. Begins model.now digest.now file result) }
+        ensures check { IfOk result (λ t. IsCheckOf model.now t 0) }
+        ensures holds { F.holds folder.new ≡ F.holds folder.old }
+        ensures serves { F.serves folder.new ≡ F.serves folder.old }
+        ensures failed { IsErrOf result AcceptFault.Failed → Rose (F.faults folder.old) (F.faults folder.new) }
+        ensures absent { IsErrOf result AcceptFault.Absent → Rose (F.misses folder.old) (F.misses folder.new) }
+        ensures faults { F.faults folder.old ≤ F.faults folder.new }
+        ensures misses { F.misses folder.old ≤ F.misses folder.new }
+    {
+        match TableReader::start(alloc, model, digest, folder, name) {
+            Ok(reader) => match TableCheck::new(alloc, model, reader) {
+                Ok(check) => Ok(check),
+                Err(_) => Err(AcceptFault::Memory),
+            },
+            Err(fault) => Err(refused(fault)),
+        }
+    }
+
+    // The check of a table whose header this reader has read.
+    fn new(alloc: Global, model: &Model, reader: TableReader) -> Result<TableCheck, AllocError>
+        requires shape { (reader_state reader).shape ≡ shape_of model.now.grid }
+        requires given { (reader_state reader).given ≡ 0 }
+        requires no_fault { (reader_state reader).fault ≡ None }
+        requires not_done { (reader_state reader).done ≡ false }
+        ensures reader { IfOk result (λ t. t.reader ≡ reader) }
+        ensures check { IfOk result (λ t. IsCheckOf model.now t 0) }
+    {
+        let states = model.grid().states() as usize;
+        Ok(TableCheck {
+            reader,
+            pairs: vec![in alloc; Pair { upper: 0, lower: 0 }; states]?,
+            means: vec![in alloc; Pair { upper: 0, lower: 0 }; states]?,
+            advices: Advices::new(alloc, model)?,
+        })
+    }
+
+    // Makes the means of the layer below the one with n seconds to go, if there is one.
+    fn begin_layer(&mut self, model: &Model, n: u32)
+        requires check { IsCheckOf model.now self.old (n * states model.now.grid) }
+        ensures check { IsCheckOf model.now self.new (n * states model.now.grid) }
+        ensures given { (digest bytes : List ℕ) → IsBeforeLayer model.now digest self.old n bytes → IsInLayer model.now digest self.new n 0 bytes }
+    {
+        if n > 0 {
+            fill_means(model, &self.pairs, &mut self.means);
+        }
+    }
+
+    // Keeps the values of an entry, and with at least one second to go its advice.
+    fn keep(&mut self, n: u32, state: u32, entry: Entry)
+        requires pairs { state < length self.old.pairs.items }
+        requires n { n ≤ self.old.advices.horizon }
+        requires state { state < self.old.advices.states }
+        requires advice { 0 < n → entry.advice < self.old.advices.advisories }
+        ensures reader { self.new.reader ≡ self.old.reader }
+        ensures means { self.new.means ≡ self.old.means }
+        ensures pairs { self.new.pairs.items ≡ set self.old.pairs.items state entry.pair }
+        ensures advices { self.new.advices ≡ with_advice self.old.advices n state entry.advice }
+    {
+        self.pairs[state as usize] = entry.pair;
+        if n > 0 {
+            self.advices.set(n, state, entry.advice);
+        }
+    }
+
+    // Reads and checks the entry of a state with n seconds to go.
+    fn entry<F: Folder>(
+        &mut self,
+        model: &Model,
+        n: u32,
+        state: u32,
+        folder: &mut F,
+        name: &str,
+    ) -> Result<(), AcceptFault>
+        requires served { IsTrue (F.serves folder.old name.now) }
+        requires n { n ≤ model.now.grid.horizon }
+        requires state { state < states model.now.grid }
+        requires check { IsCheckOf model.now self.old (entry_place model.now.grid n state) }
+        ensures given { (digest : List ℕ) → Told (F.holds folder.old) name.now (λ bytes. IsInLayer model.now digest self.old n state bytes → MatchResult result (λ _. IsInLayer model.now digest self.new n (state + 1) bytes) (IsAnswer model.now digest bytes)) }
+        ensures check { IfOk result (λ _. IsCheckOf model.now self.new (entry_place model.now.grid n (state + 1))) }
+        ensures holds { F.holds folder.new ≡ F.holds folder.old }
+        ensures serves { F.serves folder.new ≡ F.serves folder.old }
+        ensures failed { IsErrOf result AcceptFault.Failed → Rose (F.faults folder.old) (F.faults folder.new) }
+        ensures absent { IsErrOf result AcceptFault.Absent → Rose (F.misses folder.old) (F.misses folder.new) }
+        ensures faults { F.faults folder.old ≤ F.faults folder.new }
+        ensures misses { F.misses folder.old ≤ F.misses folder.new }
+    {
+        let entry = match self.reader.entry(folder, name) {
+            Ok(entry) => entry,
+            Err(fault) => return Err(refused(fault)),
+        };
+        match check_by_means(model, n, state, &entry, &self.means) {
+            Ok(()) => {
+                self.keep(n, state, entry);
+                Ok(())
+            }
+            Err(fault) => Err(AcceptFault::Refused(TableRefusal::Entry {
+                layer: n,
+                state,
+                fault,
+            })),
+        }
+    }
+
+    // Reads and checks the layer with n seconds to go.
+    fn layer<F: Folder>(
+        &mut self,
+        model: &Model,
+        n: u32,
+        folder: &mut F,
+        name: &str,
+    ) -> Result<(), AcceptFault>
+        requires served { IsTrue (F.serves folder.old name.now) }
+        requires n { n ≤ model.now.grid.horizon }
+        requires check { IsCheckOf model.now self.old (n * states model.now.grid) }
+        ensures given { (digest : List ℕ) → Told (F.holds folder.old) name.now (λ bytes. IsBeforeLayer model.now digest self.old n bytes → MatchResult result (λ _. IsBeforeLayer model.now digest self.new (n + 1) bytes) (IsAnswer model.now digest bytes)) }
+        ensures check { IfOk result (λ _. IsCheckOf model.now self.new ((n + 1) * states model.now.grid)) }
+        ensures holds { F.holds folder.new ≡ F.holds folder.old }
+        ensures serves { F.serves folder.new ≡ F.serves folder.old }
+        ensures failed { IsErrOf result AcceptFault.Failed → Rose (F.faults folder.old) (F.faults folder.new) }
+        ensures absent { IsErrOf result AcceptFault.Absent → Rose (F.misses folder.old) (F.misses folder.new) }
+        ensures faults { F.faults folder.old ≤ F.faults folder.new }
+        ensures misses { F.misses folder.old ≤ F.misses folder.new }
+    {
+        self.begin_layer(model, n);
+        for state in 0..model.grid().states() {
+            self.entry(model, n, state, folder, name)?;
+        }
+        Ok(())
+    }
+
+    /// Reads and checks all entries.
+    pub fn layers<F: Folder>(
+        &mut self,
+        model: &Model,
+        folder: &mut F,
+        name: &str,
+    ) -> Result<(), AcceptFault>
+        requires served { IsTrue (F.serves folder.old name.now) }
+        requires check { IsCheckOf model.now self.old 0 }
+        ensures given { (digest : List ℕ) → Told (F.holds folder.old) name.now (λ bytes. HasAccepted model.now digest self.old 0 bytes → MatchResult result (λ _. HasAccepted model.now digest self.new (entries model.now.grid) bytes) (IsAnswer model.now digest bytes)) }
+        ensures check { IfOk result (λ _. IsCheckOf model.now self.new (entries model.now.grid)) }
+        ensures holds { F.holds folder.new ≡ F.holds folder.old }
+        ensures serves { F.serves folder.new ≡ F.serves folder.old }
+        ensures failed { IsErrOf result AcceptFault.Failed → Rose (F.faults folder.old) (F.faults folder.new) }
+        ensures absent { IsErrOf result AcceptFault.Absent → Rose (F.misses folder.old) (F.misses folder.new) }
+        ensures faults { F.faults folder.old ≤ F.faults folder.new }
+        ensures misses { F.misses folder.old ≤ F.misses folder.new }
+    {
+        for n in 0..model.grid().horizon + 1 {
+            self.layer(model, n, folder, name)?;
+        }
+        Ok(())
+    }
+
+    /// Reads what follows the entries, and gives the advices.
+    pub fn finish<F: Folder>(mut self, folder: &mut F, name: &str) -> Result<Advices, AcceptFault>
+        requires served { IsTrue (F.serves folder.old name.now) }
+        requires all { (reader_state self.reader).given ≡ entry_count (reader_state self.reader).shape }
+        requires no_fault { (reader_state self.reader).fault ≡ None }
+        requires not_done { (reader_state self.reader).done ≡ false }
+        ensures given { (m : ModelData) (digest : List ℕ) → IsCheckOf m self (entries m.grid) → Told (F.holds folder.old) name.now (λ bytes. HasAccepted m digest self (entries m.grid) bytes → MatchResult result (λ _. HasNoRefusal m digest bytes) (IsAnswer m digest bytes)) }
+        ensures advices { IfOk result (λ advices. advices ≡ self.advices) }
+        ensures holds { F.holds folder.new ≡ F.holds folder.old }
+        ensures serves { F.serves folder.new ≡ F.serves folder.old }
+        ensures failed { IsErrOf result AcceptFault.Failed → Rose (F.faults folder.old) (F.faults folder.new) }
+        ensures absent { IsErrOf result AcceptFault.Absent → Rose (F.misses folder.old) (F.misses folder.new) }
+        ensures faults { F.faults folder.old ≤ F.faults folder.new }
+        ensures misses { F.misses folder.old ≤ F.misses folder.new }
+    {
+        match self.reader.finish(folder, name) {
+            Ok(()) => Ok(self.advices),
+            Err(fault) => Err(refused(fault)),
+        }
+    }
+}

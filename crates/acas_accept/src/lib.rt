@@ -1,0 +1,18 @@
+//! The acceptance of a table: its bytes have the form of a table of a model, and each of its entries is sound. Whoever made the
+//! table, its values then bound the expected cost from both sides.
+#![tactic(auto)]
+
+mod check;
+mod laws;
+mod refusal;
+mod whole;
+
+pub use laws::{
+    accepted_tables_have_no_refusal, accepted_tables_have_two_sided_bounds,
+    compiled_tables_are_accepted,
+};
+pub use refusal::{AcceptFault, TableRefusal};
+pub use whole::accept;
+
+#[cfg(test)]
+mod tests;
