@@ -2,7 +2,7 @@
 use Rattle.std.proofs.Common.{◌≡◌, ℕ, ◌<◌, ◌≤◌, ◌^◌, ◌/◌, ◌∷◌, ◌++◌, suc, length, length-append, ℤ, pos, negsuc, unsigned_abs, arith, refl}
 use Rattle.std.specs.Fmt.{decimal, signed_decimal}
 use Rattle.acas_units.specs.Printed.{millionths, sign_text, six_digits}
-use Rattle.std.proofs.lemmas.Fmt.{length-decimal-le}
+use Rattle.std.proofs.lemmas.Fmt.{length-decimal-le, length-decimal-le_wide}
 
 pub length-decimal : (n : ℕ) → n < 2 ^ 64 → length (decimal n) ≤ 20
 length-decimal n small = length-decimal-le 20 n (omega arith) (omega arith) small
@@ -25,4 +25,10 @@ pub length-millionths : (z : ℤ) → unsigned_abs z ≤ 2 ^ 63 → length (mill
 length-millionths z small =
     let whole = decimal (unsigned_abs z / 1000000) in
     let digits : length (decimal (unsigned_abs z / 1000000)) ≤ 15 = length-decimal-le 15 (unsigned_abs z / 1000000) (omega arith) (omega arith) (omega arith) in
+    omega (arith, length-append (sign_text z) (decimal (unsigned_abs z / 1000000)), length-append (sign_text z ++ decimal (unsigned_abs z / 1000000)) (46 ∷ six_digits (unsigned_abs z)), length-sign_text z, length-six_digits (unsigned_abs z))
+
+pub length-wide_millionths : (z : ℤ) → unsigned_abs z ≤ 2 ^ 127 → length (millionths z) ≤ 41
+length-wide_millionths z small =
+    let whole = decimal (unsigned_abs z / 1000000) in
+    let digits : length (decimal (unsigned_abs z / 1000000)) ≤ 33 = length-decimal-le_wide 33 (unsigned_abs z / 1000000) (omega arith) (omega arith) (omega arith) in
     omega (arith, length-append (sign_text z) (decimal (unsigned_abs z / 1000000)), length-append (sign_text z ++ decimal (unsigned_abs z / 1000000)) (46 ∷ six_digits (unsigned_abs z)), length-sign_text z, length-six_digits (unsigned_abs z))

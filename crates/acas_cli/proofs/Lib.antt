@@ -3,3 +3,9 @@ mod Lines
 mod Names
 mod TableLines
 mod PrintedValues
+mod CompiledLayers
+mod StoredLayers
+mod StoredTables
+mod CheckedTables
+mod TableBounds
+mod NamedFiles

@@ -4,7 +4,7 @@ use Rattle.std.proofs.lemmas.List.{append-nil}
 use Rattle.acas_cli.specs.ErrorLine.{AppendsLine, Reports, error_line, name_of}
 use Rattle.acas_cli.specs.LineParts.{line_head, line_of_parts, line_subject, line_tail}
 use Rattle.acas_cli.specs.declared.status.Cause.{Cause}
-use Rattle.acas_cli.specs.declared.status.Cause.TheVariants.{Done, Words, Absent, Model, Folder, Output, TooLong, Memory}
+use Rattle.acas_cli.specs.declared.status.Cause.TheVariants.{Done, Words, Absent, Model, Table, Folder, Output, TooLong, Memory}
 use Rattle.acas_model.specs.declared.fault.ModelFault.{ModelFault}
 use Rattle.acas_model.specs.declared.fault.ModelFault.TheVariants as fault
 
@@ -26,6 +26,7 @@ line_of_its_parts Done words = refl
 line_of_its_parts Words words = refl
 line_of_its_parts (Absent role) words = rw (append-nil (name_of role words)) refl
 line_of_its_parts (Model fault) words = fault_line fault words
+line_of_its_parts (Table refusal) words = refl
 line_of_its_parts Folder words = refl
 line_of_its_parts Output words = refl
 line_of_its_parts (TooLong role) words = rw (append-nil (name_of role words)) refl

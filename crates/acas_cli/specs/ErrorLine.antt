@@ -3,14 +3,16 @@ use Rattle.std.specs.Prelude.{◌≡◌, ◌≢◌, ◌⊎◌, ℕ, List, [], �
 use Rattle.acas_outside.specs.Bytes.{Appends, AppendsPart}
 use Rattle.acas_outside.specs.Counts.{Rose}
 use Rattle.acas_cli.specs.FaultText.{fault_text}
+use Rattle.acas_cli.specs.RefusalText.{refusal_text}
 use Rattle.acas_cli.specs.declared.status.FileRole.{FileRole}
-use Rattle.acas_cli.specs.declared.status.FileRole.TheVariants.{Model as ModelFile}
+use Rattle.acas_cli.specs.declared.status.FileRole.TheVariants.{Model as ModelFile, Table as TableFile}
 use Rattle.acas_cli.specs.declared.status.Cause.{Cause}
-use Rattle.acas_cli.specs.declared.status.Cause.TheVariants.{Done, Words, Absent, Model, Folder, Output, TooLong, Memory}
+use Rattle.acas_cli.specs.declared.status.Cause.TheVariants.{Done, Words, Absent, Model, Table, Folder, Output, TooLong, Memory}
 
 -- the word that names a file
 abbrev pub name_of : FileRole → List (List ℕ) → List ℕ
 name_of ModelFile words = slice_index_or words 1 []
+name_of TableFile words = slice_index_or words 2 []
 
 -- what went wrong
 abbrev pub cause_text : Cause → List (List ℕ) → List ℕ
@@ -18,6 +20,7 @@ cause_text Done words = []
 cause_text Words words = codes "words refused"
 cause_text (Absent role) words = codes "absent: " ++ name_of role words
 cause_text (Model fault) words = codes "model refused: " ++ fault_text fault
+cause_text (Table refusal) words = codes "table refused: " ++ refusal_text refusal
 cause_text Folder words = codes "folder failed"
 cause_text Output words = codes "output failed"
 cause_text (TooLong role) words = codes "too long: " ++ name_of role words

@@ -2,11 +2,16 @@ pub mod Codes
 pub mod Words
 pub mod Forms
 pub mod Outcome
+pub mod CompiledLine
+pub mod AcceptedLine
 pub mod Calls
 pub mod Outside
 pub mod ModelFile
+pub mod TableFile
+pub mod AcceptedFile
 pub mod Answers
 pub mod FaultText
+pub mod RefusalText
 pub mod ErrorLine
 pub mod LineParts
 pub mod ValuesText

@@ -4,8 +4,9 @@ use Rattle.acas_model.specs.declared.fault.ModelFault.{ModelFault}
 use Rattle.acas_model.specs.declared.fault.ModelFault.TheVariants.{Doc}
 use Rattle.acas_cli.specs.ErrorLine.{name_of}
 use Rattle.acas_cli.specs.FaultText.{fault_text, kind_text}
+use Rattle.acas_cli.specs.RefusalText.{refusal_text}
 use Rattle.acas_cli.specs.declared.status.Cause.{Cause}
-use Rattle.acas_cli.specs.declared.status.Cause.TheVariants.{Done, Words, Absent, Model, Folder, Output, TooLong, Memory}
+use Rattle.acas_cli.specs.declared.status.Cause.TheVariants.{Done, Words, Absent, Model, Table, Folder, Output, TooLong, Memory}
 
 abbrev pub fault_head : ModelFault → List ℕ
 fault_head (Doc at) = codes "model refused: key "
@@ -16,6 +17,7 @@ line_head Done = []
 line_head Words = codes "words refused"
 line_head (Absent role) = codes "absent: "
 line_head (Model fault) = fault_head fault
+line_head (Table refusal) = codes "table refused: "
 line_head Folder = codes "folder failed"
 line_head Output = codes "output failed"
 line_head (TooLong role) = codes "too long: "
@@ -37,6 +39,7 @@ fault_tail fault = fault_text fault
 
 abbrev pub line_tail : Cause → List ℕ
 line_tail (Model fault) = fault_tail fault
+line_tail (Table refusal) = refusal_text refusal
 line_tail cause = []
 
 -- the whole line, from its parts

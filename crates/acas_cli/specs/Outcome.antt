@@ -19,6 +19,10 @@ refuses cause = record { cause = cause; output = []; file = None }
 abbrev pub prints : List ℕ → Outcome
 prints output = record { cause = Done; output = output; file = None }
 
+-- this is stored under a name, and then this is printed
+abbrev pub stores : List ℕ → List ℕ → List ℕ → Outcome
+stores name bytes output = record { cause = Done; output = output; file = Some (name, bytes) }
+
 -- the files with the one that is stored
 abbrev pub with_file : Option (List ℕ × List ℕ) → Files → Files
 with_file None files = files

@@ -74,6 +74,7 @@ fn line_head(cause: &Cause) -> &'static str
         Cause::Words => "words refused",
         Cause::Absent(_) => "absent: ",
         Cause::Model(fault) => fault_head(fault),
+        Cause::Table(_) => "table refused: ",
         Cause::Folder => "folder failed",
         Cause::Output => "output failed",
         Cause::TooLong(_) => "too long: ",
@@ -114,6 +115,7 @@ fn name_of(role: FileRole, words: &[String]) -> &[u8]
 {
     match role {
         FileRole::Model => word_at(words, 1),
+        FileRole::Table => word_at(words, 2),
     }
 }
 

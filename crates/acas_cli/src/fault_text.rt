@@ -5,6 +5,7 @@ ghost use Rattle.acas_cli.specs.FaultText.{axis_text, axis_word, entries_text, k
 ghost use Rattle.acas_cli.specs.LineParts.{fault_tail, line_tail};
 
 use crate::line_fields::{put_count, put_number, put_text};
+use crate::refusal_text::write_refusal;
 use crate::status::Cause;
 use acas_doc::DocKind;
 use acas_grid::AxisFault;
@@ -16,8 +17,10 @@ pub(crate) fn write_tail(line: &mut Line, cause: &Cause)
     ensures { line.new ≡ line_tail cause.now }
 {
     line.clear();
-    if let Cause::Model(fault) = cause {
-        write_fault_tail(line, fault);
+    match cause {
+        Cause::Model(fault) => write_fault_tail(line, fault),
+        Cause::Table(refusal) => write_refusal(line, refusal),
+        _ => {}
     }
 }
 

@@ -40,3 +40,12 @@ pub(crate) fn put_millionths(line: &mut Line, value: i64)
 {
     line.millionths(i128::from(value));
 }
+
+/// Appends a number of millionths that may be wider than 64 bits.
+pub(crate) fn put_wide_millionths(line: &mut Line, value: i128)
+    requires { length line.old + 41 ≤ 1024 }
+    ensures value { line.new ≡ line.old ++ millionths value }
+    ensures room { length line.new ≤ length line.old + 41 }
+{
+    line.millionths(value);
+}

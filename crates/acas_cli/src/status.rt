@@ -2,12 +2,14 @@
 ghost use Rattle.std.specs.Prelude.{◌≡◌};
 ghost use Rattle.acas_cli.specs.Codes.{code_of};
 
+use acas_accept::TableRefusal;
 use acas_model::ModelFault;
 
 /// A file that a command reads, by what the command reads it as.
 #[derive(Clone, Copy, Debug, PartialEq, Eq)]
 pub enum FileRole {
     Model,
+    Table,
 }
 
 /// Why a run ended.
@@ -21,6 +23,8 @@ pub enum Cause {
     Absent(FileRole),
     /// The model's file is no model: the first rule that it fails.
     Model(ModelFault),
+    /// The table's file is no accepted table of the model: the first field or entry that is not as it is to be.
+    Table(TableRefusal),
     /// A call on the folder failed.
     Folder,
     /// A call on the output failed.
@@ -59,6 +63,7 @@ impl Cause {
             Cause::Words => 2,
             Cause::Absent(_) => 3,
             Cause::Model(_) => 4,
+            Cause::Table(_) => 5,
             Cause::Folder => 7,
             Cause::Output => 8,
             Cause::TooLong(_) => 9,

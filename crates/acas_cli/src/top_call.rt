@@ -9,6 +9,8 @@ ghost use Rattle.acas_cli.specs.Codes.{code_of};
 ghost use Rattle.acas_cli.specs.ErrorLine.{Reports};
 ghost use Rattle.acas_cli.specs.Words.{form_of, names_of};
 
+use crate::check::check;
+use crate::compile::compile;
 use crate::error_line::{report, report_memory, report_words};
 use crate::status::{Cause, Status, Work};
 use crate::values::values;
@@ -87,5 +89,7 @@ fn answer<F: Folder, O: Sink>(
 {
     match command {
         Command::Values { model } => values(alloc, model, folder, out),
+        Command::Compile { model, table } => compile(alloc, model, table, folder, out),
+        Command::Check { model, table } => check(alloc, model, table, folder, out),
     }
 }

@@ -31,11 +31,11 @@ pub(crate) fn values<F: Folder, O: Sink>(
         (outside F.holds F.misses F.faults O.written O.faults folder.old out.old)
         (outside F.holds F.misses F.faults O.written O.faults folder.new out.new) }
 {
-    let model = match read_model_file(alloc, model, folder) {
-        Ok(model) => model,
+    let found = match read_model_file(alloc, model, folder) {
+        Ok(found) => found,
         Err(cause) => return cause,
     };
-    match print_values(alloc, &model, out) {
+    match print_values(alloc, &found.model, out) {
         Ok(()) => Cause::Done,
         Err(PrintFault::Output) => Cause::Output,
         Err(PrintFault::Memory) => Cause::Memory,
@@ -85,7 +85,7 @@ fn print_values<O: Sink>(alloc: Global, model: &Model, out: &mut O) -> Result<()
 }
 
 // The layers of the compiled table.
-fn compiled_layers(alloc: Global, model: &Model) -> Result<Layers, AllocError>
+pub(crate) fn compiled_layers(alloc: Global, model: &Model) -> Result<Layers, AllocError>
     ensures { IfOk result (λ layers. AreLayers model.now layers) }
 {
     // By the model's limits a table takes fewer backups than the counter holds.

@@ -1,7 +1,7 @@
 //! The forms of words.
 ghost use Rattle.std.specs.Prelude.{◌≡◌, map, string_bytes};
 ghost use Rattle.acas_cli.specs.Forms.{HasForm};
-ghost use Rattle.acas_cli.specs.Words.{form_of, is_file_name};
+ghost use Rattle.acas_cli.specs.Words.{are_apart, are_file_names, form_of, is_file_name};
 
 use acas_units::FILE_NAME_BYTES;
 
@@ -10,6 +10,10 @@ use acas_units::FILE_NAME_BYTES;
 pub enum Command<'w> {
     /// `values M`: print the table of a model.
     Values { model: &'w str },
+    /// `compile M T`: store the compiled table of a model.
+    Compile { model: &'w str, table: &'w str },
+    /// `check M T`: check a table of a model.
+    Check { model: &'w str, table: &'w str },
 }
 
 /// The command of the words after the program's name, or None where they are no form. It takes no memory.
@@ -22,6 +26,20 @@ pub fn command_of(words: &[String]) -> Option<Command<'_>>
                 model: model.as_str(),
             })
         }
+        [verb, model, table]
+            if verb.as_str() == "compile" && are_apart(model.as_str(), table.as_str()) => {
+            Some(Command::Compile {
+                model: model.as_str(),
+                table: table.as_str(),
+            })
+        }
+        [verb, model, table]
+            if verb.as_str() == "check" && are_file_names(model.as_str(), table.as_str()) => {
+            Some(Command::Check {
+                model: model.as_str(),
+                table: table.as_str(),
+            })
+        }
         _ => None,
     }
 }
@@ -30,4 +48,16 @@ fn is_file_name(word: &str) -> bool
     ensures { result ≡ is_file_name word.now }
 {
     !word.is_empty() && word.len() <= FILE_NAME_BYTES && word.as_bytes()[0] != b'-'
+}
+
+fn are_apart(read: &str, written: &str) -> bool
+    ensures { result ≡ are_apart read.now written.now }
+{
+    are_file_names(read, written) && read != written
+}
+
+fn are_file_names(first: &str, second: &str) -> bool
+    ensures { result ≡ are_file_names first.now second.now }
+{
+    is_file_name(first) && is_file_name(second)
 }

@@ -6,8 +6,8 @@ use Rattle.acas_units.specs.Printed.{millionths}
 use Rattle.acas_cli.proofs.Digits.{length-millionths}
 use Rattle.acas_cli.proofs.line_fields.put_millionths.Goals as goal
 
-pub millionths-requires-clause-room : goal.millionths-requires-clause-room
-millionths-requires-clause-room c =
+pub millionths-requires : goal.millionths-requires
+millionths-requires c =
     let v : SFits w64 c.args.value = c.ranges.value in
     let is : c.from.result ≡ c.args.value = simp to_z-of_z at c.from.ensures in
     let r : SFits w128 c.args.value = search rules in
