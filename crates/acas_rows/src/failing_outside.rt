@@ -1,6 +1,6 @@
 //! Folders and outputs whose calls fail.
 use crate::models::MODEL_A;
-use crate::setting::Setting;
+use crate::setting::{Failing, NONE_FAILING, Setting};
 use acas_cli::Cause;
 use std::test::Fail;
 
@@ -10,7 +10,14 @@ fn each_failing_call_is_named(rt: HostRuntime) -> Result<(), Fail> {
 
     // The model is read by two calls, the second of which gives nothing.
     for read in 0..2u64 {
-        let mut at = Setting::make(alloc, &[read], &[], 4096)?;
+        let mut at = Setting::make(
+            alloc,
+            Failing {
+                reads: &[read],
+                ..NONE_FAILING
+            },
+            4096,
+        )?;
         at.folder.put("a", MODEL_A.as_bytes().to_vec(alloc)?)?;
         let status = at.run(alloc, &["values", "a"])?;
         assert_eq!(rt; status.code, 7);
@@ -21,7 +28,14 @@ fn each_failing_call_is_named(rt: HostRuntime) -> Result<(), Fail> {
 
     // Each write in turn, at seven bytes a call.
     for write in 0..8u64 {
-        let mut at = Setting::make(alloc, &[], &[write], 7)?;
+        let mut at = Setting::make(
+            alloc,
+            Failing {
+                writes: &[write],
+                ..NONE_FAILING
+            },
+            7,
+        )?;
         at.folder.put("a", MODEL_A.as_bytes().to_vec(alloc)?)?;
         let status = at.run(alloc, &["values", "a"])?;
         assert_eq!(rt; status.code, 8);
@@ -37,7 +51,7 @@ fn each_failing_call_is_named(rt: HostRuntime) -> Result<(), Fail> {
 #[test]
 fn a_failing_error_output_changes_no_code(rt: HostRuntime) -> Result<(), Fail> {
     let alloc = rt.alloc();
-    let mut at = Setting::make(alloc, &[], &[], 3)?;
+    let mut at = Setting::new(alloc, 3)?;
     at.err = acas_outside::MemorySink::new(alloc, [2u64].as_slice().to_vec(alloc)?, 3)?;
     let status = at.run(alloc, &["values", "b"])?;
     assert_eq!(rt; status.code, 3);

@@ -1,5 +1,5 @@
 //! What `values` prints.
-use crate::models::{MODEL_A, MODEL_C, MODEL_D, model_b, replaced};
+use crate::models::{MODEL_A, MODEL_B, MODEL_C, MODEL_D, replaced};
 use crate::setting::Setting;
 use acas_cli::{Cause, FileRole};
 use std::alloc::Global;
@@ -100,7 +100,7 @@ fn values_prints_the_lines(rt: HostRuntime) -> Result<(), Fail> {
     )?;
     let spelled = replaced(alloc, &spelled, "[cost]\ncontact = 5\n", "")?;
     for (text, most) in [(MODEL_A, 4096), (MODEL_A, 1), (spelled.as_str(), 4096)] {
-        let mut at = Setting::make(alloc, &[], &[], most)?;
+        let mut at = Setting::new(alloc, most)?;
         at.folder.put("a", text.as_bytes().to_vec(alloc)?)?;
         let status = at.run(alloc, &["values", "a"])?;
         assert_eq!(rt; status.code, 0);
@@ -128,7 +128,7 @@ fn contact_is_at_most_half_the_height(rt: HostRuntime) -> Result<(), Fail> {
         "own_rate = [0, 600]",
         "own_rate = [-10000, 10000]",
     )?;
-    let mut at = Setting::make(alloc, &[], &[], 4096)?;
+    let mut at = Setting::new(alloc, 4096)?;
     at.folder.put("a", text.as_bytes().to_vec(alloc)?)?;
     let status = at.run(alloc, &["values", "a"])?;
     assert_eq!(rt; status.code, 0);
@@ -147,7 +147,7 @@ fn contact_is_at_most_half_the_height(rt: HostRuntime) -> Result<(), Fail> {
 #[test]
 fn a_file_is_absent_or_too_long(rt: HostRuntime) -> Result<(), Fail> {
     let alloc = rt.alloc();
-    let mut at = Setting::make(alloc, &[], &[], 4096)?;
+    let mut at = Setting::new(alloc, 4096)?;
     at.folder.put("long", vec![in alloc; b'#'; 1_000_001]?)?;
     at.folder.put("full", vec![in alloc; b'#'; 1_000_000]?)?;
     let rows = [
@@ -171,7 +171,7 @@ fn a_file_is_absent_or_too_long(rt: HostRuntime) -> Result<(), Fail> {
 
 // What is printed of a model.
 fn printed(alloc: Global, text: &str) -> Result<Setting, Fail> {
-    let mut at = Setting::make(alloc, &[], &[], 65_536)?;
+    let mut at = Setting::new(alloc, 65_536)?;
     at.folder.put("m", text.as_bytes().to_vec(alloc)?)?;
     let status = at.run(alloc, &["values", "m"])?;
     if status.code != 0 {
@@ -195,8 +195,7 @@ fn has_lines(bytes: &[u8], lines: &[&str]) -> bool {
 #[test]
 fn values_go_back_from_the_end(rt: HostRuntime) -> Result<(), Fail> {
     let alloc = rt.alloc();
-    let b = model_b(alloc)?;
-    let at = printed(alloc, &b)?;
+    let at = printed(alloc, MODEL_B)?;
     assert_eq!(rt; at.out.written(), LINES_B.as_bytes());
 
     // Where a second leads to a vertex, both values are the cost.
@@ -218,7 +217,12 @@ fn values_go_back_from_the_end(rt: HostRuntime) -> Result<(), Fail> {
     );
 
     // The first choice wins a tie.
-    let text = replaced(alloc, &b, "lo = -500\nhi = 500", "lo = -10000\nhi = 10000")?;
+    let text = replaced(
+        alloc,
+        MODEL_B,
+        "lo = -500\nhi = 500",
+        "lo = -10000\nhi = 10000",
+    )?;
     let text = replaced(
         alloc,
         &text,

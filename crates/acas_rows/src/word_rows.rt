@@ -6,7 +6,7 @@ use std::process::Abort;
 use std::test::Fail;
 
 fn refused(rt: &impl Abort, alloc: Global, texts: &[&str]) -> Result<(), Fail> {
-    let mut at = Setting::make(alloc, &[], &[], 4096)?;
+    let mut at = Setting::new(alloc, 4096)?;
     let status = at.run(alloc, texts)?;
     assert_eq!(rt; status.code, 2);
     assert!(rt; matches!(status.cause, Cause::Words));
@@ -48,7 +48,7 @@ fn a_name_has_at_most_255_bytes(rt: HostRuntime) -> Result<(), Fail> {
     }
 
     // The file is looked for.
-    let mut at = Setting::make(alloc, &[], &[], 4096)?;
+    let mut at = Setting::new(alloc, 4096)?;
     let status = at.run(alloc, &["values", &name])?;
     assert_eq!(rt; status.code, 3);
 
