@@ -2,14 +2,15 @@
 use Rattle.std.proofs.Common.{◌≡◌, ℕ, ◌≤◌, List, Option, None, Some, Result, Ok, Err, sym, subst, arith}
 use Rattle.std.specs.Prelude.{IfOk, IfSome, MatchResult}
 use Rattle.std.specs.FinMap.{get}
-use Rattle.acas_spec.specs.Accepted.{IsAccepted}
+use Rattle.acas_spec.specs.Limits.{IsModel}
 use Rattle.acas_spec.specs.Model.{ModelData, entries}
-use Rattle.acas_model.specs.Advices.{AdvicesData}
+use Rattle.acas_base.specs.Advices.{AdvicesData}
 use Rattle.acas_outside.specs.Bytes.{IsBytes}
 use Rattle.acas_outside.specs.Files.{Files, Given}
 use Rattle.acas_table.specs.Shape.{shape_of}
 use Rattle.acas_accept.specs.Answers.{Accepts, AreAllowed, HasAdvices}
-use Rattle.acas_accept.specs.Checking.{Begins, HasAccepted, HasNoRefusal, IsAnswer, IsCheckOf, Told}
+use Rattle.acas_table.specs.Reader.{Told}
+use Rattle.acas_accept.specs.Checking.{Begins, HasAccepted, HasNoRefusal, IsAnswer, IsCheckOf}
 use Rattle.acas_accept.specs.declared.check.TableCheck.{TableCheck}
 use Rattle.acas_accept.specs.declared.refusal.AcceptFault.{AcceptFault}
 use Rattle.acas_accept.specs.declared.refusal.AcceptFault.TheVariants.{Refused, Absent, Failed, Memory}
@@ -55,7 +56,7 @@ reads_given (Some files) name m digest t result begins reads = reads_file m dige
 
 -- ---- a table
 
-text_is_bytes : (m : ModelData) (digest bytes : List ℕ) → IsAccepted m → IsBytes digest → HasNoRefusal m digest bytes → IsBytes bytes
+text_is_bytes : (m : ModelData) (digest bytes : List ℕ) → IsModel m → IsBytes digest → HasNoRefusal m digest bytes → IsBytes bytes
 text_is_bytes m digest bytes v small whole =
     let has = refused_none m digest bytes whole.none in
     let few : m.grid.advisories ≤ 256 = omega (arith, v.grid.few_advisories) in
@@ -68,7 +69,7 @@ has_advices m digest t bytes accepted = record { each = λ n state some seconds 
 pub are_allowed : (m : ModelData) (t : TableCheck) → IsCheckOf m t (entries m.grid) → AreAllowed m t.advices
 are_allowed m t check = record { each = λ n state some seconds inside. check.allowed n state some inside (entry_place-below m.grid n state seconds inside) }
 
-pub no_refusal_accepts : (m : ModelData) (digest bytes : List ℕ) (t : TableCheck) (result : Result AdvicesData AcceptFault) → IsAccepted m → IsBytes digest → IfOk result (λ advices. advices ≡ t.advices)
+pub no_refusal_accepts : (m : ModelData) (digest bytes : List ℕ) (t : TableCheck) (result : Result AdvicesData AcceptFault) → IsModel m → IsBytes digest → IfOk result (λ advices. advices ≡ t.advices)
     → HasAccepted m digest t (entries m.grid) bytes → MatchResult result (λ _. HasNoRefusal m digest bytes) (IsAnswer m digest bytes) → Accepts m digest (Some bytes) result
 no_refusal_accepts m digest bytes t (Ok advices) v small same accepted whole =
     (whole.none, text_is_bytes m digest bytes v small whole, subst (λ (a : AdvicesData). HasAdvices m bytes a) (sym same) (has_advices m digest t bytes accepted))

@@ -2,19 +2,19 @@
 use Rattle.std.proofs.Common.{ℕ, ◌<◌, ◌^◌, ℤ, List, refl, arith, inl, inr, unsigned_abs, w64}
 use Rattle.std.proofs.lemmas.Int.{ints}
 use Rattle.std.specs.Prelude.{FitsSigned}
-use Rattle.acas_spec.specs.Accepted.{IsAccepted}
+use Rattle.acas_spec.specs.Limits.{IsModel}
 use Rattle.acas_spec.specs.Model.{ModelData}
 use Rattle.acas_frac.specs.Rounding.{down, up}
 use Rattle.acas_process.specs.Compiled.{compiled}
 use Rattle.acas_process.proofs.CompiledLaws.{compiled_is_sound}
 use Rattle.acas_process.proofs.SizeLaws.{compiled_size}
-use Rattle.acas_table.specs.Layers.{text_of}
+use Rattle.acas_table.specs.Layers.{table_text}
 use Rattle.acas_accept.specs.Accepted.{IsAcceptedTable}
 
 small_fits : (z : ℤ) → unsigned_abs z < 2 ^ 63 → FitsSigned w64 z
 small_fits z small = omega (arith, ints)
 
-pub compiled_is_accepted : (m : ModelData) (digest : List ℕ) → IsAccepted m → IsAcceptedTable m digest (text_of digest m.grid (compiled m)) (compiled m)
+pub compiled_is_accepted : (m : ModelData) (digest : List ℕ) → IsModel m → IsAcceptedTable m digest (table_text digest m.grid (compiled m)) (compiled m)
 compiled_is_accepted m digest v = record {
   writable = record {
     upper = λ n p x at. small_fits _ (omega (arith, compiled_size up (inr refl) m v n p x at.present, at.seconds, v.grid.horizon));

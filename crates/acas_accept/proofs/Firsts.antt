@@ -9,7 +9,7 @@ use Rattle.acas_table.specs.Shape.{entry_count, shape_of}
 use Rattle.acas_table.specs.declared.fault.TableFault.{TableFault}
 use Rattle.acas_table.proofs.Found.{found_below}
 use Rattle.acas_accept.specs.GivenTable.{entry_place}
-use Rattle.acas_accept.specs.Refusals.{entry_refusal, first_refusal, soundness_refusal, state_fault}
+use Rattle.acas_accept.specs.Refusals.{entry_refusal, first_refusal, soundness_refusal, given_fault}
 use Rattle.acas_accept.specs.declared.refusal.TableRefusal.{TableRefusal}
 use Rattle.acas_accept.specs.declared.refusal.TableRefusal.TheVariants.{Form, Entry}
 
@@ -37,17 +37,17 @@ first_one : (o : Option TableRefusal) → first (o ∷ []) ≡ o
 first_one None = refl
 first_one (Some refusal) = refl
 
-soundness_at : (m : ModelData) (bytes : List ℕ) (n state : ℕ) → state < states m.grid → soundness_refusal m bytes (entry_place m.grid n state) ≡ option_map (Entry n state) (state_fault m bytes n state)
+soundness_at : (m : ModelData) (bytes : List ℕ) (n state : ℕ) → state < states m.grid → soundness_refusal m bytes (entry_place m.grid n state) ≡ option_map (Entry n state) (given_fault m bytes n state)
 unfolding soundness_refusal
 soundness_at m bytes n state inside =
     let s : ℕ = states m.grid in
     let i : ℕ = entry_place m.grid n state in
-    ap (λ (k : ℕ). option_map (Entry k (i % s)) (state_fault m bytes k (i % s))) (div-mul-add n s state inside)
-    ∙ ap (λ (k : ℕ). option_map (Entry n k) (state_fault m bytes n k)) (mod-mul-add n s state inside)
+    ap (λ (k : ℕ). option_map (Entry k (i % s)) (given_fault m bytes k (i % s))) (div-mul-add n s state inside)
+    ∙ ap (λ (k : ℕ). option_map (Entry n k) (given_fault m bytes n k)) (mod-mul-add n s state inside)
 
 -- its form is good, and it is sound or not
 pub sound_refusal : (m : ModelData) (bytes : List ℕ) (n state : ℕ) (fault : Option BoundFault) → state < states m.grid → entry_fault (shape_of m.grid) bytes (entry_place m.grid n state) ≡ None
-    → state_fault m bytes n state ≡ fault → entry_refusal m bytes (entry_place m.grid n state) ≡ option_map (Entry n state) fault
+    → given_fault m bytes n state ≡ fault → entry_refusal m bytes (entry_place m.grid n state) ≡ option_map (Entry n state) fault
 sound_refusal m bytes n state fault inside form here =
     ap (λ (o : Option TableFault). first (option_map Form o ∷ soundness_refusal m bytes (entry_place m.grid n state) ∷ [])) form
     ∙ first_one (soundness_refusal m bytes (entry_place m.grid n state))

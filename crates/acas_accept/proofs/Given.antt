@@ -7,18 +7,19 @@ use Rattle.std.proofs.lemmas.List.{ext_get_or}
 use Rattle.std.proofs.lemmas.List.FromFn.{length-map-range_with_len, get_or-map-range_with_len}
 use Rattle.acas_spec.specs.Model.{GridData, states}
 use Rattle.acas_units.specs.declared.pair.Entry.{Entry}
-use Rattle.acas_process.specs.Bounds.{Table}
-use Rattle.acas_step.specs.States.{state_present, state_vertex}
+use Rattle.acas_spec.specs.Table.{Table}
+use Rattle.acas_grid.specs.States.{state_present, state_vertex}
 use Rattle.acas_table.specs.Layers.{layer_entries, layers_of, state_entry}
 use Rattle.acas_table.specs.Tables.{all_entries, entries_below, no_entry}
 use Rattle.acas_table.specs.Text.{entry_at}
 use Rattle.acas_accept.specs.GivenTable.{entry_place, given_entry, given_table}
-use Rattle.acas_accept.proofs.Places.{is_place, state_number-back}
+use Rattle.acas_grid.proofs.StateNumbers.{state_number-parts}
+use Rattle.acas_accept.proofs.Places.{is_place}
 use Rattle.acas_accept.proofs.Rows.{length-rows, row_at}
 
 -- the entry of a state by its number
 pub given-place : (g : GridData) (bytes : List ℕ) (n state : ℕ) → given_entry g bytes n (state_present g state) (state_vertex g state) ≡ entry_at bytes (entry_place g n state)
-given-place g bytes n state = ap (λ (k : ℕ). entry_at bytes (n * states g + k)) (state_number-back g state)
+given-place g bytes n state = ap (λ (k : ℕ). entry_at bytes (n * states g + k)) (state_number-parts g state)
 
 -- ---- all entries of a table
 

@@ -4,7 +4,7 @@ use Rattle.std.proofs.lemmas.Bool.{cases_lt, le-ltb, lt-ltb}
 use Rattle.std.proofs.lemmas.List.{get_or-set_other, get_or-set_same, length-set}
 use Rattle.std.proofs.lemmas.Nat.{same_from_place}
 use Rattle.acas_spec.specs.Model.{ModelData, states}
-use Rattle.acas_model.specs.Advices.{AdvicesData, AreAdvicesOf, advice_at, advice_place}
+use Rattle.acas_base.specs.Advices.{AdvicesData, AreAdvicesOf, advice_at, advice_place}
 use Rattle.acas_accept.specs.GivenTable.{entry_place}
 use Rattle.acas_accept.specs.Checking.{with_advice}
 use Rattle.acas_accept.proofs.Places.{entry_place-below}

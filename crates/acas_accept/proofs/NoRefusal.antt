@@ -5,20 +5,20 @@ use Rattle.acas_spec.specs.Model.{ModelData, states}
 use Rattle.acas_table.specs.Faults.{entry_fault, first_below, first_fault, header_fault, tail_fault}
 use Rattle.acas_table.specs.Shape.{entry_count, shape_of}
 use Rattle.acas_table.proofs.Cuts.{first_none}
-use Rattle.acas_accept.specs.Refusals.{entry_refusal, first_refusal, soundness_refusal, state_fault}
+use Rattle.acas_accept.specs.Refusals.{entry_refusal, first_refusal, soundness_refusal, given_fault}
 use Rattle.acas_accept.specs.declared.refusal.TableRefusal.TheVariants.{Form, Entry}
 use Rattle.acas_accept.proofs.Nones.{all_none, each_none, first-cons, none-option_map, option_map-none}
 
 -- bytes without fault, each of whose entries passes the check of soundness
 pub record HasNone (m : ModelData) (digest bytes : List ℕ) : Type 0 where
   pub form : first_fault digest (shape_of m.grid) bytes ≡ None
-  pub sound : (i : ℕ) → i < (m.grid.horizon + 1) * states m.grid → state_fault m bytes (i / states m.grid) (i % states m.grid) ≡ None
+  pub sound : (i : ℕ) → i < (m.grid.horizon + 1) * states m.grid → given_fault m bytes (i / states m.grid) (i % states m.grid) ≡ None
 
-entry_none : (m : ModelData) (bytes : List ℕ) (i : ℕ) → entry_fault (shape_of m.grid) bytes i ≡ None → state_fault m bytes (i / states m.grid) (i % states m.grid) ≡ None → entry_refusal m bytes i ≡ None
+entry_none : (m : ModelData) (bytes : List ℕ) (i : ℕ) → entry_fault (shape_of m.grid) bytes i ≡ None → given_fault m bytes (i / states m.grid) (i % states m.grid) ≡ None → entry_refusal m bytes i ≡ None
 unfolding soundness_refusal
 entry_none m bytes i form sound =
     first-cons (option_map Form (entry_fault (shape_of m.grid) bytes i)) (soundness_refusal m bytes i ∷ []) (none-option_map Form _ form)
-    (first-cons (soundness_refusal m bytes i) [] (none-option_map (Entry (i / states m.grid) (i % states m.grid)) (state_fault m bytes (i / states m.grid) (i % states m.grid)) sound) refl)
+    (first-cons (soundness_refusal m bytes i) [] (none-option_map (Entry (i / states m.grid) (i % states m.grid)) (given_fault m bytes (i / states m.grid) (i % states m.grid)) sound) refl)
 
 pub none_refused : (m : ModelData) (digest bytes : List ℕ) → HasNone m digest bytes → first_refusal m digest bytes ≡ None
 unfolding first_refusal first_fault
@@ -37,7 +37,7 @@ none_refused m digest bytes has =
 -- an entry without refusal
 record IsEntryNone (m : ModelData) (bytes : List ℕ) (i : ℕ) : Type 0 where
   form : entry_fault (shape_of m.grid) bytes i ≡ None
-  sound : state_fault m bytes (i / states m.grid) (i % states m.grid) ≡ None
+  sound : given_fault m bytes (i / states m.grid) (i % states m.grid) ≡ None
 
 entry_parts : (m : ModelData) (bytes : List ℕ) (i : ℕ) → entry_refusal m bytes i ≡ None → IsEntryNone m bytes i
 unfolding soundness_refusal
@@ -46,7 +46,7 @@ entry_parts m bytes i none =
     let b = first_none (soundness_refusal m bytes i) [] a.1 in
     record {
       form = option_map-none Form (entry_fault (shape_of m.grid) bytes i) a.0;
-      sound = option_map-none (Entry (i / states m.grid) (i % states m.grid)) (state_fault m bytes (i / states m.grid) (i % states m.grid)) b.0;
+      sound = option_map-none (Entry (i / states m.grid) (i % states m.grid)) (given_fault m bytes (i / states m.grid) (i % states m.grid)) b.0;
     }
 
 pub refused_none : (m : ModelData) (digest bytes : List ℕ) → first_refusal m digest bytes ≡ None → HasNone m digest bytes

@@ -1,12 +1,13 @@
 -- Tables with the same entries are sound together.
 use Rattle.std.proofs.Common.{◌≡◌, ℕ, zero, suc, ◌<◌, ◌≤◌, ◌≤ℤ◌, sym, ◌∙◌, ap, subst, arith}
 use Rattle.std.proofs.lemmas.Int.{ints}
-use Rattle.acas_spec.specs.Accepted.{IsAccepted}
+use Rattle.acas_spec.specs.Limits.{IsModel}
 use Rattle.acas_spec.specs.Model.{ModelData}
 use Rattle.acas_grid.specs.Grid.{IsVertex}
-use Rattle.acas_grid.specs.declared.place.Vertex.{Vertex}
+use Rattle.acas_spec.specs.declared.place.Vertex.{Vertex}
 use Rattle.acas_frac.specs.Rounding.{down, up}
-use Rattle.acas_process.specs.Bounds.{IsSoundEntry, Table, lower_value, upper_value}
+use Rattle.acas_spec.specs.Table.{Table}
+use Rattle.acas_process.specs.Bounds.{IsSoundEntry, lower_value, upper_value}
 use Rattle.acas_process.specs.Cost.{IsEntry, MayChoose}
 use Rattle.acas_process.proofs.AcceptedLaws.{is_chosen}
 use Rattle.acas_process.proofs.SameLaws.{choice_same}
@@ -27,7 +28,7 @@ upper_same m t u n p x a same seconds known = choice_same up m (u.upper n) (t.up
 lower_same : (m : ModelData) (t u : Table) (n p : ℕ) (x : Vertex) (a : ℕ) → AreSame m t u → suc n ≤ m.grid.horizon → a < m.grid.advisories → lower_value m (u.lower n) p x a ≡ lower_value m (t.lower n) p x a
 lower_same m t u n p x a same seconds known = choice_same down m (u.lower n) (t.lower n) p x a (λ y is. same.lower n a y (below m n a y seconds known is))
 
-pub sound_same : (m : ModelData) (t u : Table) (n p : ℕ) (x : Vertex) → IsAccepted m → AreSame m t u → IsEntry m n p x → IsSoundEntry m t n p x → IsSoundEntry m u n p x
+pub sound_same : (m : ModelData) (t u : Table) (n p : ℕ) (x : Vertex) → IsModel m → AreSame m t u → IsEntry m n p x → IsSoundEntry m t n p x → IsSoundEntry m u n p x
 sound_same m t u zero p x v same at sound = (omega (arith, ints, same.lower 0 p x at, sound.0), omega (arith, ints, same.upper 0 p x at, sound.1))
 sound_same m t u (suc n) p x v same at sound =
     let a : ℕ = t.advice (suc n) p x in

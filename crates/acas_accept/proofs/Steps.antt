@@ -1,21 +1,23 @@
 -- One more entry, one more layer.
-use Rattle.std.proofs.Common.{◌≡◌, ◌≢◌, ℕ, zero, suc, ◌+◌, ◌*◌, ◌<◌, ◌≤◌, false, pos, List, length, get_or, set, Option, None, Some, Err, sym, ◌∙◌, ap, subst, arith, add-one}
+use Rattle.std.proofs.Common.{◌≡◌, ◌≢◌, ℕ, ◌+◌, ◌*◌, ◌<◌, ◌≤◌, false, List, length, get_or, set, Option, None, Some, Err, sym, ◌∙◌, ap, subst, arith, add-one}
 use Rattle.std.proofs.lemmas.List.{get_or-set_other, get_or-set_same, length-set}
 use Rattle.std.specs.Prelude.{Ok, Vec}
 use Rattle.std.specs.Option.{option_map}
 use Rattle.std.specs.declared.alloc.Global.{Global}
 use borrow.Author.Count.{below_more}
 use Rattle.acas_spec.specs.Model.{ModelData, entries, states}
-use Rattle.acas_grid.specs.Grid.{state_number, vertex_number}
 use Rattle.acas_units.specs.declared.pair.Entry.{Entry}
 use Rattle.acas_units.specs.declared.pair.Pair.{Pair}
-use Rattle.acas_model.specs.Advices.{AdvicesData, AreAdvicesOf, advice_at}
-use Rattle.acas_process.specs.Bounds.{Table}
+use Rattle.acas_base.specs.Advices.{AdvicesData, AreAdvicesOf, advice_at}
+use Rattle.acas_spec.specs.Table.{Table}
 use Rattle.acas_process.specs.Cost.{MayChoose}
-use Rattle.acas_step.specs.States.{state_present, state_vertex}
-use Rattle.acas_bounds.specs.Layers.{AreMeansOf, AreValuesOf, IsEntryOf, OfBelow}
-use Rattle.acas_bounds.specs.Sound.{bound_fault}
+use Rattle.acas_grid.specs.States.{state_present, state_vertex}
+use Rattle.acas_step.specs.Entries.{IsStateEntry}
+use Rattle.acas_step.specs.Layer.{AreValuesOf, no_pair}
+use Rattle.acas_step.specs.Means.{AreMeansOf}
+use Rattle.acas_bounds.specs.Checks.{OfBelow, state_fault}
 use Rattle.acas_bounds.specs.declared.fault.BoundFault.{BoundFault}
+use Rattle.acas_bounds.proofs.Faults.{OfBelow-map}
 use Rattle.acas_table.specs.Faults.{entry_fault, first_below}
 use Rattle.acas_table.specs.Reader.{reader_state, Finishes, GivesEntry, HasRead}
 use Rattle.acas_table.specs.Shape.{shape_of}
@@ -36,10 +38,7 @@ use Rattle.acas_accept.proofs.Answered.{IsPast, entry_answered_as, entry_same, f
 use Rattle.acas_accept.proofs.Firsts.{at_end, in_entry, sound_refusal}
 use Rattle.acas_accept.proofs.Given.{given-place}
 use Rattle.acas_accept.proofs.Kept.{AreAdvicesOf-with, each_kept}
-use Rattle.acas_accept.proofs.Places.{entry_place-below, state-below}
-
-abbrev no_pair : Pair
-no_pair = record { upper = pos 0; lower = pos 0 }
+use Rattle.acas_accept.proofs.Places.{entry_place-below}
 
 pub past : (m : ModelData) (digest : List ℕ) (t : TableCheck) (i : ℕ) (bytes : List ℕ) → IsCheckOf m t i → HasAccepted m digest t i bytes → IsPast m digest t.reader i bytes
 past m digest t i bytes check accepted = record { stands = accepted.stands; none = accepted.none; shape = check.shape; given = check.given }
@@ -58,7 +57,7 @@ takes m digest r n state bytes entry is gives = record {
 }
 
 -- it is that of the table which the bytes are read as
-taken_entry : (m : ModelData) (entry : Entry) (n state : ℕ) (bytes : List ℕ) → Takes m entry n state bytes → IsEntryOf (given_table m.grid bytes) n (state_present m.grid state) (state_vertex m.grid state) entry
+taken_entry : (m : ModelData) (entry : Entry) (n state : ℕ) (bytes : List ℕ) → Takes m entry n state bytes → IsStateEntry m (given_table m.grid bytes) n state entry
 taken_entry m entry n state bytes taken =
     let same : entry ≡ given_entry m.grid bytes n (state_present m.grid state) (state_vertex m.grid state) = taken.is ∙ sym (given-place m.grid bytes n state) in
     record { upper = ap (λ (e : Entry). e.pair.upper) same; lower = ap (λ (e : Entry). e.pair.lower) same; advice = ap (λ (e : Entry). e.advice) same }
@@ -66,8 +65,7 @@ taken_entry m entry n state bytes taken =
 -- what a check by the means says of it
 abbrev pub Says : ModelData → List Pair → Entry → ℕ → ℕ → Option BoundFault → Type 0
 Says m means entry n state fault =
-    (t : Table) → IsEntryOf t n (state_present m.grid state) (state_vertex m.grid state) entry → OfBelow (λ k. AreMeansOf m t k means) n
-    → bound_fault m t n (state_present m.grid state) (state_vertex m.grid state) ≡ fault
+    (t : Table) → IsStateEntry m t n state entry → OfBelow (λ k. AreMeansOf m t k means) n → state_fault m t n state ≡ fault
 
 refusal_is : (m : ModelData) (digest : List ℕ) (t : TableCheck) (n state : ℕ) (bytes : List ℕ) (entry : Entry) (fault : Option BoundFault) → state < states m.grid → IsInLayer m digest t n state bytes
     → Takes m entry n state bytes → Says m t.means.items entry n state fault → entry_refusal m bytes (entry_place m.grid n state) ≡ option_map (refusals.Entry n state) fault
@@ -166,10 +164,6 @@ check_at m t i j same check = subst (λ (k : ℕ). IsCheckOf m t k) same check
 pub accepted_at : (m : ModelData) (digest : List ℕ) (t : TableCheck) (i j : ℕ) (bytes : List ℕ) → i ≡ j → HasAccepted m digest t i bytes → HasAccepted m digest t j bytes
 accepted_at m digest t i j bytes same accepted = subst (λ (k : ℕ). HasAccepted m digest t k bytes) same accepted
 
-OfBelow-map : (P Q : ℕ → Type 0) (n : ℕ) → ((k : ℕ) → P k → Q k) → OfBelow P n → OfBelow Q n
-OfBelow-map P Q zero f h = tt
-OfBelow-map P Q (suc k) f h = f k h
-
 -- before its first entry, with the means of the layer below it
 pub in_layer_first : (m : ModelData) (digest : List ℕ) (old new : TableCheck) (n : ℕ) (bytes : List ℕ) → new.reader ≡ old.reader → new.advices ≡ old.advices
     → ((t : Table) (k : ℕ) → AreValuesOf m t k old.pairs.items → AreMeansOf m t k new.means.items) → IsBeforeLayer m digest old n bytes → IsInLayer m digest new n 0 bytes
@@ -193,8 +187,8 @@ before_first_layer m digest t bytes accepted = record { accepted = accepted_at m
 
 layer_values_are : (m : ModelData) (digest : List ℕ) (t : TableCheck) (n : ℕ) (bytes : List ℕ) → IsInLayer m digest t n (states m.grid) bytes → AreValuesOf m (given_table m.grid bytes) n t.pairs.items
 layer_values_are m digest t n bytes within = record {
-  upper = λ a y known is. ap (λ (p : Pair). p.upper) (within.pairs (state_number m.grid a (vertex_number m.grid y)) (state-below m.grid a y known is));
-  lower = λ a y known is. ap (λ (p : Pair). p.lower) (within.pairs (state_number m.grid a (vertex_number m.grid y)) (state-below m.grid a y known is));
+  upper = λ s inside. ap (λ (p : Pair). p.upper) (within.pairs s inside) ∙ ap (λ (e : Entry). e.pair.upper) (sym (given-place m.grid bytes n s));
+  lower = λ s inside. ap (λ (p : Pair). p.lower) (within.pairs s inside) ∙ ap (λ (e : Entry). e.pair.lower) (sym (given-place m.grid bytes n s));
 }
 
 row_end : (n width : ℕ) → n * width + width ≡ (n + 1) * width

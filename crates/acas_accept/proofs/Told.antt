@@ -3,7 +3,7 @@ use Rattle.std.proofs.Common.{◌≡◌, List, ℕ, Option, None, Some, subst}
 use Rattle.std.specs.Prelude.{IfSome}
 use Rattle.std.specs.FinMap.{get}
 use Rattle.acas_outside.specs.Files.{Files}
-use Rattle.acas_accept.specs.Checking.{Told}
+use Rattle.acas_table.specs.Reader.{Told}
 
 file_map : (file : Option (List ℕ)) (P Q : List ℕ → Type 0) → ((bytes : List ℕ) → P bytes → Q bytes) → IfSome file P → IfSome file Q
 file_map None P Q f told = tt

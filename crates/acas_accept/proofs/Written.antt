@@ -2,17 +2,18 @@
 use Rattle.std.proofs.Common.{◌≡◌, ℕ, zero, suc, ◌+◌, ◌*◌, ◌/◌, ◌%◌, ◌<◌, ◌≤◌, Bool, true, cond, List, length, None, sym, ◌∙◌, ap, subst, arith, w64}
 use Rattle.std.proofs.lemmas.Bool.{eq-eqb, le-ltb, lt-ltb}
 use Rattle.std.specs.Prelude.{◌==◌, FitsSigned, nat_lt}
-use Rattle.acas_spec.specs.Accepted.{IsAccepted}
+use Rattle.acas_spec.specs.Limits.{IsModel}
 use Rattle.acas_spec.specs.Model.{ModelData, states}
 use Rattle.acas_grid.specs.Grid.{state_number, vertex_number}
-use Rattle.acas_grid.specs.declared.place.Vertex.{Vertex}
+use Rattle.acas_spec.specs.declared.place.Vertex.{Vertex}
 use Rattle.acas_units.specs.declared.pair.Entry.{Entry}
-use Rattle.acas_process.specs.Bounds.{IsSound, IsSoundEntry, Table}
+use Rattle.acas_spec.specs.Table.{Table}
+use Rattle.acas_process.specs.Bounds.{IsSound, IsSoundEntry}
 use Rattle.acas_process.specs.Cost.{IsEntry}
 use Rattle.acas_process.proofs.AcceptedLaws.{is_chosen}
-use Rattle.acas_step.specs.States.{state_present, state_vertex}
+use Rattle.acas_grid.specs.States.{state_present, state_vertex}
 use Rattle.acas_table.specs.Faults.{advice_fault, first_fault, unless}
-use Rattle.acas_table.specs.Layers.{layers_of, state_entry, text_of}
+use Rattle.acas_table.specs.Layers.{layers_of, state_entry, table_text}
 use Rattle.acas_table.specs.Shape.{shape_of}
 use Rattle.acas_table.specs.Tables.{IsTable, all_entries, flat_text}
 use Rattle.acas_table.specs.Text.{entry_at}
@@ -23,14 +24,17 @@ use Rattle.acas_table.proofs.TextLaws.{entry_read, text_is_good}
 use Rattle.acas_accept.specs.Accepted.{IsWritable}
 use Rattle.acas_accept.specs.GivenTable.{entry_place, given_entry, given_table}
 use Rattle.acas_accept.proofs.Given.{all_entries-at, all_entries-place, length-all_entries}
-use Rattle.acas_accept.proofs.Places.{is_place, entry_place-below, state-below, state_entry_is, state_present-state_number, state_vertex-state_number}
+use Rattle.acas_grid.proofs.StateNumbers.{state_present-state_number, state_vertex-state_number}
+use Rattle.acas_grid.proofs.Vertices.{vertices-one_to_one}
+use Rattle.acas_step.proofs.NumberedStates.{state_number-below}
+use Rattle.acas_accept.proofs.Places.{is_place, entry_place-below, state_entry_is}
 use Rattle.acas_accept.proofs.Same.{AreSame}
 
 good_if : (b : Bool) (fault : TableFault) → b ≡ true → unless b fault ≡ None
 good_if b fault good = ap (λ (c : Bool). unless c fault) good
 
 -- an advice that may stand in a layer
-advice_good : (m : ModelData) (t : Table) (n state : ℕ) → IsAccepted m → IsWritable m t → IsSound m t → n ≤ m.grid.horizon → state < states m.grid
+advice_good : (m : ModelData) (t : Table) (n state : ℕ) → IsModel m → IsWritable m t → IsSound m t → n ≤ m.grid.horizon → state < states m.grid
     → advice_fault (shape_of m.grid) (entry_place m.grid n state) (t.advice n (state_present m.grid state) (state_vertex m.grid state)) ≡ None
 advice_good m t zero state v writable sound seconds inside =
     let g = m.grid in
@@ -50,7 +54,7 @@ advice_good m t (suc n) state v writable sound seconds inside =
     ∙ lt-ltb byte g.advisories ((is_chosen m p byte v at.present entry.0).inside))
 
 -- the entries of a table, in one list
-pub is_table : (m : ModelData) (digest : List ℕ) (t : Table) → IsAccepted m → length digest ≡ 32 → IsWritable m t → IsSound m t → IsTable digest (shape_of m.grid) (all_entries (layers_of m.grid t))
+pub is_table : (m : ModelData) (digest : List ℕ) (t : Table) → IsModel m → length digest ≡ 32 → IsWritable m t → IsSound m t → IsTable digest (shape_of m.grid) (all_entries (layers_of m.grid t))
 is_table m digest t v long writable sound =
     let g = m.grid in
     let count = length-all_entries g t in
@@ -74,10 +78,10 @@ is_table m digest t v long writable sound =
           ∙ advice_good m t (i / states g) (i % states g) v writable sound at.seconds at.state;
     }
 
-text-flat : (m : ModelData) (digest : List ℕ) (t : Table) → text_of digest m.grid t ≡ flat_text digest (shape_of m.grid) (all_entries (layers_of m.grid t))
+text-flat : (m : ModelData) (digest : List ℕ) (t : Table) → table_text digest m.grid t ≡ flat_text digest (shape_of m.grid) (all_entries (layers_of m.grid t))
 text-flat m digest t = flat digest (shape_of m.grid) (layers_of m.grid t)
 
-pub text_without_fault : (m : ModelData) (digest : List ℕ) (t : Table) → IsTable digest (shape_of m.grid) (all_entries (layers_of m.grid t)) → first_fault digest (shape_of m.grid) (text_of digest m.grid t) ≡ None
+pub text_without_fault : (m : ModelData) (digest : List ℕ) (t : Table) → IsTable digest (shape_of m.grid) (all_entries (layers_of m.grid t)) → first_fault digest (shape_of m.grid) (table_text digest m.grid t) ≡ None
 text_without_fault m digest t is = ap (λ (bytes : List ℕ). first_fault digest (shape_of m.grid) bytes) (text-flat m digest t) ∙ text_is_good digest (shape_of m.grid) (all_entries (layers_of m.grid t)) is
 
 -- the entry of a state, at the vertex of its number
@@ -85,15 +89,15 @@ state_entry-at : (m : ModelData) (t : Table) (n p : ℕ) (x : Vertex) → IsEntr
     → state_entry m.grid t n (state_number m.grid p (vertex_number m.grid x)) ≡ record { pair = record { upper = t.upper n p x; lower = t.lower n p x }; advice = t.advice n p x }
 state_entry-at m t n p x at =
     let made : ℕ → Vertex → Entry = λ q y. record { pair = record { upper = t.upper n q y; lower = t.lower n q y }; advice = t.advice n q y } in
-    ap (λ (q : ℕ). made q (state_vertex m.grid (state_number m.grid p (vertex_number m.grid x)))) (state_present-state_number m.grid p x at.vertex)
+    ap (λ (q : ℕ). made q (state_vertex m.grid (state_number m.grid p (vertex_number m.grid x)))) (state_present-state_number m.grid p (vertex_number m.grid x) ((vertices-one_to_one m.grid).below x at.vertex))
     ∙ ap (λ (y : Vertex). made p y) (state_vertex-state_number m.grid p x at.vertex)
 
 entry_again : (m : ModelData) (digest : List ℕ) (t : Table) (n p : ℕ) (x : Vertex) → IsTable digest (shape_of m.grid) (all_entries (layers_of m.grid t)) → IsEntry m n p x
-    → given_entry m.grid (text_of digest m.grid t) n p x ≡ record { pair = record { upper = t.upper n p x; lower = t.lower n p x }; advice = t.advice n p x }
+    → given_entry m.grid (table_text digest m.grid t) n p x ≡ record { pair = record { upper = t.upper n p x; lower = t.lower n p x }; advice = t.advice n p x }
 entry_again m digest t n p x is at =
     let g = m.grid in
     let state : ℕ = state_number m.grid p (vertex_number m.grid x) in
-    let inside = state-below g p x at.present at.vertex in
+    let inside = state_number-below g p x at.present at.vertex in
     let within = entry_place-below g n state at.seconds inside in
     ap (λ (bytes : List ℕ). entry_at bytes (entry_place g n state)) (text-flat m digest t)
     ∙ entry_read digest (shape_of g) (all_entries (layers_of g t)) (entry_place g n state) is (omega (arith, length-all_entries g t))
@@ -101,7 +105,7 @@ entry_again m digest t n p x is at =
     ∙ state_entry-at m t n p x at
 
 -- the text is read as the table
-pub read_again : (m : ModelData) (digest : List ℕ) (t : Table) → IsTable digest (shape_of m.grid) (all_entries (layers_of m.grid t)) → AreSame m t (given_table m.grid (text_of digest m.grid t))
+pub read_again : (m : ModelData) (digest : List ℕ) (t : Table) → IsTable digest (shape_of m.grid) (all_entries (layers_of m.grid t)) → AreSame m t (given_table m.grid (table_text digest m.grid t))
 read_again m digest t is = record {
   upper = λ n p x at. ap (λ (e : Entry). e.pair.upper) (entry_again m digest t n p x is at);
   lower = λ n p x at. ap (λ (e : Entry). e.pair.lower) (entry_again m digest t n p x is at);

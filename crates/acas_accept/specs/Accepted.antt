@@ -2,10 +2,11 @@
 use Rattle.std.specs.Prelude.{◌≡◌, ℕ, List, FitsSigned}
 use Rattle.std.specs.Int.{w64}
 use Rattle.acas_spec.specs.Model.{ModelData}
-use Rattle.acas_grid.specs.declared.place.Vertex.{Vertex}
-use Rattle.acas_process.specs.Bounds.{IsSound, Table}
+use Rattle.acas_spec.specs.declared.place.Vertex.{Vertex}
+use Rattle.acas_spec.specs.Table.{Table}
+use Rattle.acas_process.specs.Bounds.{IsSound}
 use Rattle.acas_process.specs.Cost.{IsEntry}
-use Rattle.acas_table.specs.Layers.{text_of}
+use Rattle.acas_table.specs.Layers.{table_text}
 
 -- the values of a table fit 64 bits, and with no second to go its advice is 255
 pub record IsWritable (m : ModelData) (t : Table) : Type 0 where
@@ -17,4 +18,4 @@ pub record IsWritable (m : ModelData) (t : Table) : Type 0 where
 pub record IsAcceptedTable (m : ModelData) (digest bytes : List ℕ) (t : Table) : Type 0 where
   pub writable : IsWritable m t
   pub sound : IsSound m t
-  pub text : bytes ≡ text_of digest m.grid t
+  pub text : bytes ≡ table_text digest m.grid t

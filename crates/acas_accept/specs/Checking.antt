@@ -1,12 +1,13 @@
 -- A table in check, of which some entries were read and accepted.
-use Rattle.std.specs.Prelude.{◌≡◌, ℕ, ◌*◌, ◌<◌, ◌≤◌, pos, List, length, get_or, set, nat_lt, if◌then◌else◌, false, Option, Some, None, Result, Ok, Err, IfSome, ⊤}
-use Rattle.acas_spec.specs.Accepted.{IsAccepted}
+use Rattle.std.specs.Prelude.{◌≡◌, ℕ, ◌*◌, ◌<◌, ◌≤◌, List, length, set, nat_lt, if◌then◌else◌, false, Option, Some, None, Result, Ok, Err, ⊤}
+use Rattle.acas_spec.specs.Limits.{IsModel}
 use Rattle.acas_spec.specs.Model.{ModelData, entries, states}
-use Rattle.acas_model.specs.Advices.{AdvicesData, AreAdvicesOf, advice_at, advice_place}
-use Rattle.acas_outside.specs.Files.{Files, Given}
+use Rattle.acas_base.specs.Advices.{AdvicesData, AreAdvicesOf, advice_at, advice_place}
 use Rattle.acas_process.specs.Cost.{MayChoose}
-use Rattle.acas_step.specs.States.{state_present}
-use Rattle.acas_bounds.specs.Layers.{AreMeansOf, AreValuesOf, OfBelow}
+use Rattle.acas_grid.specs.States.{state_present}
+use Rattle.acas_step.specs.Layer.{AreValuesOf, pair_at}
+use Rattle.acas_step.specs.Means.{AreMeansOf}
+use Rattle.acas_bounds.specs.Checks.{OfBelow}
 use Rattle.acas_table.specs.Faults.{first_below}
 use Rattle.acas_table.specs.Reader.{HasRead, reader_state}
 use Rattle.acas_table.specs.Shape.{shape_of}
@@ -20,11 +21,14 @@ use Rattle.acas_accept.specs.declared.refusal.AcceptFault.TheVariants.{Refused, 
 
 -- with at least one second to go, the advice of a state is kept
 abbrev pub with_advice : AdvicesData → ℕ → ℕ → ℕ → AdvicesData
-with_advice advices n state advice = if nat_lt 0 n then record advices { advice = set advices.advice (advice_place advices n state) advice } else advices
+with_advice advices n state advice =
+    if nat_lt 0 n
+    then record advices { advice = set advices.advice (advice_place advices n state) advice }
+    else advices
 
 -- so many entries of a table of the model were read and accepted, whatever the bytes
 pub record IsCheckOf (m : ModelData) (t : TableCheck) (count : ℕ) : Type 0 where
-  pub valid : IsAccepted m
+  pub valid : IsModel m
   pub shape : (reader_state t.reader).shape ≡ shape_of m.grid
   pub given : (reader_state t.reader).given ≡ count
   pub no_fault : (reader_state t.reader).fault ≡ None
@@ -32,13 +36,15 @@ pub record IsCheckOf (m : ModelData) (t : TableCheck) (count : ℕ) : Type 0 whe
   pub pairs : length t.pairs.items ≡ states m.grid
   pub means : length t.means.items ≡ states m.grid
   pub advices : AreAdvicesOf m t.advices
-  pub allowed : (n state : ℕ) → 1 ≤ n → state < states m.grid → entry_place m.grid n state < count → MayChoose m (state_present m.grid state) (advice_at t.advices n state)
+  pub allowed : (n state : ℕ) → 1 ≤ n → state < states m.grid → entry_place m.grid n state < count
+      → MayChoose m (state_present m.grid state) (advice_at t.advices n state)
 
 -- the reader has read so many entries of these bytes, none has a refusal, and their advices are kept
 pub record HasAccepted (m : ModelData) (digest : List ℕ) (t : TableCheck) (count : ℕ) (bytes : List ℕ) : Type 0 where
   pub stands : HasRead digest t.reader bytes
   pub none : first_below (entry_refusal m bytes) count ≡ None
-  pub advices : (n state : ℕ) → 1 ≤ n → state < states m.grid → entry_place m.grid n state < count → advice_at t.advices n state ≡ (entry_at bytes (entry_place m.grid n state)).advice
+  pub advices : (n state : ℕ) → 1 ≤ n → state < states m.grid → entry_place m.grid n state < count
+      → advice_at t.advices n state ≡ (entry_at bytes (entry_place m.grid n state)).advice
 
 -- before a layer, the pairs are those of the layer below it
 pub record IsBeforeLayer (m : ModelData) (digest : List ℕ) (t : TableCheck) (n : ℕ) (bytes : List ℕ) : Type 0 where
@@ -48,17 +54,13 @@ pub record IsBeforeLayer (m : ModelData) (digest : List ℕ) (t : TableCheck) (n
 -- in a layer, the pairs of its first states are kept, and the means are those of the layer below it
 pub record IsInLayer (m : ModelData) (digest : List ℕ) (t : TableCheck) (n state : ℕ) (bytes : List ℕ) : Type 0 where
   pub accepted : HasAccepted m digest t (entry_place m.grid n state) bytes
-  pub pairs : (s : ℕ) → s < state → get_or t.pairs.items s (record { upper = pos 0; lower = pos 0 }) ≡ (entry_at bytes (entry_place m.grid n s)).pair
+  pub pairs : (s : ℕ) → s < state → pair_at t.pairs.items s ≡ (entry_at bytes (entry_place m.grid n s)).pair
   pub means : OfBelow (λ k. AreMeansOf m (given_table m.grid bytes) k t.means.items) n
 
 -- the bytes have no refusal, and are the text of their entries
 pub record HasNoRefusal (m : ModelData) (digest bytes : List ℕ) : Type 0 where
   pub none : first_refusal m digest bytes ≡ None
   pub text : bytes ≡ flat_text digest (shape_of m.grid) (entries_below bytes (entries m.grid))
-
--- of the bytes under a name, where they are told and there are some
-abbrev pub Told : Option Files → List ℕ → (List ℕ → Type 0) → Type 0
-Told holds name P = Given holds name (λ file. IfSome file P)
 
 -- what is answered at bytes: their first refusal, or that a read failed or that memory was refused
 abbrev pub IsAnswer : ModelData → List ℕ → List ℕ → AcceptFault → Type 0

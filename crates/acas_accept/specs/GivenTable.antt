@@ -2,9 +2,9 @@
 use Rattle.std.specs.Prelude.{ℕ, ◌+◌, ◌*◌, List}
 use Rattle.acas_spec.specs.Model.{GridData, states}
 use Rattle.acas_grid.specs.Grid.{state_number, vertex_number}
-use Rattle.acas_grid.specs.declared.place.Vertex.{Vertex}
+use Rattle.acas_spec.specs.declared.place.Vertex.{Vertex}
 use Rattle.acas_units.specs.declared.pair.Entry.{Entry}
-use Rattle.acas_process.specs.Bounds.{Table}
+use Rattle.acas_spec.specs.Table.{Table}
 use Rattle.acas_table.specs.Text.{entry_at}
 
 -- the number of the entry of a state with n seconds to go

@@ -1,23 +1,28 @@
 //! A table in check: it is read entry by entry, and each entry is looked at before the next is read.
-ghost use Rattle.std.specs.Prelude.{◌≡◌, ◌≤◌, ◌<◌, ◌+◌, ◌*◌, List, ℕ, None, false, length, set, IsTrue, IsErrOf, IfOk, MatchResult};
+ghost use Rattle.std.specs.Prelude.{◌≡◌, ◌≤◌, ◌<◌, ◌+◌, ◌-◌, ◌*◌, List, ℕ, None, false, length, set, IsTrue, IsErrOf, IfErr, IfOk, MatchResult};
 ghost use Rattle.acas_spec.specs.Model.{ModelData, entries, states};
-ghost use Rattle.acas_outside.specs.Counts.{Rose};
+ghost use Rattle.acas_outside.specs.Counts.{raised};
 ghost use Rattle.acas_outside.specs.Files.{Given};
-ghost use Rattle.acas_table.specs.Reader.{reader_state};
+ghost use Rattle.acas_outside.specs.Frame.{OnlyReads};
+ghost use Rattle.acas_table.specs.Reader.{Told, reader_state};
 ghost use Rattle.acas_table.specs.Shape.{entry_count, shape_of};
+ghost use Rattle.acas_table.specs.Source.{Takes};
+ghost use Rattle.acas_table.specs.Text.{length_1};
 ghost use Rattle.acas_accept.specs.GivenTable.{entry_place};
-ghost use Rattle.acas_accept.specs.Checking.{Begins, HasAccepted, HasNoRefusal, IsAnswer, IsBeforeLayer, IsCheckOf, IsInLayer, Told, with_advice};
-ghost use Rattle.acas_accept.specs.Faults.{answered};
+ghost use Rattle.acas_accept.specs.Checking.{Begins, HasAccepted, HasNoRefusal, IsAnswer, IsBeforeLayer, IsCheckOf, IsInLayer, with_advice};
+ghost use Rattle.acas_accept.specs.Faults.{IsAnswerable, answered};
 
 use crate::refusal::{AcceptFault, TableRefusal};
-use acas_bounds::{check_by_means, fill_means};
-use acas_model::{Advices, Model};
+use acas_base::{Advices, Model};
+use acas_bounds::check_by_means;
 use acas_outside::Folder;
+use acas_step::fill_means;
 use acas_table::{TableFault, TableReader};
 use acas_units::{Entry, Pair};
 use std::alloc::{AllocError, Global};
 
-/// A table in check: its reader, the values of the layer in work, the means of the layer below it, and the advices that were read.
+/// A table in check: its reader, the values of the layer in work, the means of the layer below it, and the advices that
+/// were read.
 #[derive(Drop)]
 pub struct TableCheck {
     reader: TableReader,
@@ -27,7 +32,8 @@ pub struct TableCheck {
 }
 
 fn refused(fault: TableFault) -> AcceptFault
-    ensures { result ≡ answered fault }
+    ensures answered { result ≡ answered fault }
+    ensures kind { IsAnswerable result }
 {
     match fault {
         TableFault::Failed => AcceptFault::Failed,
@@ -47,14 +53,16 @@ impl TableCheck {
         name: &str,
     ) -> Result<TableCheck, AcceptFault>
         requires served { IsTrue (F.serves folder.old name.now) }
-        ensures given { Given (F.holds folder.old) name.now (λ file. Begins model.now digest.now file result) }
+        ensures given { Given (F.holds folder.old) name.now (λ file.
+            Begins model.now digest.now file result) }
         ensures check { IfOk result (λ t. IsCheckOf model.now t 0) }
-        ensures holds { F.holds folder.new ≡ F.holds folder.old }
-        ensures serves { F.serves folder.new ≡ F.serves folder.old }
-        ensures failed { IsErrOf result AcceptFault.Failed → Rose (F.faults folder.old) (F.faults folder.new) }
-        ensures absent { IsErrOf result AcceptFault.Absent → Rose (F.misses folder.old) (F.misses folder.new) }
-        ensures faults { F.faults folder.old ≤ F.faults folder.new }
-        ensures misses { F.misses folder.old ≤ F.misses folder.new }
+        ensures taken { IfOk result (λ t.
+            Takes F.Folder folder.old folder.new 0 (reader_state t.reader).taken) }
+        ensures most_taken { let most = length_1 (shape_of model.now.grid) + 1 in
+            F.taken folder.new ≤ raised (F.taken folder.old) most }
+        ensures kind { IfErr result IsAnswerable }
+        ensures frame { OnlyReads F.Folder folder.old folder.new
+            (IsErrOf result AcceptFault.Failed) (IsErrOf result AcceptFault.Absent) }
     {
         match TableReader::start(alloc, model, digest, folder, name) {
             Ok(reader) => match TableCheck::new(alloc, model, reader) {
@@ -87,7 +95,9 @@ impl TableCheck {
     fn begin_layer(&mut self, model: &Model, n: u32)
         requires check { IsCheckOf model.now self.old (n * states model.now.grid) }
         ensures check { IsCheckOf model.now self.new (n * states model.now.grid) }
-        ensures given { (digest bytes : List ℕ) → IsBeforeLayer model.now digest self.old n bytes → IsInLayer model.now digest self.new n 0 bytes }
+        ensures given { (digest bytes : List ℕ) →
+            IsBeforeLayer model.now digest self.old n bytes → IsInLayer model.now digest self.new n 0 bytes }
+        ensures reader { self.new.reader ≡ self.old.reader }
     {
         if n > 0 {
             fill_means(model, &self.pairs, &mut self.means);
@@ -124,14 +134,18 @@ impl TableCheck {
         requires n { n ≤ model.now.grid.horizon }
         requires state { state < states model.now.grid }
         requires check { IsCheckOf model.now self.old (entry_place model.now.grid n state) }
-        ensures given { (digest : List ℕ) → Told (F.holds folder.old) name.now (λ bytes. IsInLayer model.now digest self.old n state bytes → MatchResult result (λ _. IsInLayer model.now digest self.new n (state + 1) bytes) (IsAnswer model.now digest bytes)) }
-        ensures check { IfOk result (λ _. IsCheckOf model.now self.new (entry_place model.now.grid n (state + 1))) }
-        ensures holds { F.holds folder.new ≡ F.holds folder.old }
-        ensures serves { F.serves folder.new ≡ F.serves folder.old }
-        ensures failed { IsErrOf result AcceptFault.Failed → Rose (F.faults folder.old) (F.faults folder.new) }
-        ensures absent { IsErrOf result AcceptFault.Absent → Rose (F.misses folder.old) (F.misses folder.new) }
-        ensures faults { F.faults folder.old ≤ F.faults folder.new }
-        ensures misses { F.misses folder.old ≤ F.misses folder.new }
+        ensures given { (digest : List ℕ) → Told (F.holds folder.old) name.now (λ bytes.
+            IsInLayer model.now digest self.old n state bytes → MatchResult result
+            (λ _. IsInLayer model.now digest self.new n (state + 1) bytes)
+            (IsAnswer model.now digest bytes)) }
+        ensures check { IfOk result (λ _.
+            IsCheckOf model.now self.new (entry_place model.now.grid n (state + 1))) }
+        ensures shape { (reader_state self.new.reader).shape ≡ (reader_state self.old.reader).shape }
+        ensures taken { Takes F.Folder folder.old folder.new
+            (reader_state self.old.reader).taken (reader_state self.new.reader).taken }
+        ensures kind { IfErr result IsAnswerable }
+        ensures frame { OnlyReads F.Folder folder.old folder.new
+            (IsErrOf result AcceptFault.Failed) (IsErrOf result AcceptFault.Absent) }
     {
         let entry = match self.reader.entry(folder, name) {
             Ok(entry) => entry,
@@ -161,14 +175,17 @@ impl TableCheck {
         requires served { IsTrue (F.serves folder.old name.now) }
         requires n { n ≤ model.now.grid.horizon }
         requires check { IsCheckOf model.now self.old (n * states model.now.grid) }
-        ensures given { (digest : List ℕ) → Told (F.holds folder.old) name.now (λ bytes. IsBeforeLayer model.now digest self.old n bytes → MatchResult result (λ _. IsBeforeLayer model.now digest self.new (n + 1) bytes) (IsAnswer model.now digest bytes)) }
+        ensures given { (digest : List ℕ) → Told (F.holds folder.old) name.now (λ bytes.
+            IsBeforeLayer model.now digest self.old n bytes → MatchResult result
+            (λ _. IsBeforeLayer model.now digest self.new (n + 1) bytes)
+            (IsAnswer model.now digest bytes)) }
         ensures check { IfOk result (λ _. IsCheckOf model.now self.new ((n + 1) * states model.now.grid)) }
-        ensures holds { F.holds folder.new ≡ F.holds folder.old }
-        ensures serves { F.serves folder.new ≡ F.serves folder.old }
-        ensures failed { IsErrOf result AcceptFault.Failed → Rose (F.faults folder.old) (F.faults folder.new) }
-        ensures absent { IsErrOf result AcceptFault.Absent → Rose (F.misses folder.old) (F.misses folder.new) }
-        ensures faults { F.faults folder.old ≤ F.faults folder.new }
-        ensures misses { F.misses folder.old ≤ F.misses folder.new }
+        ensures shape { (reader_state self.new.reader).shape ≡ (reader_state self.old.reader).shape }
+        ensures taken { Takes F.Folder folder.old folder.new
+            (reader_state self.old.reader).taken (reader_state self.new.reader).taken }
+        ensures kind { IfErr result IsAnswerable }
+        ensures frame { OnlyReads F.Folder folder.old folder.new
+            (IsErrOf result AcceptFault.Failed) (IsErrOf result AcceptFault.Absent) }
     {
         self.begin_layer(model, n);
         for state in 0..model.grid().states() {
@@ -186,14 +203,17 @@ impl TableCheck {
     ) -> Result<(), AcceptFault>
         requires served { IsTrue (F.serves folder.old name.now) }
         requires check { IsCheckOf model.now self.old 0 }
-        ensures given { (digest : List ℕ) → Told (F.holds folder.old) name.now (λ bytes. HasAccepted model.now digest self.old 0 bytes → MatchResult result (λ _. HasAccepted model.now digest self.new (entries model.now.grid) bytes) (IsAnswer model.now digest bytes)) }
+        ensures given { (digest : List ℕ) → Told (F.holds folder.old) name.now (λ bytes.
+            HasAccepted model.now digest self.old 0 bytes → MatchResult result
+            (λ _. HasAccepted model.now digest self.new (entries model.now.grid) bytes)
+            (IsAnswer model.now digest bytes)) }
         ensures check { IfOk result (λ _. IsCheckOf model.now self.new (entries model.now.grid)) }
-        ensures holds { F.holds folder.new ≡ F.holds folder.old }
-        ensures serves { F.serves folder.new ≡ F.serves folder.old }
-        ensures failed { IsErrOf result AcceptFault.Failed → Rose (F.faults folder.old) (F.faults folder.new) }
-        ensures absent { IsErrOf result AcceptFault.Absent → Rose (F.misses folder.old) (F.misses folder.new) }
-        ensures faults { F.faults folder.old ≤ F.faults folder.new }
-        ensures misses { F.misses folder.old ≤ F.misses folder.new }
+        ensures shape { (reader_state self.new.reader).shape ≡ (reader_state self.old.reader).shape }
+        ensures taken { Takes F.Folder folder.old folder.new
+            (reader_state self.old.reader).taken (reader_state self.new.reader).taken }
+        ensures kind { IfErr result IsAnswerable }
+        ensures frame { OnlyReads F.Folder folder.old folder.new
+            (IsErrOf result AcceptFault.Failed) (IsErrOf result AcceptFault.Absent) }
     {
         for n in 0..model.grid().horizon + 1 {
             self.layer(model, n, folder, name)?;
@@ -207,14 +227,17 @@ impl TableCheck {
         requires all { (reader_state self.reader).given ≡ entry_count (reader_state self.reader).shape }
         requires no_fault { (reader_state self.reader).fault ≡ None }
         requires not_done { (reader_state self.reader).done ≡ false }
-        ensures given { (m : ModelData) (digest : List ℕ) → IsCheckOf m self (entries m.grid) → Told (F.holds folder.old) name.now (λ bytes. HasAccepted m digest self (entries m.grid) bytes → MatchResult result (λ _. HasNoRefusal m digest bytes) (IsAnswer m digest bytes)) }
+        ensures given { (m : ModelData) (digest : List ℕ) → IsCheckOf m self (entries m.grid) →
+            Told (F.holds folder.old) name.now (λ bytes. HasAccepted m digest self (entries m.grid) bytes →
+            MatchResult result (λ _. HasNoRefusal m digest bytes) (IsAnswer m digest bytes)) }
         ensures advices { IfOk result (λ advices. advices ≡ self.advices) }
-        ensures holds { F.holds folder.new ≡ F.holds folder.old }
-        ensures serves { F.serves folder.new ≡ F.serves folder.old }
-        ensures failed { IsErrOf result AcceptFault.Failed → Rose (F.faults folder.old) (F.faults folder.new) }
-        ensures absent { IsErrOf result AcceptFault.Absent → Rose (F.misses folder.old) (F.misses folder.new) }
-        ensures faults { F.faults folder.old ≤ F.faults folder.new }
-        ensures misses { F.misses folder.old ≤ F.misses folder.new }
+        ensures all_taken { let length = length_1 (reader_state self.reader).shape in
+            IfOk result (λ _. Takes F.Folder folder.old folder.new (reader_state self.reader).taken length) }
+        ensures most_taken { let most = length_1 (reader_state self.reader).shape + 1 in
+            F.taken folder.new ≤ raised (F.taken folder.old) (most - (reader_state self.reader).taken) }
+        ensures kind { IfErr result IsAnswerable }
+        ensures frame { OnlyReads F.Folder folder.old folder.new
+            (IsErrOf result AcceptFault.Failed) (IsErrOf result AcceptFault.Absent) }
     {
         match self.reader.finish(folder, name) {
             Ok(()) => Ok(self.advices),

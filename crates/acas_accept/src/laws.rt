@@ -1,30 +1,36 @@
 //! What is accepted, and what that is worth. The functions do nothing: each clause is a law.
-ghost use Rattle.std.specs.Prelude.{◌≡◌, List, ℕ, None};
-ghost use Rattle.acas_spec.specs.Accepted.{IsAccepted};
+ghost use Rattle.std.specs.Prelude.{◌≡◌, List, ℕ, None, length};
+ghost use Rattle.acas_spec.specs.Limits.{IsModel};
 ghost use Rattle.acas_spec.specs.Model.{ModelData};
 ghost use Rattle.acas_outside.specs.Bytes.{IsBytes};
-ghost use Rattle.acas_process.specs.Bounds.{HasTwoSidedBounds, Table};
+ghost use Rattle.acas_spec.specs.Table.{Table};
+ghost use Rattle.acas_process.specs.Bounds.{HasTwoSidedBounds};
 ghost use Rattle.acas_process.specs.Compiled.{compiled};
-ghost use Rattle.acas_table.specs.Layers.{text_of};
+ghost use Rattle.acas_table.specs.Layers.{table_text};
 ghost use Rattle.acas_accept.specs.Accepted.{IsAcceptedTable};
 ghost use Rattle.acas_accept.specs.GivenTable.{given_table};
 ghost use Rattle.acas_accept.specs.Refusals.{first_refusal};
-ghost use Rattle.std.specs.Prelude.{length};
 
-/// Bytes have no refusal exactly where they are the text of a table whose entries are all sound; then that is the table that they
-/// are read as.
+/// Bytes have no refusal exactly where they are the text of a table whose entries are all sound; then that is the table
+/// that they are read as.
 pub fn accepted_tables_have_no_refusal()
-    ensures accepted { (m : ModelData) (digest bytes : List ℕ) → IsAccepted m → IsBytes bytes → first_refusal m digest bytes ≡ None → IsAcceptedTable m digest bytes (given_table m.grid bytes) }
-    ensures no_refusal { (m : ModelData) (digest bytes : List ℕ) (t : Table) → IsAccepted m → length digest ≡ 32 → IsAcceptedTable m digest bytes t → first_refusal m digest bytes ≡ None }
+    ensures accepted { (m : ModelData) (digest bytes : List ℕ) → IsModel m → IsBytes bytes
+        → first_refusal m digest bytes ≡ None → IsAcceptedTable m digest bytes (given_table m.grid bytes) }
+    ensures no_refusal { (m : ModelData) (digest bytes : List ℕ) (t : Table) → IsModel m → length digest ≡ 32
+        → IsAcceptedTable m digest bytes t → first_refusal m digest bytes ≡ None }
 {}
 
-/// Every accepted table has two-sided bounds: its advices cost at most its upper values, and no policy costs less than its lower values.
+/// Every accepted table has two-sided bounds: its advices cost at most its upper values, and no policy costs less than
+/// its lower values.
 pub fn accepted_tables_have_two_sided_bounds()
-    ensures { (m : ModelData) (digest bytes : List ℕ) (t : Table) → IsAccepted m → IsAcceptedTable m digest bytes t → HasTwoSidedBounds m t }
+    ensures { (m : ModelData) (digest bytes : List ℕ) (t : Table) → IsModel m
+        → IsAcceptedTable m digest bytes t → HasTwoSidedBounds m t }
 {}
 
 /// The text of the compiled table of a model is accepted.
 pub fn compiled_tables_are_accepted()
-    ensures table { (m : ModelData) (digest : List ℕ) → IsAccepted m → IsAcceptedTable m digest (text_of digest m.grid (compiled m)) (compiled m) }
-    ensures no_refusal { (m : ModelData) (digest : List ℕ) → IsAccepted m → length digest ≡ 32 → first_refusal m digest (text_of digest m.grid (compiled m)) ≡ None }
+    ensures table { (m : ModelData) (digest : List ℕ) → IsModel m
+        → IsAcceptedTable m digest (table_text digest m.grid (compiled m)) (compiled m) }
+    ensures no_refusal { (m : ModelData) (digest : List ℕ) → IsModel m → length digest ≡ 32
+        → first_refusal m digest (table_text digest m.grid (compiled m)) ≡ None }
 {}

@@ -1,5 +1,5 @@
-//! The acceptance of a table: its bytes have the form of a table of a model, and each of its entries is sound. Whoever made the
-//! table, its values then bound the expected cost from both sides.
+//! The acceptance of a table: its bytes have the form of a table of a model, and each of its entries is sound. Whoever
+//! made the table, its values then bound the expected cost from both sides.
 #![tactic(auto)]
 
 mod check;
@@ -13,6 +13,3 @@ pub use laws::{
 };
 pub use refusal::{AcceptFault, TableRefusal};
 pub use whole::accept;
-
-#[cfg(test)]
-mod tests;

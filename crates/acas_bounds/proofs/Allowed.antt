@@ -1,18 +1,16 @@
 -- What is in a list of choices, and at what cost.
 use Rattle.std.specs.List.{list_any}
-use Rattle.std.proofs.Common.{◌≡◌, ℕ, ◌<◌, ℤ, pos, Bool, true, false, ◌||◌, cond, nat_eq, Option, Some, None, ◌↔◌, List, [], ◌∷◌, length, get_or, Contains, ⊎_elim, refl, subst, arith}
+use Rattle.std.proofs.Common.{◌≡◌, ℕ, ◌<◌, ℤ, Bool, true, false, ◌||◌, cond, nat_eq, Option, Some, None, ◌↔◌, List, [], ◌∷◌, length, get_or, Contains, ⊎_elim, refl, subst, arith}
 use Rattle.std.proofs.lemmas.Bool.{cases_Bool, false≢true}
 use Rattle.std.proofs.lemmas.List.Recursion.{found_nowhere, or_at}
 use Rattle.acas_spec.specs.Model.{ModelData, choices_at}
 use Rattle.acas_spec.specs.declared.parts.Choice.{Choice}
 use Rattle.acas_process.specs.Cost.{MayChoose, advisories_of, cost_among}
 use Rattle.acas_process.proofs.AcceptedLaws.{place_of, test_same}
-use Rattle.acas_process.proofs.CompiledLaws.{Contains-cons, Contains-first}
+use Rattle.acas_process.proofs.Least.{Contains-cons, Contains-first}
+use Rattle.acas_step.specs.Choices.{no_choice}
 use Rattle.acas_bounds.specs.Means.{allowed_cost}
 use Rattle.acas_bounds.specs.Sound.{is_allowed}
-
-abbrev pub no_choice : Choice
-no_choice = record { advisory = 0; cost = pos 0 }
 
 same_number : (a b : ℕ) → nat_eq a b ≡ true → a ≡ b
 same_number a b h = grind arith

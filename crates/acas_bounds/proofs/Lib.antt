@@ -1,7 +1,4 @@
 pub mod Allowed
-pub mod Least
 pub mod Sound
+pub mod First
 pub mod Faults
-pub mod States
-pub mod Range
-pub mod Written

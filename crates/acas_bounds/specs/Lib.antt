@@ -1,3 +1,4 @@
-pub mod Layers
-pub mod Means
 pub mod Sound
+pub mod First
+pub mod Checks
+pub mod Means

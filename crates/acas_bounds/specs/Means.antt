@@ -1,14 +1,16 @@
--- What the inner functions say: the means of the layer below, formed or read, and an entry's fault by them.
-use Rattle.std.specs.Prelude.{◌≡◌, ℕ, zero, suc, ◌-◌, ◌^◌, ◌<◌, ℤ, pos, ◌+ℤ◌, ◌≤ℤ◌, List, length, Option, Some, None, Result, Ok, Err, if◌then◌else◌}
+-- What the inner functions say: the means of the layer below, formed before or now, and an entry's fault by them.
+use Rattle.std.specs.Prelude.{ℕ, zero, suc, ℤ, List, Option, Some, None, Result, Ok, Err, if◌then◌else◌}
 use Rattle.acas_spec.specs.Model.{ModelData, choices_at}
-use Rattle.acas_grid.specs.declared.place.Vertex.{Vertex}
+use Rattle.acas_spec.specs.declared.place.Vertex.{Vertex}
 use Rattle.acas_frac.specs.Rounding.{down, up}
+use Rattle.acas_grid.specs.States.{state_present, state_vertex}
 use Rattle.acas_units.specs.declared.pair.Entry.{Entry}
 use Rattle.acas_units.specs.declared.pair.Pair.{Pair}
 use Rattle.acas_process.specs.Bounds.{mean_value, millionths}
 use Rattle.acas_process.specs.Compiled.{least}
 use Rattle.acas_process.specs.Cost.{cost_of, terminal_cost}
-use Rattle.acas_step.specs.Layer.{layer_values, value_at}
+use Rattle.acas_step.specs.Choices.{value_by_mean}
+use Rattle.acas_step.specs.Layer.{layer_values}
 use Rattle.acas_step.specs.declared.layer.Side.TheVariants.{Upper, Lower}
 use Rattle.acas_bounds.specs.Sound.{is_allowed, values_fault}
 use Rattle.acas_bounds.specs.declared.below.Below.{Below}
@@ -31,39 +33,35 @@ abbrev pub lower_below : ModelData → Below → Vertex → ℕ → ℤ
 lower_below m (Values values) x a = mean_value down m (layer_values Lower m.grid values.now) x a
 lower_below m (Means means) x a = layer_values Lower m.grid means.now a x
 
--- no value of a layer is above the greatest that 64 bits hold
-pub record IsInRange (layer : List Pair) : Type 0 where
-  pub upper : (state : ℕ) → state < length layer → value_at Upper layer state ≤ℤ pos (2 ^ 63 - 1)
-  pub lower : (state : ℕ) → state < length layer → value_at Lower layer state ≤ℤ pos (2 ^ 63 - 1)
-
--- a pair has the two means of the layer below at the vertex x under the advisory a
-pub record AreMeansAt (m : ModelData) (below : List Pair) (x : Vertex) (a : ℕ) (means : Pair) : Type 0 where
-  pub upper : means.upper ≡ mean_value up m (layer_values Upper m.grid below) x a
-  pub lower : means.lower ≡ mean_value down m (layer_values Lower m.grid below) x a
-
--- the value of choosing the advisory a where p is present, by its mean
-abbrev pub value_with : ModelData → ℕ → (ℕ → ℤ) → ℕ → ℤ
-value_with m p mean a = mean a +ℤ millionths (cost_of m p a)
-
 -- the cost of an advisory, where it is in the list of choices
 abbrev pub allowed_cost : ModelData → ℕ → ℕ → Option ℤ
 allowed_cost m p a = if is_allowed m p a then Some (cost_of m p a) else None
 
 -- what an entry of these two values fails with no second to go at the vertex x
 abbrev pub ending_fault : ModelData → Vertex → Pair → Option BoundFault
-ending_fault m x pair = values_fault pair.upper (millionths (terminal_cost m x)) pair.lower (millionths (terminal_cost m x))
+ending_fault m x pair =
+    let cost = millionths (terminal_cost m x) in
+    values_fault pair.upper cost pair.lower cost
 
 -- what an entry fails where p is present, by the upper and lower means of the layer below under each advisory
 abbrev pub choice_fault : ModelData → (ℕ → ℤ) → (ℕ → ℤ) → ℕ → Entry → Option BoundFault
 choice_fault m upper lower p e =
+    let needed = value_by_mean m p upper e.advice in
+    let allowed = least (value_by_mean m p lower) (choices_at m p) in
     if is_allowed m p e.advice
-    then values_fault e.pair.upper (value_with m p upper e.advice) e.pair.lower (least (value_with m p lower) (choices_at m p))
+    then values_fault e.pair.upper needed e.pair.lower allowed
     else Some AdviceNotAllowed
 
 -- what an entry fails with n seconds to go
-abbrev pub entry_fault : ModelData → (ℕ → ℤ) → (ℕ → ℤ) → ℕ → ℕ → Vertex → Entry → Option BoundFault
-entry_fault m upper lower zero p x e = ending_fault m x e.pair
-entry_fault m upper lower (suc n) p x e = choice_fault m upper lower p e
+abbrev pub fault_by_means : ModelData → (ℕ → ℤ) → (ℕ → ℤ) → ℕ → ℕ → Vertex → Entry → Option BoundFault
+fault_by_means m upper lower zero p x e = ending_fault m x e.pair
+fault_by_means m upper lower (suc n) p x e = choice_fault m upper lower p e
+
+-- the same at the state of a number, by the layer below
+abbrev pub fault_below : ModelData → Below → ℕ → ℕ → Entry → Option BoundFault
+fault_below m below n s e =
+    let x = state_vertex m.grid s in
+    fault_by_means m (upper_below m below x) (lower_below m below x) n (state_present m.grid s) x e
 
 -- Ok where there is no fault, and otherwise the fault
 abbrev pub answer_of : Option BoundFault → Result (Unit {0}) BoundFault

@@ -1,34 +1,47 @@
 //! The check of one entry.
-ghost use Rattle.std.specs.Prelude.{◌≡◌, ℕ, ◌%◌, ◌<◌, IsTrue, MatchResult, OnOk, None, Some, length};
-ghost use Rattle.acas_spec.specs.Accepted.{IsAccepted};
-ghost use Rattle.acas_spec.specs.Model.{states, vertices};
-ghost use Rattle.acas_process.specs.Bounds.{Table};
-ghost use Rattle.acas_step.specs.States as numbers;
-ghost use Rattle.acas_bounds.specs.Layers.{AreMeansOf, AreValuesOf, IsEntryOf, OfBelow};
-ghost use Rattle.acas_bounds.specs.Means.{answer_of, choice_fault, ending_fault, entry_fault, lower_below, pairs_below, upper_below};
-ghost use Rattle.acas_bounds.specs.Sound.{bound_fault, is_allowed, values_fault};
+ghost use Rattle.std.specs.Prelude.{◌≡◌, ℕ, ◌%◌, ◌<◌, ◌+ℤ◌, OnOk, length};
+ghost use Rattle.acas_spec.specs.Limits.{IsModel};
+ghost use Rattle.acas_spec.specs.Model.{choices_at, states, vertices};
+ghost use Rattle.acas_spec.specs.Table.{Table};
+ghost use Rattle.acas_grid.specs.States as numbers;
+ghost use Rattle.acas_process.specs.Bounds.{millionths};
+ghost use Rattle.acas_process.specs.Compiled.{least};
+ghost use Rattle.acas_step.specs.Choices.{value_by_mean};
+ghost use Rattle.acas_step.specs.Entries.{IsStateEntry};
+ghost use Rattle.acas_step.specs.Layer.{AreValuesOf};
+ghost use Rattle.acas_step.specs.Means.{AreMeansOf};
+ghost use Rattle.acas_bounds.specs.Checks.{MayAdvise, OfBelow, AnswersFault, state_fault};
+ghost use Rattle.acas_bounds.specs.Means.{answer_of, choice_fault, ending_fault, fault_below, lower_below, pairs_below, upper_below};
+ghost use Rattle.acas_bounds.specs.Sound.{values_fault};
 
 use crate::below::{Below, upper_mean};
-use crate::choices::{cost_if_allowed, least_lower, with_cost};
+use crate::choices::{cost_if_allowed, least_lower};
 use crate::fault::BoundFault;
-use acas_model::Model;
-use acas_step::terminal;
+use acas_base::Model;
+use acas_step::{terminal, with_cost};
 use acas_units::{Entry, Pair};
 
-// That the upper value is at least what is needed, and the lower value at most what is allowed.
-fn check_values(pair: Pair, needed: i128, allowed: i128) -> Result<(), BoundFault>
-    ensures { result ≡ answer_of (values_fault pair.upper needed pair.lower allowed) }
+// What the values of an entry are held against: what the upper is to be at least, and the lower at most.
+#[derive(Clone, Copy)]
+struct Limits {
+    needed: i128,
+    allowed: i128,
+}
+
+// That both values of an entry are within their limits. The upper value is looked at first.
+fn check_values(pair: Pair, limits: Limits) -> Result<(), BoundFault>
+    ensures { result ≡ answer_of (values_fault pair.upper limits.needed pair.lower limits.allowed) }
 {
-    if i128::from(pair.upper) < needed {
+    if i128::from(pair.upper) < limits.needed {
         return Err(BoundFault::UpperTooLow {
             stands: pair.upper,
-            needed,
+            needed: limits.needed,
         });
     }
-    if allowed < i128::from(pair.lower) {
+    if limits.allowed < i128::from(pair.lower) {
         return Err(BoundFault::LowerTooHigh {
             stands: pair.lower,
-            allowed,
+            allowed: limits.allowed,
         });
     }
     Ok(())
@@ -37,7 +50,7 @@ fn check_values(pair: Pair, needed: i128, allowed: i128) -> Result<(), BoundFaul
 // The present advisory of a state and the number of its vertex.
 fn parts(model: &Model, state: u32) -> (u8, u32)
     requires { state < states model.now.grid }
-    ensures valid { IsAccepted model.now }
+    ensures valid { IsModel model.now }
     ensures present { result.0 ≡ numbers.state_present model.now.grid state }
     ensures known { result.0 < model.now.grid.advisories }
     ensures vertex { result.1 ≡ state % vertices model.now.grid }
@@ -53,7 +66,36 @@ fn check_ending(model: &Model, vertex: u32, pair: Pair) -> Result<(), BoundFault
     ensures { result ≡ answer_of (ending_fault model.now (numbers.vertex_at model.now.grid vertex) pair) }
 {
     let cost = 1_000_000 * i128::from(terminal(model, vertex));
-    check_values(pair, cost, cost)
+    let limits = Limits {
+        needed: cost,
+        allowed: cost,
+    };
+    check_values(pair, limits)
+}
+
+// The limits of the values at a vertex by the layer below, where an advice is known at this cost: the upper value of the advice, and
+// the least lower value of the choices.
+fn limits_by_choice(
+    model: &Model,
+    present: u8,
+    vertex: u32,
+    advice: u8,
+    cost: i64,
+    below: Below<'_>,
+) -> Limits
+    requires present { present < model.now.grid.advisories }
+    requires vertex { vertex < vertices model.now.grid }
+    requires advice { advice < model.now.grid.advisories }
+    requires below { length (pairs_below below) ≡ states model.now.grid }
+    ensures needed { let x = numbers.vertex_at model.now.grid vertex in
+        result.needed ≡ upper_below model.now below.entry x advice +ℤ millionths cost }
+    ensures allowed { let lower = lower_below model.now below.entry (numbers.vertex_at model.now.grid vertex) in
+        result.allowed ≡ least (value_by_mean model.now present lower) (choices_at model.now present) }
+{
+    Limits {
+        needed: with_cost(upper_mean(model, vertex, advice, below), cost),
+        allowed: least_lower(model, present, vertex, below),
+    }
 }
 
 // The check of an entry with a second to go.
@@ -67,13 +109,15 @@ fn check_choice(
     requires present { present < model.now.grid.advisories }
     requires vertex { vertex < vertices model.now.grid }
     requires below { length (pairs_below below) ≡ states model.now.grid }
-    ensures { result ≡ answer_of (choice_fault model.now (upper_below model.now below.entry (numbers.vertex_at model.now.grid vertex)) (lower_below model.now below.entry (numbers.vertex_at model.now.grid vertex)) present entry.now) }
+    ensures { let x = numbers.vertex_at model.now.grid vertex in
+        let upper = upper_below model.now below.entry x in
+        let lower = lower_below model.now below.entry x in
+        result ≡ answer_of (choice_fault model.now upper lower present entry.now) }
 {
     match cost_if_allowed(model, present, entry.advice) {
         Some(cost) => {
-            let needed = with_cost(upper_mean(model, vertex, entry.advice, below), cost);
-            let allowed = least_lower(model, present, vertex, below);
-            check_values(entry.pair, needed, allowed)
+            let limits = limits_by_choice(model, present, vertex, entry.advice, cost, below);
+            check_values(entry.pair, limits)
         }
         None => Err(BoundFault::AdviceNotAllowed),
     }
@@ -89,8 +133,9 @@ fn check(
 ) -> Result<(), BoundFault>
     requires state { state < states model.now.grid }
     requires below { 0 < n → length (pairs_below below) ≡ states model.now.grid }
-    ensures valid { IsAccepted model.now }
-    ensures answer { result ≡ answer_of (entry_fault model.now (upper_below model.now below.entry (numbers.state_vertex model.now.grid state)) (lower_below model.now below.entry (numbers.state_vertex model.now.grid state)) n (numbers.state_present model.now.grid state) (numbers.state_vertex model.now.grid state) entry.now) }
+    ensures valid { IsModel model.now }
+    ensures answer { result ≡ answer_of (fault_below model.now below.entry n state entry.now) }
+    ensures allowed { OnOk result (MayAdvise model.now n state entry.now.advice) }
 {
     let (present, vertex) = parts(model, state);
     if n == 0 {
@@ -111,10 +156,12 @@ pub fn check_entry(
 ) -> Result<(), BoundFault>
     requires state { state < states model.now.grid }
     requires below { 0 < n → length below.now ≡ states model.now.grid }
-    ensures value { (t : Table) → IsEntryOf t n (numbers.state_present model.now.grid state) (numbers.state_vertex model.now.grid state) entry.now → OfBelow (λ k. AreValuesOf model.now t k below.now) n
-        → MatchResult result (λ _. bound_fault model.now t n (numbers.state_present model.now.grid state) (numbers.state_vertex model.now.grid state) ≡ None)
-        (λ fault. bound_fault model.now t n (numbers.state_present model.now.grid state) (numbers.state_vertex model.now.grid state) ≡ Some fault) }
-    ensures allowed { OnOk result (0 < n → IsTrue (is_allowed model.now (numbers.state_present model.now.grid state) entry.now.advice)) }
+
+    // Whatever table the entry and the values below it are of, its fault there is reported.
+    ensures value { (t : Table) → IsStateEntry model.now t n state entry.now
+        → OfBelow (λ k. AreValuesOf model.now t k below.now) n
+        → AnswersFault result (state_fault model.now t n state) }
+    ensures allowed { OnOk result (MayAdvise model.now n state entry.now.advice) }
 {
     check(model, n, state, entry, Below::Values(below))
 }
@@ -129,10 +176,12 @@ pub fn check_by_means(
 ) -> Result<(), BoundFault>
     requires state { state < states model.now.grid }
     requires means { 0 < n → length means.now ≡ states model.now.grid }
-    ensures value { (t : Table) → IsEntryOf t n (numbers.state_present model.now.grid state) (numbers.state_vertex model.now.grid state) entry.now → OfBelow (λ k. AreMeansOf model.now t k means.now) n
-        → MatchResult result (λ _. bound_fault model.now t n (numbers.state_present model.now.grid state) (numbers.state_vertex model.now.grid state) ≡ None)
-        (λ fault. bound_fault model.now t n (numbers.state_present model.now.grid state) (numbers.state_vertex model.now.grid state) ≡ Some fault) }
-    ensures allowed { OnOk result (0 < n → IsTrue (is_allowed model.now (numbers.state_present model.now.grid state) entry.now.advice)) }
+
+    // Whatever table the entry and the means below it are of, its fault there is reported.
+    ensures value { (t : Table) → IsStateEntry model.now t n state entry.now
+        → OfBelow (λ k. AreMeansOf model.now t k means.now) n
+        → AnswersFault result (state_fault model.now t n state) }
+    ensures allowed { OnOk result (MayAdvise model.now n state entry.now.advice) }
 {
     check(model, n, state, entry, Below::Means(means))
 }

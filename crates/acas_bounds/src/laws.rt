@@ -1,14 +1,22 @@
-//! A law of the definitions. The function does nothing: its clauses are the law.
-ghost use Rattle.std.specs.Prelude.{◌≡◌, ℕ, None};
-ghost use Rattle.acas_spec.specs.Accepted.{IsAccepted};
+//! Laws of the definitions. The functions do nothing: each clause is a law.
+ghost use Rattle.std.specs.Prelude.{◌≡◌, ◌<◌, ℕ, Some, None, ◌↔◌};
+ghost use Rattle.acas_spec.specs.Limits.{IsModel};
 ghost use Rattle.acas_spec.specs.Model.{ModelData};
-ghost use Rattle.acas_grid.specs.declared.place.Vertex.{Vertex};
-ghost use Rattle.acas_process.specs.Bounds.{IsSoundEntry, Table};
-ghost use Rattle.acas_process.specs.Cost.{IsEntry};
+ghost use Rattle.acas_spec.specs.Table.{Table};
+ghost use Rattle.acas_spec.specs.declared.place.Vertex.{Vertex};
+ghost use Rattle.acas_process.specs.Bounds.{IsSoundEntry};
+ghost use Rattle.acas_bounds.specs.First.{IsFirstFault};
 ghost use Rattle.acas_bounds.specs.Sound.{bound_fault};
+ghost use Rattle.acas_bounds.specs.declared.fault.BoundFault.{BoundFault};
 
-/// An entry of a table of an accepted model has no fault exactly where it is sound.
+/// An entry of a table, in whatever layer, has no fault exactly where it is sound.
 pub fn sound_entries_have_no_fault()
-    ensures sound { (m : ModelData) (t : Table) (n p : ℕ) (x : Vertex) → IsAccepted m → IsEntry m n p x → bound_fault m t n p x ≡ None → IsSoundEntry m t n p x }
-    ensures no_fault { (m : ModelData) (t : Table) (n p : ℕ) (x : Vertex) → IsAccepted m → IsEntry m n p x → IsSoundEntry m t n p x → bound_fault m t n p x ≡ None }
+    ensures { (m : ModelData) (t : Table) (n p : ℕ) (x : Vertex) → IsModel m → p < m.grid.advisories
+        → (bound_fault m t n p x ≡ None) ↔ IsSoundEntry m t n p x }
+{}
+
+/// The fault of an entry is the first part of soundness that it fails: the advice, then the upper value, then the lower.
+pub fn faults_are_first()
+    ensures { (m : ModelData) (t : Table) (n p : ℕ) (x : Vertex) (fault : BoundFault)
+        → (bound_fault m t n p x ≡ Some fault) ↔ IsFirstFault m t n p x fault }
 {}

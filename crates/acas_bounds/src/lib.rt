@@ -7,12 +7,8 @@ mod check;
 mod choices;
 mod fault;
 mod laws;
-mod means;
 
+pub use acas_step::fill_means;
 pub use check::{check_by_means, check_entry};
 pub use fault::BoundFault;
-pub use laws::sound_entries_have_no_fault;
-pub use means::fill_means;
-
-#[cfg(test)]
-mod tests;
+pub use laws::{faults_are_first, sound_entries_have_no_fault};

@@ -1,11 +1,2 @@
-mod Digits
-mod Lines
-mod Names
-mod TableLines
-mod PrintedValues
-mod CompiledLayers
-mod StoredLayers
-mod StoredTables
-mod CheckedTables
-mod TableBounds
 mod NamedFiles
+mod TwoRuns

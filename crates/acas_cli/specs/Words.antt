@@ -1,6 +1,7 @@
 -- The forms of words.
 use Rattle.std.specs.Prelude.{ℕ, nat_le, not, ◌==◌, ◌&&◌, Bool, List, [], ◌∷◌, length, slice_index, Option, Some, None, if◌then◌else◌, codes}
 use Rattle.std.specs.Str.{bytes_eq}
+use Rattle.acas_units.specs.declared.limits.TheConstants.{FILE_NAME_BYTES}
 
 -- a command with the names of its files, each as the bytes of its word
 pub data Form : Type 0 where
@@ -8,9 +9,9 @@ pub data Form : Type 0 where
   Compile : (model table : List ℕ) → Form
   Check : (model table : List ℕ) → Form
 
--- a file is named by 1 to 255 bytes that do not begin with `-`
+-- a file is named by at least one byte and not too many, the first of which is no `-`
 abbrev pub is_file_name : List ℕ → Bool
-is_file_name word = nat_le 1 (length word) && nat_le (length word) 255 && not (slice_index word 0 == 45)
+is_file_name word = nat_le 1 (length word) && nat_le (length word) FILE_NAME_BYTES && not (slice_index word 0 == 45)
 
 -- two names of files, which may be the same
 abbrev pub are_file_names : List ℕ → List ℕ → Bool

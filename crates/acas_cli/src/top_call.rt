@@ -1,21 +1,19 @@
 //! The top call.
-ghost use Rattle.std.specs.Prelude.{◌≡◌, ◌↔◌, IsTrue, All, None, map, string_bytes};
+ghost use Rattle.std.specs.Prelude.{◌≡◌, ◌↔◌, ◌≤◌, IsTrue, IfSome, All, None, map, string_bytes};
+ghost use Rattle.acas_outside.specs.Frame.{ReadsAndWrites};
 ghost use Rattle.acas_outside.specs.Outside.{outside};
-ghost use Rattle.acas_cli.specs.declared.status.Cause.TheVariants.{Words};
-ghost use Rattle.acas_cli.specs.Answers.{Answers, AnswersForm};
-ghost use Rattle.acas_cli.specs.Calls.{CallsFor};
+ghost use Rattle.acas_command.specs.Answers.{Answers, ended};
+ghost use Rattle.acas_command.specs.Codes.{code_of};
+ghost use Rattle.acas_command.specs.ErrorLine.{Reports};
+ghost use Rattle.acas_cli.specs.Calls.{AnswersForm, CallsFor};
 ghost use Rattle.acas_cli.specs.Forms.{form_of_command};
-ghost use Rattle.acas_cli.specs.Codes.{code_of};
-ghost use Rattle.acas_cli.specs.ErrorLine.{Reports};
+ghost use Rattle.acas_cli.specs.Headline.{Headline, IsWorth};
 ghost use Rattle.acas_cli.specs.Words.{form_of, names_of};
 
-use crate::check::check;
-use crate::compile::compile;
-use crate::error_line::{report, report_memory, report_words};
-use crate::status::{Cause, Status, Work};
-use crate::values::values;
 use crate::words::{Command, command_of};
+use acas_command::{Cause, Status, Work, cause_of, report, report_memory, report_words};
 use acas_outside::{Folder, Sink};
+use acas_table_commands::{check, compile, values};
 use acas_units::Line;
 use std::alloc::Global;
 
@@ -32,14 +30,25 @@ pub fn run<F: Folder, O: Sink, E: Sink>(
     requires served { All (λ word. IsTrue (F.serves folder.old word)) (map string_bytes words.now) }
 
     // Words of no form are refused, and no others.
-    ensures words { (result.cause ≡ Words) ↔ (form_of (map string_bytes words.now) ≡ None) }
+    ensures words { (result.cause ≡ Cause.Words) ↔ (form_of (map string_bytes words.now) ≡ None) }
 
     // Each answer has its cause, and what is printed and stored is what the words call for.
     ensures answers { AnswersForm (form_of (map string_bytes words.now)) result.cause
-        (outside F.holds F.misses F.faults O.written O.faults folder.old out.old)
-        (outside F.holds F.misses F.faults O.written O.faults folder.new out.new) }
+        (outside F.Folder O.Sink folder.old out.old) (outside F.Folder O.Sink folder.new out.new) }
+
+    // What that is worth, in the words of the subject.
+    ensures headline { Headline (form_of (map string_bytes words.now)) result.cause
+        (outside F.Folder O.Sink folder.old out.old) (outside F.Folder O.Sink folder.new out.new) }
+
+    // The exit code, and the line on the error output.
     ensures code { result.code ≡ code_of result.cause }
-    ensures line { Reports result.cause (map string_bytes words.now) (E.written err.old) (E.written err.new) (E.faults err.old) (E.faults err.new) }
+    ensures line { Reports result.cause (map string_bytes words.now)
+        (E.written err.old) (E.written err.new) (E.faults err.old) (E.faults err.new) }
+
+    // The folder serves as before, and no count falls, so that the next run can begin.
+    ensures folder { ReadsAndWrites F.Folder folder.old folder.new (result.cause ≡ Cause.Folder) }
+    ensures output { O.faults out.old ≤ O.faults out.new }
+    ensures error_output { E.faults err.old ≤ E.faults err.new }
 {
     let cause = answer_and_report(alloc, words, folder, out, err);
     Status {
@@ -56,11 +65,16 @@ fn answer_and_report<F: Folder, O: Sink, E: Sink>(
     err: &mut E,
 ) -> Cause
     requires served { All (λ word. IsTrue (F.serves folder.old word)) (map string_bytes words.now) }
-    ensures words { (result ≡ Words) ↔ (form_of (map string_bytes words.now) ≡ None) }
+    ensures words { (result ≡ Cause.Words) ↔ (form_of (map string_bytes words.now) ≡ None) }
     ensures answers { AnswersForm (form_of (map string_bytes words.now)) result
-        (outside F.holds F.misses F.faults O.written O.faults folder.old out.old)
-        (outside F.holds F.misses F.faults O.written O.faults folder.new out.new) }
-    ensures line { Reports result (map string_bytes words.now) (E.written err.old) (E.written err.new) (E.faults err.old) (E.faults err.new) }
+        (outside F.Folder O.Sink folder.old out.old) (outside F.Folder O.Sink folder.new out.new) }
+    ensures headline { Headline (form_of (map string_bytes words.now)) result
+        (outside F.Folder O.Sink folder.old out.old) (outside F.Folder O.Sink folder.new out.new) }
+    ensures line { Reports result (map string_bytes words.now)
+        (E.written err.old) (E.written err.new) (E.faults err.old) (E.faults err.new) }
+    ensures folder { ReadsAndWrites F.Folder folder.old folder.new (result ≡ Cause.Folder) }
+    ensures output { O.faults out.old ≤ O.faults out.new }
+    ensures error_output { E.faults err.old ≤ E.faults err.new }
 {
     let Some(command) = command_of(words) else {
         report_words(words, err);
@@ -83,13 +97,16 @@ fn answer<F: Folder, O: Sink>(
     out: &mut O,
 ) -> Cause
     requires served { All (λ name. IsTrue (F.serves folder.old name)) (names_of (form_of_command command.now)) }
-    ensures { Answers (CallsFor (form_of_command command.now)) result
-        (outside F.holds F.misses F.faults O.written O.faults folder.old out.old)
-        (outside F.holds F.misses F.faults O.written O.faults folder.new out.new) }
+    ensures answers { Answers (CallsFor (form_of_command command.now)) result
+        (outside F.Folder O.Sink folder.old out.old) (outside F.Folder O.Sink folder.new out.new) }
+    ensures headline { IfSome (F.holds folder.old) (λ files. IsWorth (form_of_command command.now) files result
+        (outside F.Folder O.Sink folder.old out.old) (outside F.Folder O.Sink folder.new out.new)) }
+    ensures folder { ReadsAndWrites F.Folder folder.old folder.new (result ≡ Cause.Folder) }
+    ensures output { O.faults out.old ≤ O.faults out.new }
 {
     match command {
-        Command::Values { model } => values(alloc, model, folder, out),
-        Command::Compile { model, table } => compile(alloc, model, table, folder, out),
-        Command::Check { model, table } => check(alloc, model, table, folder, out),
+        Command::Values { model } => cause_of(values(alloc, model, folder, out)),
+        Command::Compile { model, table } => cause_of(compile(alloc, model, table, folder, out)),
+        Command::Check { model, table } => cause_of(check(alloc, model, table, folder, out)),
     }
 }

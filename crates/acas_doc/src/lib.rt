@@ -18,6 +18,3 @@ pub use items::{item, table_item, text_item};
 pub use key_text::KeyText;
 pub use known::{least_unknown_is_named, only_keys};
 pub use path::{fault_at, path_of_item, path_of_key};
-
-#[cfg(test)]
-mod tests;

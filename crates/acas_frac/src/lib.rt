@@ -11,6 +11,3 @@ pub use frac::Frac;
 pub use laws::{lowest_terms_are_one, quotients_are_rounded};
 pub use print::print_frac;
 pub use rounding::{Down, Rounding, Up};
-
-#[cfg(test)]
-mod tests;

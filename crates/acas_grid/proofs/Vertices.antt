@@ -3,7 +3,7 @@ use Rattle.std.proofs.Common.{◌≡◌, ℕ, ◌+◌, ◌*◌, ◌/◌, ◌%◌
 use Rattle.std.proofs.lemmas.Nat.{div_below, mod_below, same_from_place, mul-add-lt, div-add-mod'}
 use Rattle.acas_spec.specs.Model.{GridData, vertices}
 use Rattle.acas_grid.specs.Grid.{IsVertex, vertex_number, AreVerticesOneToOne, AreStatesOneToOne}
-use Rattle.acas_grid.specs.declared.place.Vertex.{Vertex}
+use Rattle.acas_spec.specs.declared.place.Vertex.{Vertex}
 
 -- a place of a row, of rows of one width
 pub row_below : (rows width row place : ℕ) → row < rows → place < width → row * width + place < rows * width

@@ -1,6 +1,7 @@
 -- Why a list of numbers is no axis, and where a number stands on one.
 use Rattle.std.specs.Prelude.{ℕ, ◌+◌, ◌-◌, ◌<◌, ◌≤◌, List, [], ◌∷◌, length, ℤ, int_lt, nat_lt, ◌≤ℤ◌, ◌<ℤ◌, Option, Some, None, Result, Ok, Err, if◌then◌else◌}
 use Rattle.std.specs.Int.{int_max, int_min}
+use Rattle.acas_units.specs.declared.limits.TheConstants.{LEAST_VERTICES, GREATEST_VERTICES}
 use Rattle.acas_spec.specs.Axis.{place_value}
 use Rattle.acas_grid.specs.declared.axis.AxisFault.{AxisFault}
 use Rattle.acas_grid.specs.declared.axis.AxisFault.TheVariants.{TooShort, TooLong, NotRising}
@@ -16,11 +17,11 @@ abbrev pub rising_or_fault : List ℤ → Option ℕ → Result (List ℤ) AxisF
 rising_or_fault values None = Ok values
 rising_or_fault values (Some place) = Err (NotRising place)
 
--- the axis of these numbers; it has from 2 to 129, and they rise
+-- the axis of these numbers, which are neither too few nor too many, and rise
 unfoldable pub axis_of : List ℤ → Result (List ℤ) AxisFault
 axis_of values =
-    if nat_lt (length values) 2 then Err TooShort
-    else if nat_lt 129 (length values) then Err TooLong
+    if nat_lt (length values) LEAST_VERTICES then Err TooShort
+    else if nat_lt GREATEST_VERTICES (length values) then Err TooLong
     else rising_or_fault values (first_fall 0 values)
 
 -- the number after a place is the first that is not above the one before it
@@ -45,8 +46,8 @@ pub record IsBetweenEnds (axis : List ℤ) (x : ℤ) : Type 0 where
 abbrev pub clamp_to : List ℤ → ℤ → ℤ
 clamp_to axis x = int_max (first_value axis) (int_min x (last_value axis))
 
--- The cell from a place to the next holds a number, and of the places at or below the number, the last left out, it begins at
--- the greatest.
+-- The cell from a place to the next holds a number, and of the places at or below the number, the last left out, it
+-- begins at the greatest.
 pub record IsCell (axis : List ℤ) (place : ℕ) (x : ℤ) : Type 0 where
   pub before_last : place + 1 < length axis
   pub lower : place_value axis place ≤ℤ x

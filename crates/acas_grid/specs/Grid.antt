@@ -1,14 +1,15 @@
 -- The numbers of vertices and states, and where a point stands on a grid.
 use Rattle.std.specs.Prelude.{◌≡◌, ℕ, ◌+◌, ◌*◌, ◌<◌, ◌≤◌, length}
+use Rattle.acas_units.specs.declared.limits.TheConstants.{GREATEST_ADVISORIES, GREATEST_HORIZON}
 use Rattle.acas_spec.specs.Model.{GridData, vertices, states}
 use Rattle.acas_grid.specs.Axis.{IsBetweenEnds, IsCell, clamp_to}
-use Rattle.acas_grid.specs.declared.place.Point.{Point}
-use Rattle.acas_grid.specs.declared.place.Vertex.{Vertex}
+use Rattle.acas_spec.specs.declared.place.Point.{Point}
+use Rattle.acas_spec.specs.declared.place.Vertex.{Vertex}
 
--- a grid has at most 16 advisories, and a table over it goes back at most 120 seconds
+-- a grid has no more advisories, and a table over it goes back no more seconds, than a model may
 pub record IsLimited (advisories horizon : ℕ) : Type 0 where
-  pub few_advisories : advisories ≤ 16
-  pub short_horizon : horizon ≤ 120
+  pub few_advisories : advisories ≤ GREATEST_ADVISORIES
+  pub short_horizon : horizon ≤ GREATEST_HORIZON
 
 -- a vertex has a place on each of the three axes
 pub record IsVertex (g : GridData) (y : Vertex) : Type 0 where
@@ -33,8 +34,10 @@ pub record AreVerticesOneToOne (g : GridData) : Type 0 where
 -- different states have different numbers, and these are the numbers below the count of states
 pub record AreStatesOneToOne (g : GridData) : Type 0 where
   pub below : (p x : ℕ) → p < g.advisories → x < vertices g → state_number g p x < states g
-  pub apart : (p q x y : ℕ) → x < vertices g → y < vertices g → state_number g p x ≡ state_number g q y → (p ≡ q) × (x ≡ y)
-  pub all : (number : ℕ) → number < states g → (p : ℕ) × (x : ℕ) × (p < g.advisories) × (x < vertices g) × (state_number g p x ≡ number)
+  pub apart : (p q x y : ℕ) → x < vertices g → y < vertices g → state_number g p x ≡ state_number g q y
+      → (p ≡ q) × (x ≡ y)
+  pub all : (number : ℕ) → number < states g
+      → (p : ℕ) × (x : ℕ) × (p < g.advisories) × (x < vertices g) × (state_number g p x ≡ number)
 
 -- a point is inside a grid
 pub record IsInside (g : GridData) (s : Point) : Type 0 where

@@ -1,2 +1,4 @@
 pub mod Axis
 pub mod Grid
+pub mod States
+pub mod Examples

@@ -1,23 +1,25 @@
-//! An axis: from 2 to 129 numbers that rise.
+//! An axis: numbers that rise, neither too few nor too many.
 ghost use Rattle.std.specs.Prelude.{◌≡◌, ◌+◌, ◌<◌, ◌≤◌, ◌≤ℤ◌, ◌<ℤ◌, length, IfNone, IfSome};
 ghost use Rattle.std.specs.Int.{int_max, int_min};
 ghost use Rattle.acas_spec.specs.Axis.{IsAxis, Rises, place_value};
 ghost use Rattle.acas_grid.specs.Axis.{IsBetweenEnds, IsCell, axis_of, clamp_to, first_fall};
 
+use acas_units::{GREATEST_VERTICES, LEAST_VERTICES};
 use std::marker::Model;
 
 /// Why a list of numbers is no axis. The causes are looked at in this order.
 #[derive(Clone, Copy, Debug, PartialEq, Eq)]
 pub enum AxisFault {
-    /// There are fewer than 2 numbers.
+    /// There are fewer than [`LEAST_VERTICES`] numbers.
     TooShort,
-    /// There are more than 129 numbers.
+    /// There are more than [`GREATEST_VERTICES`] numbers.
     TooLong,
     /// The number at `place` is the first that is not above the one before it.
     NotRising { place: u32 },
 }
 
-/// The numbers of an axis, from 2 to 129, each above the one before it. Contracts see it as their list.
+/// The numbers of an axis, from [`LEAST_VERTICES`] to [`GREATEST_VERTICES`] of them, each above the one before it.
+/// Contracts see it as their list.
 #[derive(Debug, Drop)]
 pub struct Axis {
     values: Vec<i64>,
@@ -83,10 +85,10 @@ impl Axis {
     pub fn new(values: Vec<i64>) -> Result<Axis, AxisFault>
         ensures { result ≡ axis_of values.items }
     {
-        if values.len() < 2 {
+        if values.len() < LEAST_VERTICES as usize {
             return Err(AxisFault::TooShort);
         }
-        if values.len() > 129 {
+        if values.len() > GREATEST_VERTICES as usize {
             return Err(AxisFault::TooLong);
         }
         match falls_at(values.as_slice()) {
@@ -97,7 +99,7 @@ impl Axis {
         }
     }
 
-    /// How many numbers the axis has, from 2 to 129.
+    /// How many numbers the axis has.
     pub fn len(&self) -> u32
         ensures value { result ≡ length self.now }
         ensures axis { IsAxis self.now }

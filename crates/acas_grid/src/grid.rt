@@ -4,11 +4,13 @@ ghost use Rattle.acas_spec.specs.Model.{entries, states, vertices};
 ghost use Rattle.acas_grid.specs.Grid.{IsInside, IsLimited, IsLowerCorner, IsVertex, clamp_point, state_number, vertex_number};
 
 use crate::axis::Axis;
-use crate::place::{Point, Vertex};
+use acas_spec::{Point, Vertex};
+use acas_units::GREATEST_VERTICES;
 use std::marker::Model;
 
-/// The axes of relative altitude, own rate and intruder rate, how many advisories there are, at most 16, and how many
-/// seconds a table goes back, at most 120. In a model's grid the altitudes are in ticks of 1/120 ft and the rates in ft/min.
+/// The axes of relative altitude, own rate and intruder rate, how many advisories there are, and how many seconds a
+/// table goes back, neither more than a model may have. In a model's grid the altitudes are in ticks and the rates
+/// in ft/min.
 #[derive(Debug, Drop)]
 pub struct Grid {
     pub h: Axis,
@@ -34,7 +36,7 @@ impl Grid {
     /// How many vertices the grid has.
     pub fn vertices(&self) -> u32
         ensures value { result ≡ vertices self.now }
-        ensures few { result ≤ 129 * 129 * 129 }
+        ensures few { result ≤ GREATEST_VERTICES * GREATEST_VERTICES * GREATEST_VERTICES }
     {
         self.h.len() * self.v0.len() * self.v1.len()
     }
@@ -60,7 +62,7 @@ impl Grid {
         ensures value { result ≡ vertex_number self.now vertex }
         ensures below { result < vertices self.now }
     {
-        // Opens the altitudes: they are at most 129, so that no product is too large.
+        // Opens the altitudes: they are so few that no product is too large.
         let _ = self.h.len();
         (vertex.i * self.v0.len() + vertex.j) * self.v1.len() + vertex.k
     }

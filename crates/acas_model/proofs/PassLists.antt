@@ -1,13 +1,15 @@
 -- A document that says a model within its limits passes the rules of its lists.
-use Rattle.std.proofs.Common.{◌≡◌, ◌≢◌, ℕ, zero, suc, ◌-◌, ◌^◌, ◌<◌, ◌≤◌, true, false, Bool, IsTrue, ◌==◌, eqb, List, [], ◌∷◌, length, map, take, get_or, position, codes, ℤ, pos, negsuc, unsigned_abs, bytes_eq, Some, Ok, refl, sym, subst, ◌∙◌, inl, inr, arith}
+use Rattle.std.proofs.Common.{◌≡◌, ◌≢◌, ℕ, zero, suc, ◌-◌, ◌^◌, ◌<◌, ◌≤◌, true, false, Bool, IsTrue, ◌==◌, eqb, List, [], ◌∷◌, length, map, take, get_or, position, codes, ℤ, pos, bytes_eq, Some, Ok, refl, sym, subst, ◌∙◌, inl, inr, arith}
 use Rattle.std.specs.List.{IsDistinct, list_any, position_or_len}
 use Rattle.std.proofs.lemmas.Bool.{cases_Bool, false≢true, eqb-true, le-leb}
 use Rattle.std.proofs.lemmas.List.{get_or-map, get_or-take, length-map, length-take}
 use Rattle.std.proofs.lemmas.Map.Steps.{length-le_from_distinct_below}
 use Rattle.std.proofs.lemmas.Slice.Eq.{bytes_eq-Decides}
 use Rattle.toml.specs.Data.{Members, no_members, integer, string, boolean, table}
+use Rattle.acas_units.specs.declared.limits.TheConstants.{LEAST_RATE, GREATEST_RATE, LEAST_COST, GREATEST_COST, LEAST_ADVISORIES, GREATEST_ADVISORIES, LEAST_WEIGHT, GREATEST_WEIGHT, LEAST_NOISE, GREATEST_NOISE, LEAST_SIGMAS, GREATEST_SIGMAS}
+use Rattle.acas_spec.specs.Axis.{IsBetween}
 use Rattle.acas_spec.specs.Model.{ModelData}
-use Rattle.acas_spec.specs.Accepted.{is_name, IsAccepted, IsAdvisory, IsChoiceList, IsPoint, AreDistinct}
+use Rattle.acas_spec.specs.Limits.{is_name, IsModel, IsAdvisory, IsChoiceList, IsSigma, AreDistinct}
 use Rattle.acas_spec.specs.declared.parts.Advisory.{Advisory}
 use Rattle.acas_spec.specs.declared.parts.Choice.{Choice}
 use Rattle.acas_spec.specs.declared.parts.SigmaPoint.{SigmaPoint}
@@ -15,13 +17,14 @@ use Rattle.acas_doc.specs.Paths.{key_path, item_path}
 use Rattle.acas_doc.proofs.Holds.{true-int_le, whole_at_passes, text_at_passes, list_at_passes, whole_item_passes, text_item_passes, table_item_passes}
 use Rattle.acas_model.specs.Advisories.{name_at, advisory_of, advisory_item, advisory_items, new_name, distinct}
 use Rattle.acas_model.specs.Choices.{named, choice_item, choice_items, cost_item, cost_items, choices_from, some_choice, choices_of, choices_item, choice_lists, Advised, advised_of}
-use Rattle.acas_model.specs.Noise.{point_of, point_item, point_items, points_of}
+use Rattle.acas_model.specs.Noise.{sigma_of, sigma_item, sigma_items, sigmas_of}
 use Rattle.acas_model.specs.Text.{HasOnly, HoldsText, HoldsWhole, HoldsList, IsDocumentText}
-use Rattle.acas_model.proofs.Places.{each_from, none_from, all_from}
-use Rattle.acas_model.proofs.PassNumbers.{only_passes, within_abs, ≤ℤ-trans}
+use Rattle.acas_spec.proofs.Places.{all_from}
+use Rattle.acas_model.proofs.Places.{each_from, none_from}
+use Rattle.acas_model.proofs.PassNumbers.{only_passes, ≤ℤ-trans}
 use Rattle.acas_model.proofs.ReadAdvisories.{no_advisory}
 use Rattle.acas_model.proofs.ReadChoices.{name_of, no_choice_there}
-use Rattle.acas_model.proofs.ReadNoise.{no_point}
+use Rattle.acas_base.specs.View.{no_sigma}
 
 -- the first place that passes a test is found
 pub position_found : {A : Type 0} (p : A → Bool) (xs : List A) (i : ℕ) (d : A) → i < length xs → p (get_or xs i d) ≡ true → ((k : ℕ) → k < i → p (get_or xs k d) ≡ false) → position_or_len p xs ≡ i
@@ -47,13 +50,13 @@ other_numbers : (a b : ℕ) → a ≢ b → (a == b) ≡ false
 other_numbers a b n = elim (cases_Bool (a == b)) [ inl same ↦ absurd (n (eqb-true a b same)) | inr differ ↦ differ ]
 
 -- two advisories of different places have different names
-names_apart : (m : ModelData) → IsAccepted m → (i j : ℕ) → i < j → j < length m.advisories → (get_or m.advisories i no_advisory).name ≢ (get_or m.advisories j no_advisory).name
+names_apart : (m : ModelData) → IsModel m → (i j : ℕ) → i < j → j < length m.advisories → (get_or m.advisories i no_advisory).name ≢ (get_or m.advisories j no_advisory).name
 names_apart m valid i j above within same =
     let at_i = get_or-map (λ a. a.name) m.advisories i no_advisory [] (omega (arith, above, within)) in
     let at_j = get_or-map (λ a. a.name) m.advisories j no_advisory [] within in
     valid.names.apart i j above (omega (arith, within, length-map m.advisories (λ a. a.name))) (at_i ∙ same ∙ sym at_j)
 
-new_name_passes : (m : ModelData) → IsAccepted m → (k : ℕ) → k < length m.advisories → new_name (take k m.advisories) (get_or m.advisories k no_advisory) ≡ Ok (get_or m.advisories k no_advisory)
+new_name_passes : (m : ModelData) → IsModel m → (k : ℕ) → k < length m.advisories → new_name (take k m.advisories) (get_or m.advisories k no_advisory) ≡ Ok (get_or m.advisories k no_advisory)
 unfolding new_name
 new_name_passes m valid k within =
     let none : list_any (λ b. bytes_eq b.name (get_or m.advisories k no_advisory).name) (take k m.advisories) ≡ false =
@@ -62,7 +65,7 @@ new_name_passes m valid k within =
     rw (get_or-take k m.advisories i no_advisory above) (other_bytes _ _ (names_apart m valid i k above within))) in
     rw none refl
 
-distinct_passes : (m : ModelData) → IsAccepted m → distinct m.advisories ≡ Ok m.advisories
+distinct_passes : (m : ModelData) → IsModel m → distinct m.advisories ≡ Ok m.advisories
 unfolding distinct
 distinct_passes m valid = each_from new_name [] m.advisories m.advisories no_advisory no_advisory (record { long = refl; at = λ k within. new_name_passes m valid k within })
 
@@ -79,8 +82,8 @@ advisory_passes t path place a keys name lo hi is =
     rw (
       only_passes path (codes "name lo hi choices costs") t keys,
       name_passes t path a.name name is.name,
-      whole_at_passes t path (codes "lo") (negsuc 9999) (pos 10000) a.lo lo is.low (≤ℤ-trans a.lo a.hi (pos 10000) is.rising is.high),
-      whole_at_passes t path (codes "hi") (negsuc 9999) (pos 10000) a.hi hi (≤ℤ-trans (negsuc 9999) a.lo a.hi is.low is.rising) is.high,
+      whole_at_passes t path (codes "lo") LEAST_RATE GREATEST_RATE a.lo lo is.low (≤ℤ-trans a.lo a.hi GREATEST_RATE is.rising is.high),
+      whole_at_passes t path (codes "hi") LEAST_RATE GREATEST_RATE a.hi hi (≤ℤ-trans LEAST_RATE a.lo a.hi is.low is.rising) is.high,
       true-int_le a.lo a.hi is.rising,
     ) refl
 
@@ -94,7 +97,7 @@ advisory_item_passes place t a keys name lo hi is =
 place_is : {A : Type 0} (k : ℕ) (xs : List A) → k < length xs → length (take k xs) ≡ k
 place_is k xs within = omega (arith, within, length-take k xs)
 
-advisories_pass : (doc : Members) (m : ModelData) (says : IsDocumentText m doc) → IsAccepted m → advisory_items (map table says.advisory.tables) ≡ Ok m.advisories
+advisories_pass : (doc : Members) (m : ModelData) (says : IsDocumentText m doc) → IsModel m → advisory_items (map table says.advisory.tables) ≡ Ok m.advisories
 unfolding advisory_items
 advisories_pass doc m says valid =
     let ts = says.advisory.tables in
@@ -111,7 +114,7 @@ advisories_pass doc m says valid =
 
 -- ---- choices
 
-named_is : (m : ModelData) → IsAccepted m → (a : ℕ) → a < length m.advisories → named m.advisories (name_of m.advisories a) ≡ Some a
+named_is : (m : ModelData) → IsModel m → (a : ℕ) → a < length m.advisories → named m.advisories (name_of m.advisories a) ≡ Some a
 named_is m valid a within =
     position_is (λ b. bytes_eq b.name (name_of m.advisories a)) m.advisories a no_advisory within (equal_bytes (name_of m.advisories a) (name_of m.advisories a) refl)
     (λ k above. other_bytes _ _ (names_apart m valid k a above within))
@@ -128,12 +131,12 @@ unfolding numbers_in costs_in
 together [] = refl
 together (c ∷ choices) = λ i. c ∷ together choices i
 
-choice_passes : (m : ModelData) → IsAccepted m → (path : List ℕ) (advisory : ℕ) (before : List ℕ) (a : ℕ) → a < length m.advisories → list_any (λ b. b == a) before ≡ false
+choice_passes : (m : ModelData) → IsModel m → (path : List ℕ) (advisory : ℕ) (before : List ℕ) (a : ℕ) → a < length m.advisories → list_any (λ b. b == a) before ≡ false
     → choice_item m.advisories path advisory before (string (name_of m.advisories a)) ≡ Ok a
 unfolding choice_item
 choice_passes m valid path advisory before a within new = rw (text_item_passes path (length before) (name_of m.advisories a), named_is m valid a within, new) refl
 
-chosen_pass : (m : ModelData) → IsAccepted m → (path : List ℕ) (advisory : ℕ) (chosen : List ℕ) → ((k : ℕ) → k < length chosen → get_or chosen k 0 < length m.advisories) → AreDistinct 0 chosen
+chosen_pass : (m : ModelData) → IsModel m → (path : List ℕ) (advisory : ℕ) (chosen : List ℕ) → ((k : ℕ) → k < length chosen → get_or chosen k 0 < length m.advisories) → AreDistinct 0 chosen
     → choice_items m.advisories path advisory (map (λ a. string (name_of m.advisories a)) chosen) ≡ Ok chosen
 unfolding choice_items
 chosen_pass m valid path advisory chosen known distinct =
@@ -149,13 +152,12 @@ chosen_pass m valid path advisory chosen known distinct =
           rw item (choice_passes m valid path advisory (take k chosen) (get_or chosen k 0) (known k within) new);
     })
 
-cost_passes : (path : List ℕ) (place : ℕ) (z : ℤ) → unsigned_abs z ≤ 1000000000 → cost_item path place (integer z) ≡ Ok z
+cost_passes : (path : List ℕ) (place : ℕ) (z : ℤ) → IsBetween LEAST_COST GREATEST_COST z → cost_item path place (integer z) ≡ Ok z
 unfolding cost_item
 cost_passes path place z h =
-    let w = within_abs 999999999 z h in
-    rw (whole_item_passes path place (negsuc 999999999) (pos 1000000000) z w.0 w.1) refl
+    rw (whole_item_passes path place LEAST_COST GREATEST_COST z h.low h.high) refl
 
-costs_pass : (path : List ℕ) (costs : List ℤ) → ((k : ℕ) → k < length costs → unsigned_abs (get_or costs k (pos 0)) ≤ 1000000000) → cost_items path (map integer costs) ≡ Ok costs
+costs_pass : (path : List ℕ) (costs : List ℤ) → ((k : ℕ) → k < length costs → IsBetween LEAST_COST GREATEST_COST (get_or costs k (pos 0))) → cost_items path (map integer costs) ≡ Ok costs
 unfolding cost_items
 costs_pass path costs within =
     each_from (λ before d. cost_item path (length before) d) [] costs (map integer costs) (boolean false) (pos 0) (record {
@@ -193,7 +195,7 @@ map_twice f g (x ∷ xs) = λ i. f (g x) ∷ map_twice f g xs i
 some_passes : (advisory count : ℕ) → 0 < count → some_choice advisory count ≡ Ok tt
 some_passes advisory count some = rw (other_numbers count 0 (λ e. absurd (omega (arith, some, e)))) refl
 
-choices_pass : (m : ModelData) → IsAccepted m → (t : Members) (path : List ℕ) (advisory : ℕ) (choices : List Choice) → IsChoiceList (length m.advisories) choices
+choices_pass : (m : ModelData) → IsModel m → (t : Members) (path : List ℕ) (advisory : ℕ) (choices : List Choice) → IsChoiceList (length m.advisories) choices
     → HoldsList t (codes "choices") (map (λ c. string (name_of m.advisories c.advisory)) choices) → HoldsList t (codes "costs") (map (λ c. integer c.cost) choices)
     → choices_of m.advisories t path advisory ≡ Ok choices
 unfolding choices_of numbers_in costs_in
@@ -208,9 +210,9 @@ choices_pass m valid t path advisory choices is named_list cost_list =
     let known : (k : ℕ) → k < length chosen → get_or chosen k 0 < length m.advisories = λ k h.
     let within : k < length choices = omega (arith, h, length-map choices (λ c. c.advisory)) in
     subst (λ a. a < length m.advisories) (sym (get_or-map (λ c. c.advisory) choices k no_choice_there 0 within)) (is.each k within).advisory in
-    let paid : (k : ℕ) → k < length costs → unsigned_abs (get_or costs k (pos 0)) ≤ 1000000000 = λ k h.
+    let paid : (k : ℕ) → k < length costs → IsBetween LEAST_COST GREATEST_COST (get_or costs k (pos 0)) = λ k h.
     let within : k < length choices = omega (arith, h, length-map choices (λ c. c.cost)) in
-    subst (λ z. unsigned_abs z ≤ 1000000000) (sym (get_or-map (λ c. c.cost) choices k no_choice_there (pos 0) within)) (is.each k within).cost in
+    subst (IsBetween LEAST_COST GREATEST_COST) (sym (get_or-map (λ c. c.cost) choices k no_choice_there (pos 0) within)) (is.each k within).cost in
     let few : length items ≤ 2 ^ 32 - 1 = omega (arith, long, length-map choices (λ c. c.advisory), few_distinct chosen (length m.advisories) is.distinct known, valid.advisory_count, valid.grid.few_advisories) in
     rw (
       list_at_passes t path (codes "choices") 0 (2 ^ 32 - 1) items named_items (omega arith) few,
@@ -221,14 +223,14 @@ choices_pass m valid t path advisory choices is named_list cost_list =
       together choices,
     ) refl
 
-choices_item_passes : (m : ModelData) → IsAccepted m → (place : ℕ) (t : Members) (choices : List Choice) → IsChoiceList (length m.advisories) choices
+choices_item_passes : (m : ModelData) → IsModel m → (place : ℕ) (t : Members) (choices : List Choice) → IsChoiceList (length m.advisories) choices
     → HoldsList t (codes "choices") (map (λ c. string (name_of m.advisories c.advisory)) choices) → HoldsList t (codes "costs") (map (λ c. integer c.cost) choices)
     → choices_item m.advisories place (table t) ≡ Ok choices
 unfolding choices_item
 choices_item_passes m valid place t choices is named_list cost_list =
     rw (table_item_passes (codes "advisory") place t) (choices_pass m valid t (item_path (codes "advisory") place) place choices is named_list cost_list)
 
-lists_pass : (doc : Members) (m : ModelData) (says : IsDocumentText m doc) → IsAccepted m → choice_lists m.advisories (map table says.advisory.tables) ≡ Ok m.choices
+lists_pass : (doc : Members) (m : ModelData) (says : IsDocumentText m doc) → IsModel m → choice_lists m.advisories (map table says.advisory.tables) ≡ Ok m.choices
 unfolding choice_lists
 lists_pass doc m says valid =
     let ts = says.advisory.tables in
@@ -248,13 +250,13 @@ lists_pass doc m says valid =
 abbrev pub advised_in : ModelData → Advised
 advised_in m = record { advisories = m.advisories; choices = m.choices }
 
-pub advised_passes : (doc : Members) (m : ModelData) → IsDocumentText m doc → IsAccepted m → advised_of doc ≡ Ok (advised_in m)
+pub advised_passes : (doc : Members) (m : ModelData) → IsDocumentText m doc → IsModel m → advised_of doc ≡ Ok (advised_in m)
 unfolding advised_of
 advised_passes doc m says valid =
     let ts = says.advisory.tables in
     let long : length (map table ts) ≡ m.grid.advisories = length-map ts table ∙ says.advisory.long ∙ valid.advisory_count in
     rw (
-      list_at_passes doc [] (codes "advisory") 2 16 (map table ts) says.advisory.there (omega (arith, long, valid.grid.some_advisories)) (omega (arith, long, valid.grid.few_advisories)),
+      list_at_passes doc [] (codes "advisory") LEAST_ADVISORIES GREATEST_ADVISORIES (map table ts) says.advisory.there (omega (arith, long, valid.grid.some_advisories)) (omega (arith, long, valid.grid.few_advisories)),
       advisories_pass doc m says valid,
       distinct_passes m valid,
       lists_pass doc m says valid,
@@ -262,36 +264,34 @@ advised_passes doc m says valid =
 
 -- ---- sigma points
 
-point_passes : (t : Members) (path : List ℕ) (p : SigmaPoint) → HasOnly (codes "weight own intruder") t → HoldsWhole t (codes "weight") p.weight → HoldsWhole t (codes "own") p.own
-    → HoldsWhole t (codes "intruder") p.intruder → IsPoint p → point_of t path ≡ Ok p
-unfolding point_of
-point_passes t path p keys weight own intruder is =
-    let o = within_abs 4999 p.own is.own in
-    let i = within_abs 4999 p.intruder is.intruder in
+sigma_passes : (t : Members) (path : List ℕ) (p : SigmaPoint) → HasOnly (codes "weight own intruder") t → HoldsWhole t (codes "weight") p.weight → HoldsWhole t (codes "own") p.own
+    → HoldsWhole t (codes "intruder") p.intruder → IsSigma p → sigma_of t path ≡ Ok p
+unfolding sigma_of
+sigma_passes t path p keys weight own intruder is =
     rw (
       only_passes path (codes "weight own intruder") t keys,
-      whole_at_passes t path (codes "weight") (pos 1) (pos 1000) p.weight weight is.light is.heavy,
-      whole_at_passes t path (codes "own") (negsuc 4999) (pos 5000) p.own own o.0 o.1,
-      whole_at_passes t path (codes "intruder") (negsuc 4999) (pos 5000) p.intruder intruder i.0 i.1,
+      whole_at_passes t path (codes "weight") LEAST_WEIGHT GREATEST_WEIGHT p.weight weight is.weight.low is.weight.high,
+      whole_at_passes t path (codes "own") LEAST_NOISE GREATEST_NOISE p.own own is.own.low is.own.high,
+      whole_at_passes t path (codes "intruder") LEAST_NOISE GREATEST_NOISE p.intruder intruder is.intruder.low is.intruder.high,
     ) refl
 
-point_item_passes : (place : ℕ) (t : Members) (p : SigmaPoint) → HasOnly (codes "weight own intruder") t → HoldsWhole t (codes "weight") p.weight → HoldsWhole t (codes "own") p.own
-    → HoldsWhole t (codes "intruder") p.intruder → IsPoint p → point_item place (table t) ≡ Ok p
-unfolding point_item
-point_item_passes place t p keys weight own intruder is = rw (table_item_passes (codes "sigma") place t) (point_passes t (item_path (codes "sigma") place) p keys weight own intruder is)
+sigma_item_passes : (place : ℕ) (t : Members) (p : SigmaPoint) → HasOnly (codes "weight own intruder") t → HoldsWhole t (codes "weight") p.weight → HoldsWhole t (codes "own") p.own
+    → HoldsWhole t (codes "intruder") p.intruder → IsSigma p → sigma_item place (table t) ≡ Ok p
+unfolding sigma_item
+sigma_item_passes place t p keys weight own intruder is = rw (table_item_passes (codes "sigma") place t) (sigma_passes t (item_path (codes "sigma") place) p keys weight own intruder is)
 
-pub points_pass : (doc : Members) (m : ModelData) → IsDocumentText m doc → IsAccepted m → points_of doc ≡ Ok m.points
-unfolding points_of point_items
-points_pass doc m says valid =
+pub sigmas_pass : (doc : Members) (m : ModelData) → IsDocumentText m doc → IsModel m → sigmas_of doc ≡ Ok m.sigmas
+unfolding sigmas_of sigma_items
+sigmas_pass doc m says valid =
     let ts = says.sigma.tables in
-    let long : length (map table ts) ≡ length m.points = length-map ts table ∙ says.sigma.long in
-    let items : point_items (map table ts) ≡ Ok m.points = each_from (λ before d. point_item (length before) d) [] m.points (map table ts) (boolean false) no_point (record {
+    let long : length (map table ts) ≡ length m.sigmas = length-map ts table ∙ says.sigma.long in
+    let items : sigma_items (map table ts) ≡ Ok m.sigmas = each_from (λ before d. sigma_item (length before) d) [] m.sigmas (map table ts) (boolean false) no_sigma (record {
       long = sym long;
       at = λ k h.
           let in_ts : k < length ts = omega (arith, h, length-map ts table) in
-          let in_list : k < length m.points = omega (arith, in_ts, says.sigma.long) in
+          let in_list : k < length m.sigmas = omega (arith, in_ts, says.sigma.long) in
           let item : get_or (map table ts) k (boolean false) ≡ table (get_or ts k no_members) = get_or-map table ts k no_members (boolean false) in_ts in
           let text = says.sigma.says k in_list in
-          rw (item, place_is k m.points in_list) (point_item_passes k (get_or ts k no_members) (get_or m.points k no_point) (says.sigma.keys k in_list) text.weight text.own text.intruder (valid.points k in_list));
+          rw (item, place_is k m.sigmas in_list) (sigma_item_passes k (get_or ts k no_members) (get_or m.sigmas k no_sigma) (says.sigma.keys k in_list) text.weight text.own text.intruder (valid.sigmas k in_list));
     }) in
-    rw (list_at_passes doc [] (codes "sigma") 1 25 (map table ts) says.sigma.there (omega (arith, long, valid.some_points)) (omega (arith, long, valid.few_points)), items) refl
+    rw (list_at_passes doc [] (codes "sigma") LEAST_SIGMAS GREATEST_SIGMAS (map table ts) says.sigma.there (omega (arith, long, valid.some_sigmas)) (omega (arith, long, valid.few_sigmas)), items) refl

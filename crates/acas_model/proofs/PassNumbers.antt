@@ -1,12 +1,13 @@
 -- A document that says a model within its limits passes the rules of its numbers and axes.
-use Rattle.std.proofs.Common.{◌≡◌, ℕ, suc, ◌-◌, ◌*◌, ◌^◌, ◌<◌, ◌≤◌, false, List, [], length, map, take, get_or, codes, ℤ, pos, negsuc, ◌*ℤ◌, ◌≤ℤ◌, unsigned_abs, Some, Ok, refl, sym, subst, ap, ◌∙◌, arith}
+use Rattle.std.proofs.Common.{◌≡◌, ℕ, ◌-◌, ◌^◌, ◌<◌, ◌≤◌, false, List, [], length, map, take, get_or, codes, ℤ, pos, negsuc, ◌≤ℤ◌, Some, Ok, refl, sym, subst, ap, ◌∙◌, arith}
 use Rattle.std.proofs.lemmas.Bool.{le-leb, leb-true, false≢true}
-use Rattle.std.proofs.lemmas.Int.{unsigned_abs-mul}
+use Rattle.std.proofs.lemmas.Int.{ints}
 use Rattle.std.proofs.lemmas.List.{get_or-map, length-map}
 use Rattle.toml.specs.Data.{Members, integer, boolean, table, get_member}
-use Rattle.acas_spec.specs.Axis.{IsAxis, IsWithin, place_value}
+use Rattle.acas_units.specs.declared.limits.TheConstants.{LEAST_RADIUS, GREATEST_RADIUS, LEAST_HALF_HEIGHT, GREATEST_HALF_HEIGHT, LEAST_CLOSING, GREATEST_CLOSING, LEAST_PULL, GREATEST_LIMIT, LEAST_COST, GREATEST_COST}
+use Rattle.acas_spec.specs.Axis.{IsAxis, IsBetween, IsWithin, place_value}
 use Rattle.acas_spec.specs.Model.{ModelData}
-use Rattle.acas_spec.specs.Accepted.{IsAccepted}
+use Rattle.acas_spec.specs.Limits.{IsModel}
 use Rattle.acas_doc.specs.Known.{only_known}
 use Rattle.acas_doc.specs.Paths.{key_path}
 use Rattle.acas_doc.proofs.Holds.{int_le-true, true-int_le, whole_at_passes, table_at_passes, list_at_passes, whole_item_passes}
@@ -14,26 +15,22 @@ use Rattle.acas_doc.proofs.LeastUnknown.{only_known_passes}
 use Rattle.acas_model.specs.declared.axes.Axes.{Axes}
 use Rattle.acas_model.specs.declared.fault.AxisName.{AxisName}
 use Rattle.acas_model.specs.declared.fault.AxisName.TheVariants.{Altitude, OwnRate, IntruderRate}
-use Rattle.acas_model.specs.declared.numbers.Puck.{Puck}
-use Rattle.acas_model.specs.declared.numbers.Closing.{Closing}
-use Rattle.acas_model.specs.declared.numbers.Pilot.{Pilot}
-use Rattle.acas_model.specs.declared.numbers.Numbers.{Numbers}
+use Rattle.acas_base.specs.declared.numbers.Puck.{Puck}
+use Rattle.acas_base.specs.declared.numbers.Closing.{Closing}
+use Rattle.acas_base.specs.declared.numbers.Pilot.{Pilot}
+use Rattle.acas_base.specs.declared.numbers.Numbers.{Numbers}
 use Rattle.acas_model.specs.Document.{in_doc, number_at, closed_table}
-use Rattle.acas_model.specs.Axes.{scaled_item, scaled_items, axis_at, grid_table, altitudes, own_rates, intruder_rates, axes_of}
+use Rattle.acas_model.specs.Axes.{least_on, greatest_on, in_model, axis_item, axis_items, axis_at, grid_table, altitudes, own_rates, intruder_rates, axes_of}
 use Rattle.acas_model.specs.Numbers.{puck_table, half_height, puck_of, closing_of, pilot_of, contact_of, numbers_of}
 use Rattle.acas_model.specs.Text.{HasOnly, HoldsWhole, HoldsAxis, IsDocumentText}
 use Rattle.acas_model.proofs.Places.{each_from}
+use Rattle.acas_model.proofs.ReadAxes.{IsOn}
 use Rattle.acas_model.proofs.Rising.{is_axis}
 
 -- ---- ranges
 
 pos_le : (a b : ℕ) → a ≤ b → pos a ≤ℤ pos b
 pos_le a b h = int_le-true (pos a) (pos b) (le-leb a b h)
-
--- a number of at most m + 1 without its sign is from -(m + 1) to m + 1
-pub within_abs : (m : ℕ) (z : ℤ) → unsigned_abs z ≤ suc m → (negsuc m ≤ℤ z) × (z ≤ℤ pos (suc m))
-within_abs m (pos a) h = (int_le-true (negsuc m) (pos a) refl, pos_le a (suc m) h)
-within_abs m (negsuc a) h = (int_le-true (negsuc m) (negsuc a) (le-leb a m (omega (arith, h))), int_le-true (negsuc a) (pos (suc m)) refl)
 
 pos_order : (a b : ℕ) → pos a ≤ℤ pos b → a ≤ b
 pos_order a b h = leb-true a b (true-int_le (pos a) (pos b) h)
@@ -67,56 +64,54 @@ table_passes doc key known inner there keys = rw (table_at_passes doc [] key inn
 
 -- ---- the axes
 
-within_scaled : (scale : ℕ) (z : ℤ) → 0 < scale → unsigned_abs (pos scale *ℤ z) ≤ scale * 10000 → unsigned_abs z ≤ 10000
-within_scaled scale z some h = cancel scale (unsigned_abs z) 10000 some (subst (λ k. k ≤ scale * 10000) (unsigned_abs-mul (pos scale) z) h)
-  where
-    cancel : (a b c : ℕ) → 0 < a → a * b ≤ a * c → b ≤ c
-    cancel a b c h k = grind (arith, h, k)
+IsOn-number : (name : AxisName) (number : ℤ) → IsOn name (in_model name number) → IsBetween (least_on name) (greatest_on name) number
+IsOn-number Altitude number on = record { low = omega (arith, ints); high = omega (arith, ints) }
+IsOn-number OwnRate number on = on
+IsOn-number IntruderRate number on = on
 
-scaled_item_passes : (path : List ℕ) (scale place : ℕ) (z : ℤ) → unsigned_abs z ≤ 10000 → scaled_item path scale place (integer z) ≡ Ok (pos scale *ℤ z)
-unfolding scaled_item
-scaled_item_passes path scale place z h =
-    let w = within_abs 9999 z h in
-    rw (whole_item_passes path place (negsuc 9999) (pos 10000) z w.0 w.1) refl
+axis_item_passes : (name : AxisName) (path : List ℕ) (place : ℕ) (number : ℤ) → IsBetween (least_on name) (greatest_on name) number → axis_item name path place (integer number) ≡ Ok (in_model name number)
+unfolding axis_item
+axis_item_passes name path place number within =
+    rw (whole_item_passes path place (least_on name) (greatest_on name) number within.low within.high) refl
 
-scaled_passes : (path : List ℕ) (scale : ℕ) (zs axis : List ℤ) → axis ≡ map (λ z. pos scale *ℤ z) zs → ((k : ℕ) → k < length zs → unsigned_abs (get_or zs k (pos 0)) ≤ 10000)
-    → scaled_items path scale (map integer zs) ≡ Ok axis
-unfolding scaled_items
-scaled_passes path scale zs axis same within =
-    let long : length axis ≡ length (map integer zs) = ap length same ∙ length-map zs (λ z. pos scale *ℤ z) ∙ sym (length-map zs integer) in
-    each_from (λ before d. scaled_item path scale (length before) d) [] axis (map integer zs) (boolean false) (pos 0) (record {
+axis_items_pass : (name : AxisName) (path : List ℕ) (zs axis : List ℤ) → axis ≡ map (in_model name) zs → ((k : ℕ) → k < length zs → IsBetween (least_on name) (greatest_on name) (get_or zs k (pos 0)))
+    → axis_items name path (map integer zs) ≡ Ok axis
+unfolding axis_items
+axis_items_pass name path zs axis same within =
+    let long : length axis ≡ length (map integer zs) = ap length same ∙ length-map zs (in_model name) ∙ sym (length-map zs integer) in
+    each_from (λ before d. axis_item name path (length before) d) [] axis (map integer zs) (boolean false) (pos 0) (record {
       long = long;
       at = λ k h.
           let in_zs : k < length zs = omega (arith, h, length-map zs integer) in
           let item : get_or (map integer zs) k (boolean false) ≡ integer (get_or zs k (pos 0)) = get_or-map integer zs k (pos 0) (boolean false) in_zs in
-          let value : get_or axis k (pos 0) ≡ pos scale *ℤ get_or zs k (pos 0) = ap (λ ys. get_or ys k (pos 0)) same ∙ get_or-map (λ z. pos scale *ℤ z) zs k (pos 0) (pos 0) in_zs in
-          rw (item, value) (scaled_item_passes path scale (length (take k axis)) (get_or zs k (pos 0)) (within k in_zs));
+          let value : get_or axis k (pos 0) ≡ in_model name (get_or zs k (pos 0)) = ap (λ ys. get_or ys k (pos 0)) same ∙ get_or-map (in_model name) zs k (pos 0) (pos 0) in_zs in
+          rw (item, value) (axis_item_passes name path (length (take k axis)) (get_or zs k (pos 0)) (within k in_zs));
     })
 
-axis_passes : (grid : Members) (key : List ℕ) (scale : ℕ) (name : AxisName) (axis : List ℤ) → 0 < scale → HoldsAxis grid key scale axis → IsAxis axis → IsWithin (scale * 10000) axis
-    → axis_at grid key scale name ≡ Ok axis
+axis_passes : (grid : Members) (key : List ℕ) (name : AxisName) (axis : List ℤ) → HoldsAxis grid key name axis → IsAxis axis → IsWithin (in_model name (least_on name)) (in_model name (greatest_on name)) axis
+    → axis_at grid key name ≡ Ok axis
 unfolding axis_at
-axis_passes grid key scale name axis some holds is within =
+axis_passes grid key name axis holds is within =
     let zs = holds.numbers in
-    let long : length axis ≡ length zs = ap length holds.scaled ∙ length-map zs (λ z. pos scale *ℤ z) in
+    let long : length axis ≡ length zs = ap length holds.same ∙ length-map zs (in_model name) in
     let short : length (map integer zs) ≤ 2 ^ 32 - 1 = omega (arith, length-map zs integer, long, is.at_most) in
-    let each_within : (k : ℕ) → k < length zs → unsigned_abs (get_or zs k (pos 0)) ≤ 10000 = λ k h.
-    let value : place_value axis k ≡ pos scale *ℤ get_or zs k (pos 0) = ap (λ ys. get_or ys k (pos 0)) holds.scaled ∙ get_or-map (λ z. pos scale *ℤ z) zs k (pos 0) (pos 0) h in
-    within_scaled scale (get_or zs k (pos 0)) some (subst (λ z. unsigned_abs z ≤ scale * 10000) value (within.bounded k (omega (arith, h, long)))) in
-    rw (list_at_passes grid (codes "grid") key 0 (2 ^ 32 - 1) (map integer zs) holds.there (omega arith) short, scaled_passes (key_path (codes "grid") key) scale zs axis holds.scaled each_within, is_axis axis is) refl
+    let each_within : (k : ℕ) → k < length zs → IsBetween (least_on name) (greatest_on name) (get_or zs k (pos 0)) = λ k h.
+    let value : place_value axis k ≡ in_model name (get_or zs k (pos 0)) = ap (λ ys. get_or ys k (pos 0)) holds.same ∙ get_or-map (in_model name) zs k (pos 0) (pos 0) h in
+    IsOn-number name (get_or zs k (pos 0)) (subst (IsOn name) value (within.bounded k (omega (arith, h, long)))) in
+    rw (list_at_passes grid (codes "grid") key 0 (2 ^ 32 - 1) (map integer zs) holds.there (omega arith) short, axis_items_pass name (key_path (codes "grid") key) zs axis holds.same each_within, is_axis axis is) refl
 
 abbrev pub axes_in : ModelData → Axes
 axes_in m = record { h = m.grid.h; v0 = m.grid.v0; v1 = m.grid.v1 }
 
-pub axes_pass : (doc : Members) (m : ModelData) → IsDocumentText m doc → IsAccepted m → axes_of doc ≡ Ok (axes_in m)
+pub axes_pass : (doc : Members) (m : ModelData) → IsDocumentText m doc → IsModel m → axes_of doc ≡ Ok (axes_in m)
 unfolding axes_of grid_table altitudes own_rates intruder_rates
 axes_pass doc m says valid =
     let t = says.grid.inner in
     rw (
       table_passes doc (codes "grid") (codes "altitude own_rate intruder_rate") t says.grid.there says.grid.keys,
-      axis_passes t (codes "altitude") 120 Altitude m.grid.h (omega arith) says.grid.says.altitude valid.grid.altitudes valid.grid.altitudes_within,
-      axis_passes t (codes "own_rate") 1 OwnRate m.grid.v0 (omega arith) says.grid.says.own_rate valid.grid.own_rates valid.grid.own_within,
-      axis_passes t (codes "intruder_rate") 1 IntruderRate m.grid.v1 (omega arith) says.grid.says.intruder_rate valid.grid.intruder_rates valid.grid.intruder_within,
+      axis_passes t (codes "altitude") Altitude m.grid.h says.grid.says.altitude valid.grid.altitudes valid.grid.altitudes_within,
+      axis_passes t (codes "own_rate") OwnRate m.grid.v0 says.grid.says.own_rate valid.grid.own_rates valid.grid.own_within,
+      axis_passes t (codes "intruder_rate") IntruderRate m.grid.v1 says.grid.says.intruder_rate valid.grid.intruder_rates valid.grid.intruder_within,
     ) refl
 
 -- ---- the numbers
@@ -124,59 +119,58 @@ axes_pass doc m says valid =
 abbrev pub puck_in : ModelData → Puck
 puck_in m = record { radius = m.radius; half = m.half }
 
-puck_passes : (doc : Members) (m : ModelData) → IsDocumentText m doc → IsAccepted m → puck_of doc ≡ Ok (puck_in m)
+puck_passes : (doc : Members) (m : ModelData) → IsDocumentText m doc → IsModel m → puck_of doc ≡ Ok (puck_in m)
 unfolding puck_of puck_table half_height
 puck_passes doc m says valid =
     let t = says.puck.inner in
     let p = says.puck.says in
     rw (
       table_passes doc (codes "puck") (codes "radius half_height") t says.puck.there says.puck.keys,
-      number_passes t (codes "puck") (codes "radius") 1 5000 m.radius p.radius valid.some_radius valid.radius,
-      number_passes t (codes "puck") (codes "half_height") 1 1000 p.feet p.half_height (omega (arith, p.half, valid.some_half)) (omega (arith, p.half, valid.half)),
+      number_passes t (codes "puck") (codes "radius") LEAST_RADIUS GREATEST_RADIUS m.radius p.radius valid.some_radius valid.radius,
+      number_passes t (codes "puck") (codes "half_height") LEAST_HALF_HEIGHT GREATEST_HALF_HEIGHT p.feet p.half_height (omega (arith, p.half, valid.some_half)) (omega (arith, p.half, valid.half)),
       p.half,
     ) refl
 
 abbrev pub closing_in : ModelData → Closing
-closing_in m = record { least = m.least; greatest = m.greatest }
+closing_in m = record { least = m.least_closing; greatest = m.greatest_closing }
 
-closing_passes : (doc : Members) (m : ModelData) → IsDocumentText m doc → IsAccepted m → closing_of doc ≡ Ok (closing_in m)
+closing_passes : (doc : Members) (m : ModelData) → IsDocumentText m doc → IsModel m → closing_of doc ≡ Ok (closing_in m)
 unfolding closing_of
 closing_passes doc m says valid =
     let t = says.closing.inner in
     let p = says.closing.says in
     rw (
       table_passes doc (codes "closing") (codes "least greatest") t says.closing.there says.closing.keys,
-      number_passes t (codes "closing") (codes "least") 1 5000 m.least p.least valid.some_closing (omega (arith, valid.closing, valid.greatest)),
-      number_passes t (codes "closing") (codes "greatest") m.least 5000 m.greatest p.greatest valid.closing valid.greatest,
+      number_passes t (codes "closing") (codes "least") LEAST_CLOSING GREATEST_CLOSING m.least_closing p.least valid.some_closing (omega (arith, valid.closing, valid.greatest_closing)),
+      number_passes t (codes "closing") (codes "greatest") m.least_closing GREATEST_CLOSING m.greatest_closing p.greatest valid.closing valid.greatest_closing,
     ) refl
 
 abbrev pub pilot_in : ModelData → Pilot
 pilot_in m = record { pull = m.pull; limit = m.limit }
 
-pilot_passes : (doc : Members) (m : ModelData) → IsDocumentText m doc → IsAccepted m → pilot_of doc ≡ Ok (pilot_in m)
+pilot_passes : (doc : Members) (m : ModelData) → IsDocumentText m doc → IsModel m → pilot_of doc ≡ Ok (pilot_in m)
 unfolding pilot_of
 pilot_passes doc m says valid =
     let t = says.pilot.inner in
     let p = says.pilot.says in
     rw (
       table_passes doc (codes "pilot") (codes "pull limit") t says.pilot.there says.pilot.keys,
-      number_passes t (codes "pilot") (codes "pull") 1 2000 m.pull p.pull valid.some_pull (omega (arith, valid.pull_within, valid.limit)),
-      number_passes t (codes "pilot") (codes "limit") m.pull 2000 m.limit p.limit valid.pull_within valid.limit,
+      number_passes t (codes "pilot") (codes "pull") LEAST_PULL GREATEST_LIMIT m.pull p.pull valid.some_pull (omega (arith, valid.pull_within, valid.limit)),
+      number_passes t (codes "pilot") (codes "limit") m.pull GREATEST_LIMIT m.limit p.limit valid.pull_within valid.limit,
     ) refl
 
-contact_passes : (doc : Members) (m : ModelData) → IsDocumentText m doc → IsAccepted m → contact_of doc ≡ Ok m.contact
+contact_passes : (doc : Members) (m : ModelData) → IsDocumentText m doc → IsModel m → contact_of doc ≡ Ok m.contact
 unfolding contact_of
 contact_passes doc m says valid =
     let t = says.cost.inner in
-    let within = within_abs 999999999 m.contact valid.contact in
     rw (
       table_passes doc (codes "cost") (codes "contact") t says.cost.there says.cost.keys,
-      whole_at_passes t (codes "cost") (codes "contact") (negsuc 999999999) (pos 1000000000) m.contact says.cost.says.contact within.0 within.1,
+      whole_at_passes t (codes "cost") (codes "contact") LEAST_COST GREATEST_COST m.contact says.cost.says.contact valid.contact.low valid.contact.high,
     ) refl
 
 abbrev pub numbers_in : ModelData → Numbers
 numbers_in m = record { puck = puck_in m; closing = closing_in m; pilot = pilot_in m; contact = m.contact }
 
-pub numbers_pass : (doc : Members) (m : ModelData) → IsDocumentText m doc → IsAccepted m → numbers_of doc ≡ Ok (numbers_in m)
+pub numbers_pass : (doc : Members) (m : ModelData) → IsDocumentText m doc → IsModel m → numbers_of doc ≡ Ok (numbers_in m)
 unfolding numbers_of
 numbers_pass doc m says valid = rw (puck_passes doc m says valid, closing_passes doc m says valid, pilot_passes doc m says valid, contact_passes doc m says valid) refl

@@ -1,6 +1,6 @@
 -- Lists that are read item by item, place by place.
 use Rattle.std.proofs.Common.{◌≡◌, ℕ, zero, suc, ◌<◌, Bool, false, List, [], ◌∷◌, ◌++◌, length, take, get_or, Result, Ok, refl, sym, subst, ap, ◌∙◌, inl, inr, arith}
-use Rattle.std.specs.List.{AllByRecursion, list_any}
+use Rattle.std.specs.List.{list_any}
 use Rattle.std.proofs.lemmas.Bool.{cases_Bool, false≢true}
 use Rattle.std.proofs.lemmas.List.{append_assoc, append-nil}
 use Rattle.acas_spec.specs.Steps.{each}
@@ -50,16 +50,6 @@ each_from {A} {B} {E} read before (y ∷ rest) (x ∷ xs) d e r =
       at = λ k within. rw (append_assoc before (y ∷ []) (take k rest)) (r.at (suc k) (omega (arith, within)));
     } in
     rw (first, ← append_assoc before (y ∷ []) rest) (each_from read (before ++ y ∷ []) rest xs d e later)
-
--- a fact of each item, by its place
-pub all_at : {A : Type 0} (P : A → Type 0) (xs : List A) (k : ℕ) (d : A) → AllByRecursion P xs → k < length xs → P (get_or xs k d)
-all_at P [] k d h within = absurd (omega (arith, within))
-all_at P (x ∷ xs) zero d h within = h.0
-all_at P (x ∷ xs) (suc k) d h within = all_at P xs k d h.1 (omega (arith, within))
-
-pub all_from : {A : Type 0} (P : A → Type 0) (xs : List A) (d : A) → ((k : ℕ) → k < length xs → P (get_or xs k d)) → AllByRecursion P xs
-all_from P [] d h = tt
-all_from P (x ∷ xs) d h = (h 0 (omega arith), all_from P xs d (λ k within. h (suc k) (omega (arith, within))))
 
 -- no item passes a test that finds none
 pub none_at : {A : Type 0} (p : A → Bool) (xs : List A) (k : ℕ) (d : A) → list_any p xs ≡ false → k < length xs → p (get_or xs k d) ≡ false

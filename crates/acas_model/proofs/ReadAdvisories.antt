@@ -1,11 +1,12 @@
 -- The advisories that a document says.
-use Rattle.std.proofs.Common.{◌≡◌, ◌≢◌, ℕ, ◌<◌, true, false, IsTrue, List, [], length, map, take, get_or, codes, pos, negsuc, int_le, Bool, if◌then◌else◌, None, bytes_eq, Ok, Err, refl, sym, subst, ◌∙◌, arith}
+use Rattle.std.proofs.Common.{◌≡◌, ◌≢◌, ℕ, ◌<◌, true, false, IsTrue, List, [], length, map, take, get_or, codes, pos, int_le, Bool, if◌then◌else◌, None, bytes_eq, Ok, Err, refl, sym, subst, ◌∙◌, arith}
 use Rattle.std.specs.List.{list_any}
 use Rattle.std.proofs.lemmas.Bool.{false≢true}
 use Rattle.std.proofs.lemmas.List.{get_or-map, get_or-take, length-map, length-take}
 use Rattle.std.proofs.lemmas.Slice.Eq.{bytes_eq-Decides}
 use Rattle.toml.specs.Data.{Data, Members, boolean, table}
-use Rattle.acas_spec.specs.Accepted.{is_name, IsAdvisory, AreDistinct}
+use Rattle.acas_units.specs.declared.limits.TheConstants.{LEAST_RATE, GREATEST_RATE}
+use Rattle.acas_spec.specs.Limits.{is_name, IsAdvisory, AreDistinct}
 use Rattle.acas_spec.specs.declared.parts.Advisory.{Advisory}
 use Rattle.acas_spec.proofs.Each.{bind_ok, same_ok}
 use Rattle.acas_doc.specs.declared.fault.DocKind.TheVariants.{WrongKind}
@@ -52,13 +53,13 @@ unfolding advisory_of
 advisory_ok t path place a e =
     let k = step_ok (in_doc (only_known path (codes "name lo hi choices costs") t)) _ a e in
     let n = bind_ok (name_at t path) _ a k.1 in
-    let lo = bind_ok (in_doc (whole_at t path (codes "lo") (negsuc 9999) (pos 10000))) _ a n.2 in
-    let hi = bind_ok (in_doc (whole_at t path (codes "hi") (negsuc 9999) (pos 10000))) _ a lo.2 in
+    let lo = bind_ok (in_doc (whole_at t path (codes "lo") LEAST_RATE GREATEST_RATE)) _ a n.2 in
+    let hi = bind_ok (in_doc (whole_at t path (codes "hi") LEAST_RATE GREATEST_RATE)) _ a lo.2 in
     let made : Advisory = record { name = n.0; lo = lo.0; hi = hi.0 } in
     let passed = test_ok (int_le lo.0 hi.0) made a (Interval place) hi.2 in
     let name = name_ok t path n.0 n.1 in
-    let low = whole_at_ok t path (codes "lo") (negsuc 9999) (pos 10000) lo.0 (fault_as_ok _ _ lo.0 lo.1) in
-    let high = whole_at_ok t path (codes "hi") (negsuc 9999) (pos 10000) hi.0 (fault_as_ok _ _ hi.0 hi.1) in
+    let low = whole_at_ok t path (codes "lo") LEAST_RATE GREATEST_RATE lo.0 (fault_as_ok _ _ lo.0 lo.1) in
+    let high = whole_at_ok t path (codes "hi") LEAST_RATE GREATEST_RATE hi.0 (fault_as_ok _ _ hi.0 hi.1) in
     subst (IsReadAdvisory t) passed.1 (record {
       keys = only_ok path (codes "name lo hi choices costs") t k.0;
       name = name.0;

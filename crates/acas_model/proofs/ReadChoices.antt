@@ -1,12 +1,14 @@
 -- The choices that a document says.
-use Rattle.std.proofs.Common.{◌≡◌, ◌≢◌, ℕ, zero, suc, ◌-◌, ◌^◌, ◌<◌, ◌≤◌, true, false, ◌==◌, List, [], ◌∷◌, length, map, take, get_or, codes, ℤ, pos, negsuc, unsigned_abs, bytes_eq, Option, Some, None, Ok, refl, sym, subst, ap, ◌∙◌, arith}
+use Rattle.std.proofs.Common.{◌≡◌, ◌≢◌, ℕ, zero, suc, ◌-◌, ◌^◌, ◌<◌, true, false, ◌==◌, List, [], ◌∷◌, length, map, take, get_or, codes, ℤ, pos, bytes_eq, Option, Some, None, Ok, refl, sym, subst, ap, ◌∙◌, arith}
 use Rattle.std.specs.List.{list_any}
 use Rattle.std.proofs.lemmas.Bool.{false≢true}
 use Rattle.std.proofs.lemmas.List.{get_or-map, get_or-take, length-map, length-take}
 use Rattle.std.proofs.lemmas.List.Quantifiers.{position-Some}
 use Rattle.std.proofs.lemmas.Slice.Eq.{bytes_eq-Decides}
 use Rattle.toml.specs.Data.{Data, Members, boolean, integer, string, table}
-use Rattle.acas_spec.specs.Accepted.{IsChoiceList, AreDistinct}
+use Rattle.acas_units.specs.declared.limits.TheConstants.{LEAST_COST, GREATEST_COST}
+use Rattle.acas_spec.specs.Axis.{IsBetween}
+use Rattle.acas_spec.specs.Limits.{IsChoiceList, AreDistinct}
 use Rattle.acas_spec.specs.declared.parts.Advisory.{Advisory}
 use Rattle.acas_spec.specs.declared.parts.Choice.{Choice}
 use Rattle.acas_spec.proofs.Each.{bind_ok, same_ok}
@@ -19,7 +21,6 @@ use Rattle.acas_model.specs.Document.{in_doc}
 use Rattle.acas_model.specs.Choices.{named, or_unknown, choice_item, choice_items, cost_item, cost_items, choices_from, some_choice, choices_of, choices_item, choice_lists}
 use Rattle.acas_model.specs.Text.{HoldsList}
 use Rattle.acas_model.proofs.Places.{ReadAt, each_places, none_at, same_lists}
-use Rattle.acas_model.proofs.Numerals.{abs_within}
 use Rattle.acas_model.proofs.ReadNumbers.{step_ok}
 use Rattle.acas_model.proofs.ReadAdvisories.{untest_ok, no_advisory}
 
@@ -86,18 +87,18 @@ chosen_ok advisories path advisory ds chosen e = record {
 -- a cost that was read
 record IsReadCost (d : Data) (z : ℤ) : Type 0 where
   pub there : d ≡ integer z
-  pub within : unsigned_abs z ≤ 1000000000
+  pub within : IsBetween LEAST_COST GREATEST_COST z
 
 cost_ok : (path : List ℕ) (place : ℕ) (d : Data) (z : ℤ) → cost_item path place d ≡ Ok z → IsReadCost d z
 unfolding cost_item
 cost_ok path place d z e =
-    let w = whole_item_ok path place (negsuc 999999999) (pos 1000000000) d z (fault_as_ok _ _ z e) in
-    record { there = w.0; within = abs_within 999999999 z w.1 w.2 }
+    let w = whole_item_ok path place LEAST_COST GREATEST_COST d z (fault_as_ok _ _ z e) in
+    record { there = w.0; within = record { low = w.1; high = w.2 } }
 
 record AreReadCosts (ds : List Data) (costs : List ℤ) : Type 0 where
   pub long : length costs ≡ length ds
   pub there : ds ≡ map integer costs
-  pub within : (k : ℕ) → k < length costs → unsigned_abs (get_or costs k (pos 0)) ≤ 1000000000
+  pub within : (k : ℕ) → k < length costs → IsBetween LEAST_COST GREATEST_COST (get_or costs k (pos 0))
 
 costs_ok : (path : List ℕ) (ds : List Data) (costs : List ℤ) → cost_items path ds ≡ Ok costs → AreReadCosts ds costs
 unfolding cost_items
@@ -140,12 +141,12 @@ abbrev pub no_choice_there : Choice
 no_choice_there = record { advisory = 0; cost = pos 0 }
 
 choice_list : (count : ℕ) (chosen : List ℕ) (costs : List ℤ) → length chosen ≡ length costs → 0 < length chosen → ((k : ℕ) → k < length chosen → get_or chosen k 0 < count)
-    → ((k : ℕ) → k < length costs → unsigned_abs (get_or costs k (pos 0)) ≤ 1000000000) → AreDistinct 0 chosen → IsChoiceList count (choices_from chosen costs)
+    → ((k : ℕ) → k < length costs → IsBetween LEAST_COST GREATEST_COST (get_or costs k (pos 0))) → AreDistinct 0 chosen → IsChoiceList count (choices_from chosen costs)
 choice_list count chosen costs long some known within distinct = record {
   some = omega (arith, some, size);
   each = λ k h. record {
     advisory = subst (λ a. a < count) (number k h) (known k (omega (arith, h, size)));
-    cost = subst (λ z. unsigned_abs z ≤ 1000000000) (cost k h) (within k (omega (arith, h, size, long)));
+    cost = subst (IsBetween LEAST_COST GREATEST_COST) (cost k h) (within k (omega (arith, h, size, long)));
   };
   distinct = subst (AreDistinct 0) (sym numbers) distinct;
 }

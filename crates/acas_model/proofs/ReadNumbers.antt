@@ -1,6 +1,9 @@
 -- The numbers of the tables `puck`, `closing`, `pilot` and `cost`, and the keys of each table.
-use Rattle.std.proofs.Common.{◌≡◌, ℕ, ◌*◌, ◌≤◌, List, [], codes, ℤ, pos, negsuc, unsigned_abs, Some, Result, Ok, Err, refl, sym, subst, ap, ◌∙◌}
+use Rattle.std.proofs.Common.{◌≡◌, ℕ, ◌*◌, ◌≤◌, List, [], codes, ℤ, pos, unsigned_abs, Some, Result, Ok, Err, refl, sym, subst, ap, ◌∙◌}
 use Rattle.toml.specs.Data.{Members, table, get_member}
+use Rattle.acas_units.specs.declared.limits.TheConstants.{LEAST_RADIUS, GREATEST_RADIUS, LEAST_HALF_HEIGHT, GREATEST_HALF_HEIGHT, LEAST_CLOSING, GREATEST_CLOSING, LEAST_PULL, GREATEST_LIMIT, LEAST_COST, GREATEST_COST}
+use Rattle.acas_units.specs.declared.ticks.TheConstants.{TICKS_PER_FOOT}
+use Rattle.acas_spec.specs.Axis.{IsBetween}
 use Rattle.acas_spec.specs.Steps.{◌>>◌}
 use Rattle.acas_spec.proofs.Each.{bind_ok, same_ok}
 use Rattle.acas_doc.specs.Keys.{table_at, whole_at}
@@ -8,14 +11,14 @@ use Rattle.acas_doc.specs.Known.{only_known}
 use Rattle.acas_doc.proofs.Holds.{fault_as_ok, whole_at_ok, table_at_ok}
 use Rattle.acas_doc.proofs.LeastUnknown.{only_known_passes}
 use Rattle.acas_model.specs.declared.fault.ModelFault.{ModelFault}
-use Rattle.acas_model.specs.declared.numbers.Puck.{Puck}
-use Rattle.acas_model.specs.declared.numbers.Closing.{Closing}
-use Rattle.acas_model.specs.declared.numbers.Pilot.{Pilot}
-use Rattle.acas_model.specs.declared.numbers.Numbers.{Numbers}
+use Rattle.acas_base.specs.declared.numbers.Puck.{Puck}
+use Rattle.acas_base.specs.declared.numbers.Closing.{Closing}
+use Rattle.acas_base.specs.declared.numbers.Pilot.{Pilot}
+use Rattle.acas_base.specs.declared.numbers.Numbers.{Numbers}
 use Rattle.acas_model.specs.Document.{in_doc, number_at, closed_table}
 use Rattle.acas_model.specs.Numbers.{puck_table, half_height, puck_of, closing_of, pilot_of, contact_of, numbers_of}
 use Rattle.acas_model.specs.Text.{HasOnly, HoldsWhole}
-use Rattle.acas_model.proofs.Numerals.{abs_within, abs_between}
+use Rattle.acas_model.proofs.Numerals.{abs_between}
 
 -- a step that gave nothing but that it passed
 pub step_ok : {A E : Type 0} (u : Result (Unit {0}) E) (r : Result A E) (x : A) → (u >> r) ≡ Ok x → (u ≡ Ok tt) × (r ≡ Ok x)
@@ -68,85 +71,85 @@ table_ok doc key known inner e =
 pub record IsReadPuck (doc : Members) (p : Puck) : Type 0 where
   pub inner : Members
   pub is_table : IsTable doc (codes "puck") (codes "radius half_height") inner
-  pub radius : IsNumber inner (codes "radius") 1 5000 p.radius
+  pub radius : IsNumber inner (codes "radius") LEAST_RADIUS GREATEST_RADIUS p.radius
   pub feet : ℕ
-  pub half_height : IsNumber inner (codes "half_height") 1 1000 feet
-  pub half : p.half ≡ 120 * feet
+  pub half_height : IsNumber inner (codes "half_height") LEAST_HALF_HEIGHT GREATEST_HALF_HEIGHT feet
+  pub half : p.half ≡ TICKS_PER_FOOT * feet
 
 pub puck_ok : (doc : Members) (p : Puck) → puck_of doc ≡ Ok p → IsReadPuck doc p
 unfolding puck_of puck_table half_height
 puck_ok doc p e =
     let b = bind_ok (puck_table doc) _ p e in
-    let r = bind_ok (number_at b.0 (codes "puck") (codes "radius") 1 5000) _ p b.2 in
+    let r = bind_ok (number_at b.0 (codes "puck") (codes "radius") LEAST_RADIUS GREATEST_RADIUS) _ p b.2 in
     let h = bind_ok (half_height b.0) _ p r.2 in
-    let same : record { radius = r.0; half = 120 * h.0 } ≡ p = same_ok {E = ModelFault} _ _ h.2 in
+    let same : record { radius = r.0; half = TICKS_PER_FOOT * h.0 } ≡ p = same_ok {E = ModelFault} _ _ h.2 in
     record {
       inner = b.0;
       is_table = table_ok doc (codes "puck") (codes "radius half_height") b.0 b.1;
-      radius = subst (IsNumber b.0 (codes "radius") 1 5000) (ap (λ q. q.radius) same) (number_ok b.0 (codes "puck") (codes "radius") 1 5000 r.0 r.1);
+      radius = subst (IsNumber b.0 (codes "radius") LEAST_RADIUS GREATEST_RADIUS) (ap (λ q. q.radius) same) (number_ok b.0 (codes "puck") (codes "radius") LEAST_RADIUS GREATEST_RADIUS r.0 r.1);
       feet = h.0;
-      half_height = number_ok b.0 (codes "puck") (codes "half_height") 1 1000 h.0 h.1;
+      half_height = number_ok b.0 (codes "puck") (codes "half_height") LEAST_HALF_HEIGHT GREATEST_HALF_HEIGHT h.0 h.1;
       half = sym (ap (λ q. q.half) same);
     }
 
 pub record IsReadClosing (doc : Members) (c : Closing) : Type 0 where
   pub inner : Members
   pub is_table : IsTable doc (codes "closing") (codes "least greatest") inner
-  pub least : IsNumber inner (codes "least") 1 5000 c.least
-  pub greatest : IsNumber inner (codes "greatest") c.least 5000 c.greatest
+  pub least : IsNumber inner (codes "least") LEAST_CLOSING GREATEST_CLOSING c.least
+  pub greatest : IsNumber inner (codes "greatest") c.least GREATEST_CLOSING c.greatest
 
 pub closing_ok : (doc : Members) (c : Closing) → closing_of doc ≡ Ok c → IsReadClosing doc c
 unfolding closing_of
 closing_ok doc c e =
     let b = bind_ok (closed_table doc (codes "closing") (codes "least greatest")) _ c e in
-    let l = bind_ok (number_at b.0 (codes "closing") (codes "least") 1 5000) _ c b.2 in
-    let g = bind_ok (number_at b.0 (codes "closing") (codes "greatest") l.0 5000) _ c l.2 in
+    let l = bind_ok (number_at b.0 (codes "closing") (codes "least") LEAST_CLOSING GREATEST_CLOSING) _ c b.2 in
+    let g = bind_ok (number_at b.0 (codes "closing") (codes "greatest") l.0 GREATEST_CLOSING) _ c l.2 in
     let made : Closing = record { least = l.0; greatest = g.0 } in
     let same : made ≡ c = same_ok {E = ModelFault} _ _ g.2 in
     subst (IsReadClosing doc) same (record {
       inner = b.0;
       is_table = table_ok doc (codes "closing") (codes "least greatest") b.0 b.1;
-      least = number_ok b.0 (codes "closing") (codes "least") 1 5000 l.0 l.1;
-      greatest = number_ok b.0 (codes "closing") (codes "greatest") l.0 5000 g.0 g.1;
+      least = number_ok b.0 (codes "closing") (codes "least") LEAST_CLOSING GREATEST_CLOSING l.0 l.1;
+      greatest = number_ok b.0 (codes "closing") (codes "greatest") l.0 GREATEST_CLOSING g.0 g.1;
     })
 
 pub record IsReadPilot (doc : Members) (p : Pilot) : Type 0 where
   pub inner : Members
   pub is_table : IsTable doc (codes "pilot") (codes "pull limit") inner
-  pub pull : IsNumber inner (codes "pull") 1 2000 p.pull
-  pub limit : IsNumber inner (codes "limit") p.pull 2000 p.limit
+  pub pull : IsNumber inner (codes "pull") LEAST_PULL GREATEST_LIMIT p.pull
+  pub limit : IsNumber inner (codes "limit") p.pull GREATEST_LIMIT p.limit
 
 pub pilot_ok : (doc : Members) (p : Pilot) → pilot_of doc ≡ Ok p → IsReadPilot doc p
 unfolding pilot_of
 pilot_ok doc p e =
     let b = bind_ok (closed_table doc (codes "pilot") (codes "pull limit")) _ p e in
-    let l = bind_ok (number_at b.0 (codes "pilot") (codes "pull") 1 2000) _ p b.2 in
-    let g = bind_ok (number_at b.0 (codes "pilot") (codes "limit") l.0 2000) _ p l.2 in
+    let l = bind_ok (number_at b.0 (codes "pilot") (codes "pull") LEAST_PULL GREATEST_LIMIT) _ p b.2 in
+    let g = bind_ok (number_at b.0 (codes "pilot") (codes "limit") l.0 GREATEST_LIMIT) _ p l.2 in
     let made : Pilot = record { pull = l.0; limit = g.0 } in
     let same : made ≡ p = same_ok {E = ModelFault} _ _ g.2 in
     subst (IsReadPilot doc) same (record {
       inner = b.0;
       is_table = table_ok doc (codes "pilot") (codes "pull limit") b.0 b.1;
-      pull = number_ok b.0 (codes "pilot") (codes "pull") 1 2000 l.0 l.1;
-      limit = number_ok b.0 (codes "pilot") (codes "limit") l.0 2000 g.0 g.1;
+      pull = number_ok b.0 (codes "pilot") (codes "pull") LEAST_PULL GREATEST_LIMIT l.0 l.1;
+      limit = number_ok b.0 (codes "pilot") (codes "limit") l.0 GREATEST_LIMIT g.0 g.1;
     })
 
 pub record IsReadContact (doc : Members) (z : ℤ) : Type 0 where
   pub inner : Members
   pub is_table : IsTable doc (codes "cost") (codes "contact") inner
   pub contact : HoldsWhole inner (codes "contact") z
-  pub within : unsigned_abs z ≤ 1000000000
+  pub within : IsBetween LEAST_COST GREATEST_COST z
 
 pub contact_ok : (doc : Members) (z : ℤ) → contact_of doc ≡ Ok z → IsReadContact doc z
 unfolding contact_of
 contact_ok doc z e =
     let b = bind_ok (closed_table doc (codes "cost") (codes "contact")) _ z e in
-    let w = whole_at_ok b.0 (codes "cost") (codes "contact") (negsuc 999999999) (pos 1000000000) z (fault_as_ok _ _ z b.2) in
+    let w = whole_at_ok b.0 (codes "cost") (codes "contact") LEAST_COST GREATEST_COST z (fault_as_ok _ _ z b.2) in
     record {
       inner = b.0;
       is_table = table_ok doc (codes "cost") (codes "contact") b.0 b.1;
       contact = w.0;
-      within = abs_within 999999999 z w.1 w.2;
+      within = record { low = w.1; high = w.2 };
     }
 
 pub record IsReadNumbers (doc : Members) (n : Numbers) : Type 0 where

@@ -1,6 +1,7 @@
 -- An axis is made of numbers that rise, and of no others.
 use Rattle.std.proofs.Common.{◌≡◌, ℕ, zero, suc, ◌+◌, ◌<◌, ◌≤◌, Bool, true, false, T, List, [], ◌∷◌, length, ℤ, ◌<ℤ◌, int_lt, nat_lt, Option, Some, None, Result, Ok, Err, refl, inl, inr, arith}
 use Rattle.std.proofs.lemmas.Bool.{cases_Bool, false≢true, ltb-false, le-ltb}
+use Rattle.acas_units.specs.declared.limits.TheConstants.{LEAST_VERTICES, GREATEST_VERTICES}
 use Rattle.acas_spec.specs.Axis.{IsAxis, Rises, place_value}
 use Rattle.acas_spec.proofs.Each.{same_ok}
 use Rattle.acas_grid.specs.Axis.{axis_of, first_fall, rising_or_fault}
@@ -45,7 +46,7 @@ rises_falls_nowhere place (a ∷ b ∷ rest) h =
 refused : (f : AxisFault) (zs : List ℤ) → ◌≡◌ {A = Result (List ℤ) AxisFault} (Err f) (Ok zs) → ⊥
 refused f zs e = cc
 
-by_fall : (values axis : List ℤ) (fall : Option ℕ) → first_fall 0 values ≡ fall → rising_or_fault values fall ≡ Ok axis → 2 ≤ length values → length values ≤ 129 → (values ≡ axis) × IsAxis values
+by_fall : (values axis : List ℤ) (fall : Option ℕ) → first_fall 0 values ≡ fall → rising_or_fault values fall ≡ Ok axis → LEAST_VERTICES ≤ length values → length values ≤ GREATEST_VERTICES → (values ≡ axis) × IsAxis values
 unfolding Rises
 by_fall values axis None none given low high = (same_ok {E = AxisFault} values axis given, record { at_least = low; at_most = high; rising = falls_nowhere 0 values none })
 by_fall values axis (Some place) some given low high = absurd (refused (NotRising place) axis given)
@@ -54,9 +55,9 @@ by_fall values axis (Some place) some given low high = absurd (refused (NotRisin
 pub axis_is : (values axis : List ℤ) → axis_of values ≡ Ok axis → (values ≡ axis) × IsAxis values
 unfolding axis_of
 axis_is values axis is =
-    elim (cases_Bool (nat_lt (length values) 2)) [
+    elim (cases_Bool (nat_lt (length values) LEAST_VERTICES)) [
       | inl short ↦ absurd (refused TooShort axis (rw short at is))
-      | inr enough ↦ elim (cases_Bool (nat_lt 129 (length values))) [
+      | inr enough ↦ elim (cases_Bool (nat_lt GREATEST_VERTICES (length values))) [
         | inl long ↦ absurd (refused TooLong axis (rw (enough, long) at is))
         | inr few ↦ by_fall values axis (first_fall 0 values) refl (rw (enough, few) at is) (ltb-false _ _ enough) (ltb-false _ _ few)
       ]

@@ -1,4 +1,4 @@
--- An accepted text says its model.
+-- A text that is read says its model.
 use Rattle.std.proofs.Common.{◌≡◌, ℕ, ◌<◌, false, List, [], length, map, get_or, codes, pos, IsUtf8, Option, Some, None, Result, Ok, Err, refl, sym, subst, ap, ◌∙◌, inl, inr, arith}
 use Rattle.std.specs.Str.{is_utf8}
 use Rattle.std.proofs.lemmas.Bool.{cases_Bool}
@@ -7,26 +7,28 @@ use Rattle.std.proofs.lemmas.Str.{IsUtf8-from_is_utf8}
 use Rattle.toml.specs.Data.{Data, Members, no_members, table, boolean}
 use Rattle.toml.specs.Data as datum
 use Rattle.toml.specs.Parse.{parse_document}
+use Rattle.acas_units.specs.declared.limits.TheConstants.{MODEL_VERSION}
 use Rattle.acas_spec.specs.Model.{ModelData}
 use Rattle.acas_spec.specs.declared.parts.SigmaPoint.{SigmaPoint}
 use Rattle.acas_spec.proofs.Each.{bind_ok, same_ok}
 use Rattle.acas_model.specs.declared.axes.Axes.{Axes}
-use Rattle.acas_model.specs.declared.numbers.Numbers.{Numbers}
+use Rattle.acas_base.specs.declared.numbers.Numbers.{Numbers}
 use Rattle.acas_model.specs.declared.fault.ModelFault.{ModelFault}
 use Rattle.acas_model.specs.declared.fault.ModelFault.TheVariants.{NotToml}
 use Rattle.acas_model.specs.Document.{or_not_toml, document_of}
 use Rattle.acas_model.specs.Axes.{axes_of}
 use Rattle.acas_model.specs.Numbers.{numbers_of}
 use Rattle.acas_model.specs.Choices.{Advised, advised_of}
-use Rattle.acas_model.specs.Noise.{points_of, weights}
-use Rattle.acas_model.specs.Whole.{top_keys, version_of, horizon_of, window, few_entries, grid_from, model_with, model_in, model_of}
+use Rattle.acas_model.specs.Noise.{sigmas_of, weights}
+use Rattle.acas_base.specs.View.{model_with}
+use Rattle.acas_model.specs.Whole.{top_keys, version_of, horizon_of, window, few_entries, grid_from, model_in, model_of}
 use Rattle.acas_model.specs.Text.{HasOnly, HoldsWhole, HoldsList, HoldsTable, HoldsTables, IsGridText, IsPuckText, IsClosingText, IsPilotText, IsCostText, IsAdvisoryText, IsSigmaText, IsDocumentText, IsModelText}
 use Rattle.acas_model.proofs.Places.{same_lists}
 use Rattle.acas_model.proofs.ReadNumbers.{step_ok, passed_ok, only_ok, number_ok, IsTable, IsReadNumbers, numbers_ok}
 use Rattle.acas_model.proofs.ReadAxes.{IsReadAxes, axes_ok}
 use Rattle.acas_model.proofs.ReadChoices.{IsReadChoices}
-use Rattle.acas_model.proofs.ReadNoise.{AreReadPoints, points_ok, weights_ok}
-use Rattle.acas_model.proofs.Accepted.{IsReadAdvised, advised_ok, horizon_ok, window_ok, entries_ok, accepted}
+use Rattle.acas_model.proofs.ReadNoise.{AreReadSigmas, sigmas_ok, weights_ok}
+use Rattle.acas_model.proofs.WithinLimits.{IsReadAdvised, advised_ok, horizon_ok, window_ok, entries_ok, within_limits}
 
 -- ---- the document
 
@@ -86,9 +88,9 @@ table_there ds k t within is = ap members (sym is) ∙ sym (get_or-map members d
 table_says : (doc : Members) (key known : List ℕ) (inner : Members) (P : Members → Type 0) → IsTable doc key known inner → P inner → HoldsTable doc key known P
 table_says doc key known inner P is says = record { inner = inner; there = is.there; keys = is.keys; says = says }
 
-advisories_say : (doc : Members) (horizon : ℕ) (axes : Axes) (numbers : Numbers) (advised : Advised) (points : List SigmaPoint) → IsReadAdvised doc advised
-    → HoldsTables doc (codes "advisory") (codes "name lo hi choices costs") (length advised.advisories) (IsAdvisoryText (model_with (grid_from horizon axes advised) numbers advised.advisories advised.choices points))
-advisories_say doc horizon axes numbers advised points given = record {
+advisories_say : (doc : Members) (horizon : ℕ) (axes : Axes) (numbers : Numbers) (advised : Advised) (sigmas : List SigmaPoint) → IsReadAdvised doc advised
+    → HoldsTables doc (codes "advisory") (codes "name lo hi choices costs") (length advised.advisories) (IsAdvisoryText (model_with (grid_from horizon axes advised) numbers advised.advisories advised.choices sigmas))
+advisories_say doc horizon axes numbers advised sigmas given = record {
   tables = tables given.items;
   there = subst (HoldsList doc (codes "advisory")) (tables_again given.items (λ k within. ((given.each.at k within).inner, (given.each.at k within).there))) given.there;
   long = tables_long given.items ∙ sym given.each.long;
@@ -103,7 +105,7 @@ advisories_say doc horizon axes numbers advised points given = record {
       let here = table_there given.items k item.inner in_items item.there in
       let again : list.inner ≡ item.inner = table_there given.items k list.inner in_items list.there ∙ sym here in
       let chosen = subst (λ t. IsReadChoices advised.advisories t (get_or advised.choices k [])) again list.says in
-      subst (IsAdvisoryText (model_with (grid_from horizon axes advised) numbers advised.advisories advised.choices points) k) here (record {
+      subst (IsAdvisoryText (model_with (grid_from horizon axes advised) numbers advised.advisories advised.choices sigmas) k) here (record {
         name = item.says.name;
         lo = item.says.lo;
         hi = item.says.hi;
@@ -112,8 +114,8 @@ advisories_say doc horizon axes numbers advised points given = record {
       });
 }
 
-points_say : (doc : Members) (m : ModelData) → AreReadPoints doc m.points → HoldsTables doc (codes "sigma") (codes "weight own intruder") (length m.points) (IsSigmaText m)
-points_say doc m read = record {
+sigmas_say : (doc : Members) (m : ModelData) → AreReadSigmas doc m.sigmas → HoldsTables doc (codes "sigma") (codes "weight own intruder") (length m.sigmas) (IsSigmaText m)
+sigmas_say doc m read = record {
   tables = tables read.items;
   there = subst (HoldsList doc (codes "sigma")) (tables_again read.items (λ k within. ((read.at k within).inner, (read.at k within).there))) read.there;
   long = tables_long read.items ∙ sym read.long;
@@ -128,23 +130,23 @@ points_say doc m read = record {
 }
 
 -- the version, which is read and not kept
-version_said : (doc : Members) (n : ℕ) → version_of doc ≡ Ok n → HoldsWhole doc (codes "version") (pos 1)
+version_said : (doc : Members) (n : ℕ) → version_of doc ≡ Ok n → HoldsWhole doc (codes "version") (pos MODEL_VERSION)
 unfolding version_of
 version_said doc n e =
-    let r = number_ok doc [] (codes "version") 1 1 n e in
-    let one : n ≡ 1 = omega (arith, r.low, r.high) in
+    let r = number_ok doc [] (codes "version") MODEL_VERSION MODEL_VERSION n e in
+    let one : n ≡ MODEL_VERSION = omega (arith, r.low, r.high) in
     subst (λ k. HoldsWhole doc (codes "version") (pos k)) one r.holds
 
 keys_said : (doc : Members) → top_keys doc ≡ Ok tt → HasOnly (codes "version horizon grid puck closing pilot cost advisory sigma") doc
 unfolding top_keys
 keys_said doc e = only_ok [] (codes "version horizon grid puck closing pilot cost advisory sigma") doc e
 
-document_says : (doc : Members) (horizon : ℕ) (axes : Axes) (numbers : Numbers) (advised : Advised) (points : List SigmaPoint)
-    → HasOnly (codes "version horizon grid puck closing pilot cost advisory sigma") doc → HoldsWhole doc (codes "version") (pos 1) → HoldsWhole doc (codes "horizon") (pos horizon)
-    → IsReadAxes doc axes → IsReadNumbers doc numbers → IsReadAdvised doc advised → AreReadPoints doc points
-    → IsDocumentText (model_with (grid_from horizon axes advised) numbers advised.advisories advised.choices points) doc
-document_says doc horizon axes numbers advised points keys version seconds axis number given point =
-    let m = model_with (grid_from horizon axes advised) numbers advised.advisories advised.choices points in
+document_says : (doc : Members) (horizon : ℕ) (axes : Axes) (numbers : Numbers) (advised : Advised) (sigmas : List SigmaPoint)
+    → HasOnly (codes "version horizon grid puck closing pilot cost advisory sigma") doc → HoldsWhole doc (codes "version") (pos MODEL_VERSION) → HoldsWhole doc (codes "horizon") (pos horizon)
+    → IsReadAxes doc axes → IsReadNumbers doc numbers → IsReadAdvised doc advised → AreReadSigmas doc sigmas
+    → IsDocumentText (model_with (grid_from horizon axes advised) numbers advised.advisories advised.choices sigmas) doc
+document_says doc horizon axes numbers advised sigmas keys version seconds axis number given sigma =
+    let m = model_with (grid_from horizon axes advised) numbers advised.advisories advised.choices sigmas in
     record {
       keys = keys;
       version = version;
@@ -154,8 +156,8 @@ document_says doc horizon axes numbers advised points keys version seconds axis 
       closing = table_says doc (codes "closing") (codes "least greatest") number.closing.inner (IsClosingText m) number.closing.is_table (record { least = number.closing.least.holds; greatest = number.closing.greatest.holds });
       pilot = table_says doc (codes "pilot") (codes "pull limit") number.pilot.inner (IsPilotText m) number.pilot.is_table (record { pull = number.pilot.pull.holds; limit = number.pilot.limit.holds });
       cost = table_says doc (codes "cost") (codes "contact") number.contact.inner (IsCostText m) number.contact.is_table (record { contact = number.contact.contact });
-      advisory = advisories_say doc horizon axes numbers advised points given;
-      sigma = points_say doc m point;
+      advisory = advisories_say doc horizon axes numbers advised sigmas given;
+      sigma = sigmas_say doc m sigma;
     }
 
 pub said : (bytes : List ℕ) (m : ModelData) → model_of bytes ≡ Ok m → IsModelText bytes m
@@ -170,7 +172,7 @@ said bytes m e =
     let a = bind_ok (axes_of doc) _ m h.2 in
     let n = bind_ok (numbers_of doc) _ m a.2 in
     let g = bind_ok (advised_of doc) _ m n.2 in
-    let p = bind_ok (points_of doc) _ m g.2 in
+    let p = bind_ok (sigmas_of doc) _ m g.2 in
     let w = step_ok (weights p.0) _ m p.2 in
     let t = step_ok (window h.0 n.0.puck.radius n.0.closing.least) _ m w.1 in
     let f = step_ok (few_entries (grid_from h.0 a.0 g.0)) _ m t.1 in
@@ -180,12 +182,12 @@ said bytes m e =
     let axis = axes_ok doc a.0 a.1 in
     let number = numbers_ok doc n.0 n.1 in
     let given = advised_ok doc g.0 g.1 in
-    let point = points_ok doc p.0 p.1 in
+    let sigma = sigmas_ok doc p.0 p.1 in
     subst (IsModelText bytes) same (record {
       text = is_doc.text;
       doc = doc;
       toml = is_doc.toml;
-      keys = document_says doc h.0 a.0 n.0 g.0 p.0 (keys_said doc k.0) (version_said doc v.0 v.1) seconds.holds axis number given point;
-      accepted = accepted doc h.0 a.0 n.0 g.0 p.0 seconds axis number given point (weights_ok p.0 w.0) (window_ok h.0 n.0.puck.radius n.0.closing.least t.0) (entries_ok (grid_from h.0 a.0 g.0) f.0);
+      keys = document_says doc h.0 a.0 n.0 g.0 p.0 (keys_said doc k.0) (version_said doc v.0 v.1) seconds.holds axis number given sigma;
+      within = within_limits doc h.0 a.0 n.0 g.0 p.0 seconds axis number given sigma (weights_ok p.0 w.0) (window_ok h.0 n.0.puck.radius n.0.closing.least t.0) (entries_ok (grid_from h.0 a.0 g.0) f.0);
       no_delay = refl;
     })

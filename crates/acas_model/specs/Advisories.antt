@@ -1,15 +1,17 @@
 -- The list `advisory`: the names and intervals of the advisories.
-use Rattle.std.specs.Prelude.{ℕ, List, [], length, codes, pos, negsuc, int_le, if◌then◌else◌, None, Result, Ok, Err}
+use Rattle.std.specs.Prelude.{ℕ, List, [], length, codes, int_le, if◌then◌else◌, Option, None, Result, Ok, Err}
 use Rattle.std.specs.List.{list_any}
 use Rattle.std.specs.Str.{bytes_eq}
 use Rattle.toml.specs.Data.{Data, Members}
+use Rattle.acas_units.specs.declared.limits.TheConstants.{LEAST_RATE, GREATEST_RATE}
 use Rattle.acas_spec.specs.Steps.{◌>>=◌, ◌>>◌, each}
-use Rattle.acas_spec.specs.Accepted.{is_name}
+use Rattle.acas_spec.specs.Limits.{is_name}
 use Rattle.acas_spec.specs.declared.parts.Advisory.{Advisory}
 use Rattle.acas_doc.specs.declared.fault.DocKind.TheVariants.{WrongKind}
 use Rattle.acas_doc.specs.Keys.{text_at, whole_at, table_item}
 use Rattle.acas_doc.specs.Known.{only_known}
 use Rattle.acas_doc.specs.Paths.{key_path, item_path}
+use Rattle.acas_model.specs.declared.fault.NamePlace.{NamePlace}
 use Rattle.acas_model.specs.declared.fault.ModelFault.{ModelFault}
 use Rattle.acas_model.specs.declared.fault.ModelFault.TheVariants.{Doc, Interval, RepeatedName}
 use Rattle.acas_model.specs.Document.{in_doc}
@@ -25,8 +27,8 @@ unfoldable pub advisory_of : Members → List ℕ → ℕ → Result Advisory Mo
 advisory_of table path place = do
   in_doc (only_known path (codes "name lo hi choices costs") table)
   name ← name_at table path
-  lo ← in_doc (whole_at table path (codes "lo") (negsuc 9999) (pos 10000))
-  hi ← in_doc (whole_at table path (codes "hi") (negsuc 9999) (pos 10000))
+  lo ← in_doc (whole_at table path (codes "lo") LEAST_RATE GREATEST_RATE)
+  hi ← in_doc (whole_at table path (codes "hi") LEAST_RATE GREATEST_RATE)
   if int_le lo hi then Ok (record { name = name; lo = lo; hi = hi }) else Err (Interval place)
 
 -- an item of the list is such a table
@@ -39,9 +41,15 @@ advisory_item place d = do
 unfoldable pub advisory_items : List Data → Result (List Advisory) ModelFault
 advisory_items ds = each (λ before d. advisory_item (length before) d) [] ds
 
+-- the place of an advisory's name, or that of one of its choices
+abbrev pub name_place : ℕ → Option ℕ → NamePlace
+name_place advisory choice = record { advisory = advisory; choice = choice }
+
 -- an advisory whose name does not stand before it
 unfoldable pub new_name : List Advisory → Advisory → Result Advisory ModelFault
-new_name before a = if list_any (λ b. bytes_eq b.name a.name) before then Err (RepeatedName (record { advisory = length before; choice = None })) else Ok a
+new_name before a =
+    if list_any (λ b. bytes_eq b.name a.name) before then Err (RepeatedName (name_place (length before) None))
+    else Ok a
 
 -- the names differ
 unfoldable pub distinct : List Advisory → Result (List Advisory) ModelFault

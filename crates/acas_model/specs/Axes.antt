@@ -1,6 +1,8 @@
 -- The table `grid`: the three axes.
-use Rattle.std.specs.Prelude.{ℕ, ◌-◌, ◌^◌, List, [], length, codes, ℤ, pos, negsuc, ◌*ℤ◌, Result, Ok}
+use Rattle.std.specs.Prelude.{ℕ, ◌-◌, ◌^◌, List, [], length, codes, ℤ, pos, ◌*ℤ◌, Result, Ok}
 use Rattle.toml.specs.Data.{Data, Members}
+use Rattle.acas_units.specs.declared.limits.TheConstants.{LEAST_ALTITUDE, GREATEST_ALTITUDE, LEAST_RATE, GREATEST_RATE}
+use Rattle.acas_units.specs.declared.ticks.TheConstants.{TICKS_PER_FOOT}
 use Rattle.acas_spec.specs.Steps.{◌>>=◌, fault_as, each}
 use Rattle.acas_doc.specs.Keys.{list_at, whole_item}
 use Rattle.acas_doc.specs.Paths.{key_path}
@@ -12,37 +14,54 @@ use Rattle.acas_model.specs.declared.fault.ModelFault.{ModelFault}
 use Rattle.acas_model.specs.declared.fault.ModelFault.TheVariants.{Axis}
 use Rattle.acas_model.specs.Document.{in_doc, closed_table}
 
--- a whole number from -10000 to 10000, in units of which so many make one of the file's
-unfoldable pub scaled_item : List ℕ → ℕ → ℕ → Data → Result ℤ ModelFault
-scaled_item path scale place d = do
-  z ← in_doc (whole_item path place (negsuc 9999) (pos 10000) d)
-  Ok (pos scale *ℤ z)
+-- the least and the greatest number on an axis of the file, in feet or ft/min
+abbrev pub least_on : AxisName → ℤ
+least_on Altitude = LEAST_ALTITUDE
+least_on OwnRate = LEAST_RATE
+least_on IntruderRate = LEAST_RATE
+
+abbrev pub greatest_on : AxisName → ℤ
+greatest_on Altitude = GREATEST_ALTITUDE
+greatest_on OwnRate = GREATEST_RATE
+greatest_on IntruderRate = GREATEST_RATE
+
+-- what a number of the file is in the model: altitudes are in feet and then in ticks, rates stay in ft/min
+abbrev pub in_model : AxisName → ℤ → ℤ
+in_model Altitude feet = pos TICKS_PER_FOOT *ℤ feet
+in_model OwnRate rate = rate
+in_model IntruderRate rate = rate
+
+-- a whole number within the limits of the axis, as it is in the model
+unfoldable pub axis_item : AxisName → List ℕ → ℕ → Data → Result ℤ ModelFault
+axis_item name path place d = do
+  number ← in_doc (whole_item path place (least_on name) (greatest_on name) d)
+  Ok (in_model name number)
 
 -- each item of a list is such a number
-unfoldable pub scaled_items : List ℕ → ℕ → List Data → Result (List ℤ) ModelFault
-scaled_items path scale ds = each (λ before d. scaled_item path scale (length before) d) [] ds
+unfoldable pub axis_items : AxisName → List ℕ → List Data → Result (List ℤ) ModelFault
+axis_items name path ds = each (λ before d. axis_item name path (length before) d) [] ds
 
 -- the list at a key of `grid`, of any length; then its items; then that they make an axis
-unfoldable pub axis_at : Members → List ℕ → ℕ → AxisName → Result (List ℤ) ModelFault
-axis_at grid key scale name = do
+unfoldable pub axis_at : Members → List ℕ → AxisName → Result (List ℤ) ModelFault
+axis_at grid key name = do
   items ← in_doc (list_at grid (codes "grid") key 0 (2 ^ 32 - 1))
-  values ← scaled_items (key_path (codes "grid") key) scale items
+  values ← axis_items name (key_path (codes "grid") key) items
   fault_as (Axis name) (axis_of values)
 
 -- `grid` is a table that has no other keys
 unfoldable pub grid_table : Members → Result Members ModelFault
 grid_table doc = closed_table doc (codes "grid") (codes "altitude own_rate intruder_rate")
 
--- altitudes are feet in the file and ticks in the model, 120 to the foot
+-- the altitudes, in ticks
 unfoldable pub altitudes : Members → Result (List ℤ) ModelFault
-altitudes grid = axis_at grid (codes "altitude") 120 Altitude
+altitudes grid = axis_at grid (codes "altitude") Altitude
 
--- rates are in ft/min in the file and in the model
+-- the rates, in ft/min
 unfoldable pub own_rates : Members → Result (List ℤ) ModelFault
-own_rates grid = axis_at grid (codes "own_rate") 1 OwnRate
+own_rates grid = axis_at grid (codes "own_rate") OwnRate
 
 unfoldable pub intruder_rates : Members → Result (List ℤ) ModelFault
-intruder_rates grid = axis_at grid (codes "intruder_rate") 1 IntruderRate
+intruder_rates grid = axis_at grid (codes "intruder_rate") IntruderRate
 
 -- `grid`, then each axis in turn
 unfoldable pub axes_of : Members → Result Axes ModelFault

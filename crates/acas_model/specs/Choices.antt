@@ -1,17 +1,19 @@
 -- The lists `choices` and `costs` of each advisory.
-use Rattle.std.specs.Prelude.{ℕ, ◌-◌, ◌^◌, List, [], length, map, codes, ℤ, pos, negsuc, ◌==◌, if◌then◌else◌, Option, Some, None, Result, Ok, Err, position, zip}
+use Rattle.std.specs.Prelude.{ℕ, ◌-◌, ◌^◌, List, [], length, map, codes, ℤ, ◌==◌, if◌then◌else◌, Option, Some, None, Result, Ok, Err, position, zip}
 use Rattle.std.specs.List.{list_any}
 use Rattle.std.specs.Str.{bytes_eq}
 use Rattle.toml.specs.Data.{Data, Members}
+use Rattle.acas_units.specs.declared.limits.TheConstants.{LEAST_COST, GREATEST_COST, LEAST_ADVISORIES, GREATEST_ADVISORIES}
 use Rattle.acas_spec.specs.Steps.{◌>>=◌, ◌>>◌, each}
 use Rattle.acas_spec.specs.declared.parts.Advisory.{Advisory}
 use Rattle.acas_spec.specs.declared.parts.Choice.{Choice}
 use Rattle.acas_doc.specs.Keys.{list_at, whole_item, text_item, table_item}
+use Rattle.acas_doc.specs.Values.{data_at}
 use Rattle.acas_doc.specs.Paths.{key_path, item_path}
 use Rattle.acas_model.specs.declared.fault.ModelFault.{ModelFault}
 use Rattle.acas_model.specs.declared.fault.ModelFault.TheVariants.{NoChoice, UnknownName, RepeatedName}
 use Rattle.acas_model.specs.Document.{in_doc}
-use Rattle.acas_model.specs.Advisories.{advisory_items, distinct}
+use Rattle.acas_model.specs.Advisories.{advisory_items, distinct, name_place}
 
 -- the number of the advisory of this name
 abbrev pub named : List Advisory → List ℕ → Option ℕ
@@ -19,12 +21,14 @@ named advisories name = position (λ a. bytes_eq a.name name) advisories
 
 -- the number of an advisory, unless the choice at this place names none
 abbrev pub or_unknown : ℕ → ℕ → Option ℕ → Result ℕ ModelFault
-or_unknown advisory place None = Err (UnknownName (record { advisory = advisory; choice = Some place }))
+or_unknown advisory place None = Err (UnknownName (name_place advisory (Some place)))
 or_unknown advisory place (Some a) = Ok a
 
 -- a choice that does not stand before it in the list
 abbrev pub first_time : ℕ → List ℕ → ℕ → Result ℕ ModelFault
-first_time advisory before a = if list_any (λ b. b == a) before then Err (RepeatedName (record { advisory = advisory; choice = Some (length before) })) else Ok a
+first_time advisory before a =
+    if list_any (λ b. b == a) before then Err (RepeatedName (name_place advisory (Some (length before))))
+    else Ok a
 
 -- a choice is a text, an advisory's name, and stands here for the first time
 unfoldable pub choice_item : List Advisory → List ℕ → ℕ → List ℕ → Data → Result ℕ ModelFault
@@ -33,13 +37,18 @@ choice_item advisories path advisory before d = do
   a ← or_unknown advisory (length before) (named advisories name)
   first_time advisory before a
 
+-- the choice of a list after those before it
+abbrev pub next_choice : List Advisory → List ℕ → ℕ → List ℕ → List Data → Result ℕ ModelFault
+next_choice advisories path advisory before ds =
+    choice_item advisories path advisory before (data_at ds (length before))
+
 -- the numbers of the advisories that a list names
 unfoldable pub choice_items : List Advisory → List ℕ → ℕ → List Data → Result (List ℕ) ModelFault
 choice_items advisories path advisory ds = each (choice_item advisories path advisory) [] ds
 
--- a cost is a whole number from -10^9 to 10^9
+-- a cost is a whole number within the limits of costs
 unfoldable pub cost_item : List ℕ → ℕ → Data → Result ℤ ModelFault
-cost_item path place d = in_doc (whole_item path place (negsuc 999999999) (pos 1000000000) d)
+cost_item path place d = in_doc (whole_item path place LEAST_COST GREATEST_COST d)
 
 -- the costs of a list
 unfoldable pub cost_items : List ℕ → List Data → Result (List ℤ) ModelFault
@@ -78,10 +87,10 @@ pub record Advised : Type 0 where
   pub advisories : List Advisory
   pub choices : List (List Choice)
 
--- from 2 to 16 items; each advisory; that the names differ; the choices of each advisory
+-- the list, of a length within the limits; each advisory; that the names differ; the choices of each advisory
 unfoldable pub advised_of : Members → Result Advised ModelFault
 advised_of doc = do
-  items ← in_doc (list_at doc [] (codes "advisory") 2 16)
+  items ← in_doc (list_at doc [] (codes "advisory") LEAST_ADVISORIES GREATEST_ADVISORIES)
   advisories ← advisory_items items
   distinct advisories
   choices ← choice_lists advisories items

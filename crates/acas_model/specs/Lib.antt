@@ -5,7 +5,6 @@ pub mod Numbers
 pub mod Advisories
 pub mod Choices
 pub mod Noise
-pub mod Whole
 pub mod View
-pub mod Advices
+pub mod Whole
 pub mod Text

@@ -1,13 +1,15 @@
 -- The tables `puck`, `closing`, `pilot` and `cost`.
-use Rattle.std.specs.Prelude.{ℕ, ◌*◌, codes, ℤ, pos, negsuc, Result, Ok}
+use Rattle.std.specs.Prelude.{ℕ, ◌*◌, codes, ℤ, Result, Ok}
 use Rattle.toml.specs.Data.{Members}
+use Rattle.acas_units.specs.declared.limits.TheConstants.{LEAST_RADIUS, GREATEST_RADIUS, LEAST_HALF_HEIGHT, GREATEST_HALF_HEIGHT, LEAST_CLOSING, GREATEST_CLOSING, LEAST_PULL, GREATEST_LIMIT, LEAST_COST, GREATEST_COST}
+use Rattle.acas_units.specs.declared.ticks.TheConstants.{TICKS_PER_FOOT}
 use Rattle.acas_spec.specs.Steps.{◌>>=◌}
 use Rattle.acas_doc.specs.Keys.{whole_at}
 use Rattle.acas_model.specs.declared.fault.ModelFault.{ModelFault}
-use Rattle.acas_model.specs.declared.numbers.Puck.{Puck}
-use Rattle.acas_model.specs.declared.numbers.Closing.{Closing}
-use Rattle.acas_model.specs.declared.numbers.Pilot.{Pilot}
-use Rattle.acas_model.specs.declared.numbers.Numbers.{Numbers}
+use Rattle.acas_base.specs.declared.numbers.Puck.{Puck}
+use Rattle.acas_base.specs.declared.numbers.Closing.{Closing}
+use Rattle.acas_base.specs.declared.numbers.Pilot.{Pilot}
+use Rattle.acas_base.specs.declared.numbers.Numbers.{Numbers}
 use Rattle.acas_model.specs.Document.{in_doc, number_at, closed_table}
 
 -- `puck` is a table that has no other keys
@@ -16,37 +18,37 @@ puck_table doc = closed_table doc (codes "puck") (codes "radius half_height")
 
 -- half of the puck's height, in feet
 unfoldable pub half_height : Members → Result ℕ ModelFault
-half_height puck = number_at puck (codes "puck") (codes "half_height") 1 1000
+half_height puck = number_at puck (codes "puck") (codes "half_height") LEAST_HALF_HEIGHT GREATEST_HALF_HEIGHT
 
--- the puck: its radius, in ft, and half of its height, which is feet in the file and ticks in the model, 120 to the foot
+-- the puck: its radius, in ft, and half of its height, which is feet in the file and ticks in the model
 unfoldable pub puck_of : Members → Result Puck ModelFault
 puck_of doc = do
   puck ← puck_table doc
-  radius ← number_at puck (codes "puck") (codes "radius") 1 5000
+  radius ← number_at puck (codes "puck") (codes "radius") LEAST_RADIUS GREATEST_RADIUS
   feet ← half_height puck
-  Ok (record { radius = radius; half = 120 * feet })
+  Ok (record { radius = radius; half = TICKS_PER_FOOT * feet })
 
 -- the least closing speed, then the greatest, which is not below it, in ft/s
 unfoldable pub closing_of : Members → Result Closing ModelFault
 closing_of doc = do
   closing ← closed_table doc (codes "closing") (codes "least greatest")
-  least ← number_at closing (codes "closing") (codes "least") 1 5000
-  greatest ← number_at closing (codes "closing") (codes "greatest") least 5000
+  least ← number_at closing (codes "closing") (codes "least") LEAST_CLOSING GREATEST_CLOSING
+  greatest ← number_at closing (codes "closing") (codes "greatest") least GREATEST_CLOSING
   Ok (record { least = least; greatest = greatest })
 
--- the least acceleration of a pilot who follows an advisory, then the greatest, which is not below it, in ft/min per second
+-- the least acceleration of a pilot who follows an advisory, then the greatest, which is not below it
 unfoldable pub pilot_of : Members → Result Pilot ModelFault
 pilot_of doc = do
   pilot ← closed_table doc (codes "pilot") (codes "pull limit")
-  pull ← number_at pilot (codes "pilot") (codes "pull") 1 2000
-  limit ← number_at pilot (codes "pilot") (codes "limit") pull 2000
+  pull ← number_at pilot (codes "pilot") (codes "pull") LEAST_PULL GREATEST_LIMIT
+  limit ← number_at pilot (codes "pilot") (codes "limit") pull GREATEST_LIMIT
   Ok (record { pull = pull; limit = limit })
 
 -- the cost of contact, in units
 unfoldable pub contact_of : Members → Result ℤ ModelFault
 contact_of doc = do
   cost ← closed_table doc (codes "cost") (codes "contact")
-  in_doc (whole_at cost (codes "cost") (codes "contact") (negsuc 999999999) (pos 1000000000))
+  in_doc (whole_at cost (codes "cost") (codes "contact") LEAST_COST GREATEST_COST)
 
 -- the four tables, each in turn
 unfoldable pub numbers_of : Members → Result Numbers ModelFault

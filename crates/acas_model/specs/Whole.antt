@@ -1,66 +1,53 @@
--- The rules of a model's text, in the order in which they are looked at: the model that the text says, or the first
--- rule that it fails.
+-- The rules of a model's text, in the order in which they are looked at: the model that the text says, or the
+-- first rule that it fails.
 use Rattle.std.specs.Prelude.{ℕ, ◌+◌, ◌*◌, List, [], length, codes, pos, nat_le, if◌then◌else◌, Result, Ok, Err}
 use Rattle.toml.specs.Data.{Members}
+use Rattle.acas_units.specs.declared.limits.TheConstants.{MODEL_VERSION, LEAST_HORIZON, GREATEST_HORIZON, WINDOW_SECONDS, GREATEST_ENTRIES}
 use Rattle.acas_spec.specs.Steps.{◌>>=◌, ◌>>◌}
 use Rattle.acas_spec.specs.Model.{GridData, ModelData, entries}
-use Rattle.acas_spec.specs.declared.parts.Advisory.{Advisory}
-use Rattle.acas_spec.specs.declared.parts.Choice.{Choice}
-use Rattle.acas_spec.specs.declared.parts.SigmaPoint.{SigmaPoint}
+use Rattle.acas_base.specs.View.{model_with}
 use Rattle.acas_doc.specs.Known.{only_known}
 use Rattle.acas_model.specs.declared.axes.Axes.{Axes}
-use Rattle.acas_model.specs.declared.numbers.Numbers.{Numbers}
 use Rattle.acas_model.specs.declared.fault.ModelFault.{ModelFault}
 use Rattle.acas_model.specs.declared.fault.ModelFault.TheVariants.{Window, TooManyEntries}
 use Rattle.acas_model.specs.Document.{in_doc, document_of, number_at}
 use Rattle.acas_model.specs.Axes.{axes_of}
 use Rattle.acas_model.specs.Numbers.{numbers_of}
 use Rattle.acas_model.specs.Choices.{Advised, advised_of}
-use Rattle.acas_model.specs.Noise.{points_of, weights}
+use Rattle.acas_model.specs.Noise.{sigmas_of, weights}
 
 -- the document has no other keys
 unfoldable pub top_keys : Members → Result (Unit {0}) ModelFault
 top_keys doc = in_doc (only_known [] (codes "version horizon grid puck closing pilot cost advisory sigma") doc)
 
--- the version is 1
+-- the version, of which there is one
 unfoldable pub version_of : Members → Result ℕ ModelFault
-version_of doc = number_at doc [] (codes "version") 1 1
+version_of doc = number_at doc [] (codes "version") MODEL_VERSION MODEL_VERSION
 
 -- the horizon in seconds
 unfoldable pub horizon_of : Members → Result ℕ ModelFault
-horizon_of doc = number_at doc [] (codes "horizon") 0 120
+horizon_of doc = number_at doc [] (codes "horizon") LEAST_HORIZON GREATEST_HORIZON
 
 -- a number that is at most another
 abbrev pub at_most : ℕ → ℕ → Result (Unit {0}) ModelFault
 at_most needed allowed = if nat_le needed allowed then Ok tt else Err (Window (pos needed) (pos allowed))
 
--- at the least closing speed, the horizon and the way through the puck are over within 600 seconds
+-- at the least closing speed, the horizon and the way through the puck are over within the window
 unfoldable pub window : ℕ → ℕ → ℕ → Result (Unit {0}) ModelFault
-window horizon radius least = at_most (horizon * least + 2 * radius) (600 * least)
+window horizon radius least = at_most (horizon * least + 2 * radius) (WINDOW_SECONDS * least)
 
--- a table over the grid has at most 4000000 entries
+-- a table over the grid has not too many entries
 unfoldable pub few_entries : GridData → Result (Unit {0}) ModelFault
-few_entries g = if nat_le (entries g) 4000000 then Ok tt else Err (TooManyEntries (entries g))
+few_entries g = if nat_le (entries g) GREATEST_ENTRIES then Ok tt else Err (TooManyEntries (entries g))
 
 -- the grid of these parts
 abbrev pub grid_from : ℕ → Axes → Advised → GridData
-grid_from horizon axes advised = record { h = axes.h; v0 = axes.v0; v1 = axes.v1; advisories = length advised.advisories; horizon = horizon }
-
--- the model of these parts; its pilot follows an advisory at once
-abbrev pub model_with : GridData → Numbers → List Advisory → List (List Choice) → List SigmaPoint → ModelData
-model_with grid numbers advisories choices points = record {
-  grid = grid;
-  advisories = advisories;
-  choices = choices;
-  points = points;
-  pull = numbers.pilot.pull;
-  limit = numbers.pilot.limit;
-  delay = 0;
-  radius = numbers.puck.radius;
-  half = numbers.puck.half;
-  least = numbers.closing.least;
-  greatest = numbers.closing.greatest;
-  contact = numbers.contact;
+grid_from horizon axes advised = record {
+  h = axes.h;
+  v0 = axes.v0;
+  v1 = axes.v1;
+  advisories = length advised.advisories;
+  horizon = horizon;
 }
 
 -- the model of a document
@@ -72,11 +59,11 @@ model_in doc = do
   axes ← axes_of doc
   numbers ← numbers_of doc
   advised ← advised_of doc
-  points ← points_of doc
-  weights points
+  sigmas ← sigmas_of doc
+  weights sigmas
   window horizon numbers.puck.radius numbers.closing.least
   few_entries (grid_from horizon axes advised)
-  Ok (model_with (grid_from horizon axes advised) numbers advised.advisories advised.choices points)
+  Ok (model_with (grid_from horizon axes advised) numbers advised.advisories advised.choices sigmas)
 
 -- the model that a text says
 unfoldable pub model_of : List ℕ → Result ModelData ModelFault

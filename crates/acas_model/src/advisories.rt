@@ -1,17 +1,18 @@
 //! The list `advisory`: the names and intervals of the advisories.
-ghost use Rattle.std.specs.Prelude.{◌≡◌, ◌<◌, ◌^◌, length, map, IfOk};
+ghost use Rattle.std.specs.Prelude.{◌≡◌, ◌<◌, ◌^◌, length, IfOk};
 ghost use Rattle.std.specs.List.{list_all, list_any};
 ghost use Rattle.std.specs.Str.{bytes_eq};
-ghost use Rattle.toml.specs.View.{view, table_view};
-ghost use Rattle.acas_spec.specs.Accepted.{is_name_byte, is_name};
-ghost use Rattle.acas_doc.specs.Values.{data_at};
+ghost use Rattle.toml.specs.View.{table_view};
+ghost use Rattle.acas_spec.specs.Limits.{is_name_byte, is_name};
 ghost use Rattle.acas_doc.specs.Answers.{Sees};
 ghost use Rattle.acas_model.specs.Answers.{Gives};
+ghost use Rattle.acas_model.specs.View.{data_of, item_at};
 ghost use Rattle.acas_model.specs.Advisories as rules;
 
 use crate::fault::{ModelFault, NamePlace};
 use acas_doc::{DocKind, fault_at, only_keys, path_of_item, table_item, text, whole};
 use acas_spec::{Advisory, Name};
+use acas_units::{GREATEST_NAME_BYTES, GREATEST_RATE, LEAST_NAME_BYTES, LEAST_RATE};
 use std::alloc::Global;
 use toml::{Table, Value};
 
@@ -37,7 +38,7 @@ fn are_name_bytes(bytes: &[u8]) -> bool
 fn is_name(bytes: &[u8]) -> bool
     ensures { result ≡ is_name bytes.now }
 {
-    1 <= bytes.len() && bytes.len() <= 32 && are_name_bytes(bytes)
+    LEAST_NAME_BYTES <= bytes.len() && bytes.len() <= GREATEST_NAME_BYTES && are_name_bytes(bytes)
 }
 
 /// The name in the table of an advisory.
@@ -65,8 +66,8 @@ fn advisory_of(
 {
     only_keys(alloc, table, path, "name lo hi choices costs")?;
     let name = name_at(alloc, table, path)?;
-    let lo = whole(alloc, table, path, "lo", -10_000, 10_000)?;
-    let hi = whole(alloc, table, path, "hi", -10_000, 10_000)?;
+    let lo = whole(alloc, table, path, "lo", LEAST_RATE, GREATEST_RATE)?;
+    let hi = whole(alloc, table, path, "hi", LEAST_RATE, GREATEST_RATE)?;
     if lo <= hi {
         Ok(Advisory { name, lo, hi })
     } else {
@@ -78,7 +79,7 @@ fn advisory_of(
 #[tactic(auto, unfolding(crate::specs::Advisories::advisory_item))]
 fn advisory_item(alloc: Global, items: &[Value], place: u32) -> Result<Advisory, ModelFault>
     requires { place < length items.now }
-    ensures { Gives (λ a. a) result (rules.advisory_item place (data_at (map view items.now) place)) }
+    ensures { Gives (λ a. a) result (rules.advisory_item place (item_at items.now place)) }
 {
     let table = table_item(alloc, items, b"advisory", place)?;
     let path = path_of_item(alloc, b"advisory", place)?;
@@ -88,7 +89,7 @@ fn advisory_item(alloc: Global, items: &[Value], place: u32) -> Result<Advisory,
 /// The advisories of a list.
 pub(crate) fn advisory_items(alloc: Global, items: &[Value]) -> Result<Vec<Advisory>, ModelFault>
     requires { length items.now < 2 ^ 32 }
-    ensures value { Gives (λ v. v.items) result (rules.advisory_items (map view items.now)) }
+    ensures value { Gives (λ v. v.items) result (rules.advisory_items (data_of items.now)) }
     ensures count { IfOk result (λ v. length v.items ≡ length items.now) }
 {
     let mut advisories = Vec::new(alloc);

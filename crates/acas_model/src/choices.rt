@@ -1,26 +1,21 @@
 //! The lists `choices` and `costs` of each advisory.
-ghost use Rattle.std.specs.Prelude.{◌≡◌, ◌==◌, ◌<◌, ◌≤◌, ◌^◌, length, map, position, IfOk, IfSome};
+ghost use Rattle.std.specs.Prelude.{◌≡◌, ◌==◌, ◌<◌, ◌≤◌, ◌^◌, length, IfOk};
 ghost use Rattle.std.specs.List.{list_any};
 ghost use Rattle.std.specs.Str.{bytes_eq};
-ghost use Rattle.toml.specs.View.{view, table_view};
-ghost use Rattle.acas_doc.specs.Values.{data_at};
+ghost use Rattle.toml.specs.View.{table_view};
 ghost use Rattle.acas_model.specs.Answers.{Gives};
+ghost use Rattle.acas_base.specs.View.{lists_of};
+ghost use Rattle.acas_model.specs.View.{advised_view, data_of, item_at};
 ghost use Rattle.acas_model.specs.Choices as rules;
 
 use crate::advisories::{advisory_items, distinct};
 use crate::fault::{ModelFault, NamePlace};
+use acas_base::position_of;
 use acas_doc::{item, list, path_of_item, path_of_key, table_item, text_item};
 use acas_spec::{Advisory, Choice};
+use acas_units::{GREATEST_ADVISORIES, GREATEST_COST, LEAST_ADVISORIES, LEAST_COST};
 use std::alloc::{AllocError, Global};
 use toml::{Table, Value};
-
-/// The number of the advisory of a name.
-pub(crate) fn position_of(advisories: &[Advisory], name: &[u8]) -> Option<usize>
-    ensures value { result ≡ position (λ a. bytes_eq a.name name.now) advisories.now }
-    ensures range { IfSome result (λ k. k < length advisories.now) }
-{
-    advisories.iter().position(|a| a.name.bytes() == name)
-}
 
 /// Whether an advisory was chosen already.
 fn chosen_before(chosen: &[u8], advisory: u8) -> bool
@@ -53,7 +48,7 @@ fn known_name(
     advisory: u32,
     place: u32,
 ) -> Result<u8, ModelFault>
-    requires { length advisories.now ≤ 16 }
+    requires { length advisories.now ≤ GREATEST_ADVISORIES }
     ensures value { result ≡ rules.or_unknown advisory place (rules.named advisories.now name.now) }
     ensures range { IfOk result (λ a. a < length advisories.now) }
 {
@@ -78,10 +73,10 @@ fn choice_item(
     advisory: u32,
     chosen: &[u8],
 ) -> Result<u8, ModelFault>
-    requires few { length advisories.now ≤ 16 }
+    requires few { length advisories.now ≤ GREATEST_ADVISORIES }
     requires short { length items.now < 2 ^ 32 }
     requires within { length chosen.now < length items.now }
-    ensures { Gives (λ a. a) result (rules.choice_item advisories.now path.now advisory chosen.now (data_at (map view items.now) (length chosen.now))) }
+    ensures { Gives (λ a. a) result (rules.next_choice advisories.now path.now advisory chosen.now (data_of items.now)) }
 {
     let place = chosen.len() as u32;
     let name = text_item(alloc, items, path, place)?;
@@ -97,9 +92,9 @@ fn choice_items(
     path: &[u8],
     advisory: u32,
 ) -> Result<Vec<u8>, ModelFault>
-    requires few { length advisories.now ≤ 16 }
+    requires few { length advisories.now ≤ GREATEST_ADVISORIES }
     requires short { length items.now < 2 ^ 32 }
-    ensures value { Gives (λ v. v.items) result (rules.choice_items advisories.now path.now advisory (map view items.now)) }
+    ensures value { Gives (λ v. v.items) result (rules.choice_items advisories.now path.now advisory (data_of items.now)) }
     ensures count { IfOk result (λ v. length v.items ≡ length items.now) }
 {
     let mut chosen = Vec::new(alloc);
@@ -114,15 +109,15 @@ fn choice_items(
 #[tactic(auto, unfolding(crate::specs::Choices::cost_item))]
 fn cost_item(alloc: Global, items: &[Value], path: &[u8], place: u32) -> Result<i64, ModelFault>
     requires { place < length items.now }
-    ensures { Gives (λ z. z) result (rules.cost_item path.now place (data_at (map view items.now) place)) }
+    ensures { Gives (λ z. z) result (rules.cost_item path.now place (item_at items.now place)) }
 {
-    Ok(item(alloc, items, path, place, -1_000_000_000, 1_000_000_000)?)
+    Ok(item(alloc, items, path, place, LEAST_COST, GREATEST_COST)?)
 }
 
 /// The costs of a list.
 fn cost_items(alloc: Global, items: &[Value], path: &[u8]) -> Result<Vec<i64>, ModelFault>
     requires { length items.now < 2 ^ 32 }
-    ensures { Gives (λ v. v.items) result (rules.cost_items path.now (map view items.now)) }
+    ensures { Gives (λ v. v.items) result (rules.cost_items path.now (data_of items.now)) }
 {
     let mut costs = Vec::new(alloc);
     for place in 0..items.len() as u32 {
@@ -166,7 +161,7 @@ fn choices_of(
     path: &[u8],
     advisory: u32,
 ) -> Result<Vec<Choice>, ModelFault>
-    requires { length advisories.now ≤ 16 }
+    requires { length advisories.now ≤ GREATEST_ADVISORIES }
     ensures { Gives (λ v. v.items) result (rules.choices_of advisories.now (table_view table.now) path.now advisory) }
 {
     let items = list(alloc, table, path, "choices", 0, u32::MAX)?;
@@ -188,9 +183,9 @@ fn choices_item(
     items: &[Value],
     place: u32,
 ) -> Result<Vec<Choice>, ModelFault>
-    requires few { length advisories.now ≤ 16 }
+    requires few { length advisories.now ≤ GREATEST_ADVISORIES }
     requires within { place < length items.now }
-    ensures { Gives (λ v. v.items) result (rules.choices_item advisories.now place (data_at (map view items.now) place)) }
+    ensures { Gives (λ v. v.items) result (rules.choices_item advisories.now place (item_at items.now place)) }
 {
     let table = table_item(alloc, items, b"advisory", place)?;
     let path = path_of_item(alloc, b"advisory", place)?;
@@ -203,9 +198,9 @@ fn choice_lists(
     advisories: &[Advisory],
     items: &[Value],
 ) -> Result<Vec<Vec<Choice>>, ModelFault>
-    requires few { length advisories.now ≤ 16 }
+    requires few { length advisories.now ≤ GREATEST_ADVISORIES }
     requires short { length items.now < 2 ^ 32 }
-    ensures { Gives (λ v. map (λ l. l.items) v.items) result (rules.choice_lists advisories.now (map view items.now)) }
+    ensures { Gives lists_of result (rules.choice_lists advisories.now (data_of items.now)) }
 {
     let mut lists = Vec::new(alloc);
     for place in 0..items.len() as u32 {
@@ -225,10 +220,18 @@ pub(crate) struct Advised {
 /// What the list `advisory` says.
 #[tactic(auto, unfolding(crate::specs::Choices::advised_of))]
 pub(crate) fn advised_of(alloc: Global, document: &Table) -> Result<Advised, ModelFault>
-    ensures value { Gives (λ v. record { advisories = v.advisories.items; choices = map (λ l. l.items) v.choices.items }) result (rules.advised_of (table_view document.now)) }
-    ensures count { IfOk result (λ v. (2 ≤ length v.advisories.items) × (length v.advisories.items ≤ 16)) }
+    ensures value { Gives advised_view result (rules.advised_of (table_view document.now)) }
+    ensures some { IfOk result (λ v. LEAST_ADVISORIES ≤ length v.advisories.items) }
+    ensures few { IfOk result (λ v. length v.advisories.items ≤ GREATEST_ADVISORIES) }
 {
-    let items = list(alloc, document, b"", "advisory", 2, 16)?;
+    let items = list(
+        alloc,
+        document,
+        b"",
+        "advisory",
+        LEAST_ADVISORIES,
+        GREATEST_ADVISORIES,
+    )?;
     let advisories = advisory_items(alloc, items)?;
     distinct(&advisories)?;
     let choices = choice_lists(alloc, &advisories, items)?;

@@ -3,6 +3,7 @@ ghost use Rattle.std.specs.Prelude.{◌≡◌, ◌≤◌, ◌≤ℤ◌, pos, uns
 ghost use Rattle.toml.specs.View.{table_view};
 ghost use Rattle.acas_model.specs.Answers.{Gives};
 ghost use Rattle.acas_model.specs.Document.{number_at};
+ghost use Rattle.acas_model.specs.View.{seen_table};
 ghost use Rattle.acas_model.specs.Document as rules;
 
 use crate::fault::ModelFault;
@@ -73,7 +74,7 @@ pub(crate) fn closed_table<'t>(
     key: &str,
     known: &str,
 ) -> Result<&'t Table, ModelFault>
-    ensures { Gives (λ t. table_view t.now) result (rules.closed_table (table_view document.now) key.now known.now) }
+    ensures { Gives seen_table result (rules.closed_table (table_view document.now) key.now known.now) }
 {
     let inner = table(alloc, document, b"", key)?;
     only_keys(alloc, inner, key.as_bytes(), known)?;

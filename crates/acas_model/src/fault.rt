@@ -39,12 +39,12 @@ pub enum ModelFault {
     UnknownName { at: NamePlace },
     /// An advisory has the name of one before it, or a choice stands before it in its list.
     RepeatedName { at: NamePlace },
-    /// The sigma weights together are above 1000.
+    /// The sigma weights together are above `GREATEST_TOTAL_WEIGHT`.
     Weights { total: i64 },
-    /// The horizon and the way through the puck take more than 600 seconds at the least closing speed. Both sides are in
-    /// ft: the way of the horizon and twice the radius, and the way of 600 seconds.
+    /// The horizon and the way through the puck take more than `WINDOW_SECONDS` at the least closing speed. Both
+    /// sides are in ft: the way of the horizon and twice the radius, and the way of the window.
     Window { needed: i64, allowed: i64 },
-    /// A table over the grid has more than 4,000,000 entries.
+    /// A table over the grid has more than `GREATEST_ENTRIES`.
     TooManyEntries { entries: u64 },
     /// There is no memory left.
     Memory,

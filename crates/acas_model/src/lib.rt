@@ -3,25 +3,18 @@
 //! A model is a TOML document. Its rules are looked at in a fixed order, and the first that fails is the fault.
 #![tactic(auto)]
 
-mod advices;
 mod advisories;
 mod axes;
 mod choices;
 mod document;
 mod fault;
 mod laws;
-mod model;
 mod noise;
 mod numbers;
 mod whole;
 
+pub use acas_base::{Advices, Advisory, Choice, Model, Name, SigmaPoint};
 pub use acas_doc::{DocFault, DocKind, KeyText};
-pub use acas_spec::{Advisory, Choice, Name, SigmaPoint};
-pub use advices::Advices;
 pub use fault::{AxisName, ModelFault, NamePlace};
-pub use laws::accepted_texts_say_their_models;
-pub use model::Model;
+pub use laws::texts_say_their_models;
 pub use whole::read_model;
-
-#[cfg(test)]
-mod tests;

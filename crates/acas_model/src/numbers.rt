@@ -2,25 +2,24 @@
 ghost use Rattle.std.specs.Prelude.{◌≡◌, ◌≤◌, IfOk};
 ghost use Rattle.toml.specs.View.{table_view};
 ghost use Rattle.acas_model.specs.Answers.{Gives};
+ghost use Rattle.acas_model.specs.View.{seen_table};
 ghost use Rattle.acas_model.specs.Numbers as rules;
 
 use crate::document::{closed_table, number};
 use crate::fault::ModelFault;
+use acas_base::{Closing, Numbers, Pilot, Puck};
 use acas_doc::whole;
+use acas_units::{
+    GREATEST_CLOSING, GREATEST_COST, GREATEST_HALF_HEIGHT, GREATEST_LIMIT, GREATEST_RADIUS,
+    LEAST_CLOSING, LEAST_COST, LEAST_HALF_HEIGHT, LEAST_PULL, LEAST_RADIUS, feet_to_ticks,
+};
 use std::alloc::Global;
 use toml::Table;
-
-/// The puck: its radius in ft, and half of its height in ticks.
-#[derive(Clone, Copy, Debug)]
-pub(crate) struct Puck {
-    pub radius: u32,
-    pub half: u32,
-}
 
 /// The table `puck`.
 #[tactic(auto, unfolding(crate::specs::Numbers::puck_table))]
 fn puck_table<'t>(alloc: Global, document: &'t Table) -> Result<&'t Table, ModelFault>
-    ensures { Gives (λ t. table_view t.now) result (rules.puck_table (table_view document.now)) }
+    ensures { Gives seen_table result (rules.puck_table (table_view document.now)) }
 {
     closed_table(alloc, document, "puck", "radius half_height")
 }
@@ -29,50 +28,64 @@ fn puck_table<'t>(alloc: Global, document: &'t Table) -> Result<&'t Table, Model
 #[tactic(auto, unfolding(crate::specs::Numbers::half_height))]
 fn half_height(alloc: Global, puck: &Table) -> Result<u32, ModelFault>
     ensures value { Gives (λ n. n) result (rules.half_height (table_view puck.now)) }
-    ensures range { IfOk result (λ n. n ≤ 1000) }
+    ensures range { IfOk result (λ n. n ≤ GREATEST_HALF_HEIGHT) }
 {
-    number(alloc, puck, b"puck", "half_height", 1, 1000)
+    number(
+        alloc,
+        puck,
+        b"puck",
+        "half_height",
+        LEAST_HALF_HEIGHT,
+        GREATEST_HALF_HEIGHT,
+    )
 }
 
 /// What the table `puck` says.
 #[tactic(auto, unfolding(crate::specs::Numbers::puck_of))]
 fn puck_of(alloc: Global, document: &Table) -> Result<Puck, ModelFault>
     ensures value { Gives (λ p. p) result (rules.puck_of (table_view document.now)) }
-    ensures range { IfOk result (λ p. p.radius ≤ 5000) }
+    ensures range { IfOk result (λ p. p.radius ≤ GREATEST_RADIUS) }
 {
     let puck = puck_table(alloc, document)?;
-    let radius = number(alloc, puck, b"puck", "radius", 1, 5000)?;
+    let radius = number(
+        alloc,
+        puck,
+        b"puck",
+        "radius",
+        LEAST_RADIUS,
+        GREATEST_RADIUS,
+    )?;
     let feet = half_height(alloc, puck)?;
     Ok(Puck {
         radius,
-        half: 120 * feet,
+        half: feet_to_ticks(i64::from(feet)) as u32,
     })
-}
-
-/// The closing speeds, in ft/s.
-#[derive(Clone, Copy, Debug)]
-pub(crate) struct Closing {
-    pub least: u32,
-    pub greatest: u32,
 }
 
 /// What the table `closing` says.
 #[tactic(auto, unfolding(crate::specs::Numbers::closing_of))]
 fn closing_of(alloc: Global, document: &Table) -> Result<Closing, ModelFault>
     ensures value { Gives (λ c. c) result (rules.closing_of (table_view document.now)) }
-    ensures range { IfOk result (λ c. c.least ≤ 5000) }
+    ensures range { IfOk result (λ c. c.least ≤ GREATEST_CLOSING) }
 {
     let closing = closed_table(alloc, document, "closing", "least greatest")?;
-    let least = number(alloc, closing, b"closing", "least", 1, 5000)?;
-    let greatest = number(alloc, closing, b"closing", "greatest", least, 5000)?;
+    let least = number(
+        alloc,
+        closing,
+        b"closing",
+        "least",
+        LEAST_CLOSING,
+        GREATEST_CLOSING,
+    )?;
+    let greatest = number(
+        alloc,
+        closing,
+        b"closing",
+        "greatest",
+        least,
+        GREATEST_CLOSING,
+    )?;
     Ok(Closing { least, greatest })
-}
-
-/// The least and the greatest acceleration of a pilot who follows an advisory, in ft/min per second.
-#[derive(Clone, Copy, Debug)]
-pub(crate) struct Pilot {
-    pub pull: u32,
-    pub limit: u32,
 }
 
 /// What the table `pilot` says.
@@ -81,8 +94,8 @@ fn pilot_of(alloc: Global, document: &Table) -> Result<Pilot, ModelFault>
     ensures { Gives (λ p. p) result (rules.pilot_of (table_view document.now)) }
 {
     let pilot = closed_table(alloc, document, "pilot", "pull limit")?;
-    let pull = number(alloc, pilot, b"pilot", "pull", 1, 2000)?;
-    let limit = number(alloc, pilot, b"pilot", "limit", pull, 2000)?;
+    let pull = number(alloc, pilot, b"pilot", "pull", LEAST_PULL, GREATEST_LIMIT)?;
+    let limit = number(alloc, pilot, b"pilot", "limit", pull, GREATEST_LIMIT)?;
     Ok(Pilot { pull, limit })
 }
 
@@ -92,30 +105,15 @@ fn contact_of(alloc: Global, document: &Table) -> Result<i64, ModelFault>
     ensures { Gives (λ z. z) result (rules.contact_of (table_view document.now)) }
 {
     let cost = closed_table(alloc, document, "cost", "contact")?;
-    Ok(whole(
-        alloc,
-        cost,
-        b"cost",
-        "contact",
-        -1_000_000_000,
-        1_000_000_000,
-    )?)
-}
-
-/// What the four tables say.
-#[derive(Clone, Copy, Debug)]
-pub(crate) struct Numbers {
-    pub puck: Puck,
-    pub closing: Closing,
-    pub pilot: Pilot,
-    pub contact: i64,
+    Ok(whole(alloc, cost, b"cost", "contact", LEAST_COST, GREATEST_COST)?)
 }
 
 /// What the four tables say, each in turn.
 #[tactic(auto, unfolding(crate::specs::Numbers::numbers_of))]
 pub(crate) fn numbers_of(alloc: Global, document: &Table) -> Result<Numbers, ModelFault>
     ensures value { Gives (λ n. n) result (rules.numbers_of (table_view document.now)) }
-    ensures range { IfOk result (λ n. (n.puck.radius ≤ 5000) × (n.closing.least ≤ 5000)) }
+    ensures radius { IfOk result (λ n. n.puck.radius ≤ GREATEST_RADIUS) }
+    ensures least { IfOk result (λ n. n.closing.least ≤ GREATEST_CLOSING) }
 {
     let puck = puck_of(alloc, document)?;
     let closing = closing_of(alloc, document)?;

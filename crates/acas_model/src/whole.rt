@@ -4,17 +4,22 @@ ghost use Rattle.std.specs.List.{AllByRecursion};
 ghost use Rattle.toml.specs.View.{table_view};
 ghost use Rattle.acas_spec.specs.Model.{entries};
 ghost use Rattle.acas_model.specs.Answers.{Gives};
+ghost use Rattle.acas_model.specs.View.{advised_view};
 ghost use Rattle.acas_model.specs.Whole as rules;
 
 use crate::axes::{Axes, axes_of};
 use crate::choices::{Advised, advised_of};
 use crate::document::{document_of, number};
 use crate::fault::ModelFault;
-use crate::model::Model;
-use crate::noise::{points_of, weights};
+use crate::noise::{sigmas_of, weights};
 use crate::numbers::numbers_of;
+use acas_base::Model;
 use acas_doc::only_keys;
 use acas_grid::Grid;
+use acas_units::{
+    GREATEST_ADVISORIES, GREATEST_CLOSING, GREATEST_ENTRIES, GREATEST_HORIZON, GREATEST_RADIUS,
+    LEAST_HORIZON, MODEL_VERSION, WINDOW_SECONDS,
+};
 use std::alloc::Global;
 use toml::Table;
 
@@ -31,29 +36,43 @@ fn top_keys(alloc: Global, document: &Table) -> Result<(), ModelFault>
     )?)
 }
 
-/// The version, which is 1.
+/// The version, of which there is one.
 #[tactic(auto, unfolding(crate::specs::Whole::version_of))]
 fn version_of(alloc: Global, document: &Table) -> Result<u32, ModelFault>
     ensures { Gives (λ n. n) result (rules.version_of (table_view document.now)) }
 {
-    number(alloc, document, b"", "version", 1, 1)
+    number(
+        alloc,
+        document,
+        b"",
+        "version",
+        MODEL_VERSION,
+        MODEL_VERSION,
+    )
 }
 
 /// The horizon, in seconds.
 #[tactic(auto, unfolding(crate::specs::Whole::horizon_of))]
 fn horizon_of(alloc: Global, document: &Table) -> Result<u32, ModelFault>
     ensures value { Gives (λ n. n) result (rules.horizon_of (table_view document.now)) }
-    ensures range { IfOk result (λ n. n ≤ 120) }
+    ensures range { IfOk result (λ n. n ≤ GREATEST_HORIZON) }
 {
-    number(alloc, document, b"", "horizon", 0, 120)
+    number(
+        alloc,
+        document,
+        b"",
+        "horizon",
+        LEAST_HORIZON,
+        GREATEST_HORIZON,
+    )
 }
 
 /// The way of some seconds at a closing speed, in ft.
 fn travelled(seconds: u32, speed: u32) -> u32
-    requires seconds { seconds ≤ 120 }
-    requires speed { speed ≤ 5000 }
+    requires seconds { seconds ≤ GREATEST_HORIZON }
+    requires speed { speed ≤ GREATEST_CLOSING }
     ensures value { result ≡ seconds * speed }
-    ensures high { result ≤ 600000 }
+    ensures high { result ≤ GREATEST_HORIZON * GREATEST_CLOSING }
 {
     seconds * speed
 }
@@ -72,24 +91,27 @@ fn at_most(needed: u32, allowed: u32) -> Result<(), ModelFault>
     }
 }
 
-/// That at the least closing speed the horizon and the way through the puck are over within 600 seconds.
+/// That at the least closing speed the horizon and the way through the puck are over within the window.
 #[tactic(auto, unfolding(crate::specs::Whole::window))]
 fn window(horizon: u32, radius: u32, least: u32) -> Result<(), ModelFault>
-    requires horizon { horizon ≤ 120 }
-    requires radius { radius ≤ 5000 }
-    requires least { least ≤ 5000 }
+    requires horizon { horizon ≤ GREATEST_HORIZON }
+    requires radius { radius ≤ GREATEST_RADIUS }
+    requires least { least ≤ GREATEST_CLOSING }
     ensures { result ≡ rules.window horizon radius least }
 {
-    at_most(travelled(horizon, least) + 2 * radius, 600 * least)
+    at_most(
+        travelled(horizon, least) + 2 * radius,
+        WINDOW_SECONDS * least,
+    )
 }
 
-/// That a table over the grid has at most 4,000,000 entries.
+/// That a table over the grid has not too many entries.
 #[tactic(auto, unfolding(crate::specs::Whole::few_entries))]
 fn few_entries(grid: &Grid) -> Result<(), ModelFault>
     ensures { result ≡ rules.few_entries grid.now }
 {
     let entries = grid.entries();
-    if entries <= 4_000_000 {
+    if entries <= GREATEST_ENTRIES {
         Ok(())
     } else {
         Err(ModelFault::TooManyEntries { entries })
@@ -98,9 +120,9 @@ fn few_entries(grid: &Grid) -> Result<(), ModelFault>
 
 /// The grid of these axes.
 fn grid_of(horizon: u32, axes: Axes, advised: &Advised) -> Grid
-    requires horizon { horizon ≤ 120 }
-    requires few { length advised.now.advisories.items ≤ 16 }
-    ensures { result ≡ rules.grid_from horizon axes (record { advisories = advised.now.advisories.items; choices = map (λ l. l.items) advised.now.choices.items }) }
+    requires horizon { horizon ≤ GREATEST_HORIZON }
+    requires few { length advised.now.advisories.items ≤ GREATEST_ADVISORIES }
+    ensures { result ≡ rules.grid_from horizon axes (advised_view advised.now) }
 {
     Grid {
         h: axes.h,
@@ -122,17 +144,17 @@ fn model_in(alloc: Global, document: &Table) -> Result<Model, ModelFault>
     let axes = axes_of(alloc, document)?;
     let numbers = numbers_of(alloc, document)?;
     let advised = advised_of(alloc, document)?;
-    let points = points_of(alloc, document)?;
-    weights(&points)?;
+    let sigmas = sigmas_of(alloc, document)?;
+    weights(&sigmas)?;
     window(horizon, numbers.puck.radius, numbers.closing.least)?;
     let grid = grid_of(horizon, axes, &advised);
     few_entries(&grid)?;
-    Ok(Model::new(grid, numbers, advised, points))
+    Ok(Model::new(grid, numbers, advised.advisories, advised.choices, sigmas))
 }
 
-/// The model that a text says, or the first rule that the text fails. The bytes are those of a TOML document with the keys
-/// `version`, `horizon`, `grid`, `puck`, `closing`, `pilot`, `cost`, `advisory` and `sigma`; comments, inline tables, dotted
-/// keys and any order of the keys are accepted.
+/// The model that a text says, or the first rule that the text fails. The bytes are those of a TOML document with the
+/// keys `version`, `horizon`, `grid`, `puck`, `closing`, `pilot`, `cost`, `advisory` and `sigma`; comments, inline
+/// tables, dotted keys and any order of the keys are accepted.
 #[tactic(auto, unfolding(crate::specs::Whole::model_of))]
 pub fn read_model(alloc: Global, bytes: &[u8]) -> Result<Model, ModelFault>
     ensures { Gives (λ m. m) result (rules.model_of bytes.now) }

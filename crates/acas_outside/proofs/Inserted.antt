@@ -45,3 +45,11 @@ get-insert_same m k v =
 pub not_held : (o : Option (List ℕ)) → o ≡ None → IsSome o → ⊥
 not_held None e held = absurd (cc held)
 not_held (Some x) e held = absurd (cc e)
+
+not_put : (m : Files) (k v q : List ℕ) (b : Bool) → (q ≡ k → ⊥) → eq_by_cmp (slice_cmp nat_cmp) q k ≡ b → cond b (Some v) (get m q) ≡ get m q
+not_put m k v q true apart same = absurd (apart (slice_cmp-IsAntisymmetric nat_cmp-IsAntisymmetric q k (tied (slice_cmp nat_cmp q k) same)))
+not_put m k v q false apart other = refl
+
+-- another name holds what it held
+pub get-insert_other : (m : Files) (k v q : List ℕ) → (q ≡ k → ⊥) → get (insert m k v) q ≡ get m q
+get-insert_other m k v q apart = get-insert nat_list_cmp_total m k v q ∙ not_put m k v q (eq_by_cmp (slice_cmp nat_cmp) q k) apart refl

@@ -1,5 +1,6 @@
 -- The calls of one kind, of which some are to fail.
-use Rattle.std.specs.Prelude.{ℕ, ◌+◌, ◌-◌, ◌^◌, min, List, Contains}
+use Rattle.std.specs.Prelude.{ℕ, List, Contains}
+use Rattle.acas_outside.specs.Counts.{raised}
 use Rattle.acas_outside.specs.declared.calls.Calls.{Calls}
 
 pub record CallState : Type 0 where
@@ -17,18 +18,14 @@ call_state calls = record { listed = calls.listed.items; made = calls.made; fail
 abbrev pub no_calls : List ℕ → CallState
 no_calls listed = record { listed = listed; made = 0; failed = 0 }
 
--- one more, up to the end of 64 bits
-abbrev pub one_more : ℕ → ℕ
-one_more n = min (n + 1) (2 ^ 64 - 1)
-
 -- the next call is to fail
 abbrev pub IsListed : CallState → Type 0
 IsListed calls = Contains calls.listed calls.made
 
 -- after a call that was not to fail
 abbrev pub made_one : CallState → CallState
-made_one calls = record calls { made = one_more calls.made }
+made_one calls = record calls { made = raised calls.made 1 }
 
 -- after a call that failed as it was to
 abbrev pub failed_one : CallState → CallState
-failed_one calls = record calls { made = one_more calls.made; failed = one_more calls.failed }
+failed_one calls = record calls { made = raised calls.made 1; failed = raised calls.failed 1 }

@@ -24,7 +24,9 @@ pub record TakesFrom (file : List ℕ) (at n : ℕ) (into : List ℕ) : Type 0 w
 -- a read gives bytes of a file that is held, and answers that it is absent only where it is not held
 abbrev pub Reads : Option (List ℕ) → ℕ → Result ℕ ReadMiss → List ℕ → Type 0
 Reads file at result into =
-    MatchResult result (λ n. IsSomeAnd file (λ bytes. TakesFrom bytes at n into)) (λ miss. miss ≡ Absent → file ≡ None)
+    MatchResult result
+    (λ n. IsSomeAnd file (λ bytes. TakesFrom bytes at n into))
+    (λ miss. miss ≡ Absent → file ≡ None)
 
 -- a name holds these bytes, and all other names are as before
 abbrev pub Stores : Option Files → Option Files → List ℕ → List ℕ → Type 0
@@ -36,9 +38,13 @@ pub record StoresPart (old new : Option Files) (name bytes : List ℕ) : Type 0 
   pub proper : count < length bytes
   pub stored : Stores old new name (take count bytes)
 
+-- the files where the one under a name has these bytes behind its own
+abbrev pub grown : Files → List ℕ → List ℕ → Files
+grown files name bytes = insert files name (unwrap_or (get files name) [] ++ bytes)
+
 -- the file under a name grew by these bytes, and all other names are as before
 abbrev pub Grows : Option Files → Option Files → List ℕ → List ℕ → Type 0
-Grows old new name bytes = new ≡ option_map (λ files. insert files name (unwrap_or (get files name) [] ++ bytes)) old
+Grows old new name bytes = new ≡ option_map (λ files. grown files name bytes) old
 
 -- it grew by the first of these bytes and not by all, and all other names are as before
 pub record GrowsPart (old new : Option Files) (name bytes : List ℕ) : Type 0 where

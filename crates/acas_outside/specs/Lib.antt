@@ -1,6 +1,7 @@
 pub mod Counts
 pub mod Bytes
 pub mod Files
+pub mod Frame
 pub mod Whole
 pub mod Outside
 pub mod Calls

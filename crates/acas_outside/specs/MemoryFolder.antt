@@ -1,8 +1,9 @@
 -- What is seen of a folder in memory.
-use Rattle.std.specs.Prelude.{◌≡◌, ◌⊎◌, ℕ, ◌+◌, ◌-◌, min, List, [], ◌++◌, length, take, unwrap_or, None, Result, Ok, Err, IsSome, IsSomeAnd}
+use Rattle.std.specs.Prelude.{◌≡◌, ◌⊎◌, ℕ, ◌+◌, ◌-◌, min, List, [], length, take, None, Result, Ok, Err, IsSome, IsSomeAnd}
 use Rattle.std.specs.FinMap.{empty, get, insert}
-use Rattle.acas_outside.specs.Calls.{CallState, call_state, no_calls, made_one, failed_one, one_more, IsListed}
-use Rattle.acas_outside.specs.Files.{Files}
+use Rattle.acas_outside.specs.Calls.{CallState, call_state, no_calls, made_one, failed_one, IsListed}
+use Rattle.acas_outside.specs.Counts.{raised}
+use Rattle.acas_outside.specs.Files.{Files, grown}
 use Rattle.acas_outside.specs.Stored.{files_of}
 use Rattle.acas_outside.specs.declared.sink.Failed.{Failed as CallFailed}
 use Rattle.acas_outside.specs.declared.folder.ReadMiss.{ReadMiss}
@@ -18,6 +19,8 @@ pub record FolderState : Type 0 where
   pub most : ℕ
   -- how many reads were of a name that is not held
   pub misses : ℕ
+  -- how many bytes the reads have given
+  pub taken : ℕ
   -- how many creates and appends failed for want of memory
   pub refused : ℕ
 
@@ -30,6 +33,7 @@ folder_state f = record {
   appends = call_state f.appends;
   most = f.most;
   misses = f.misses;
+  taken = f.taken;
   refused = f.refused;
 }
 
@@ -42,6 +46,7 @@ new_folder reads creates appends most = record {
   appends = no_calls appends;
   most = most;
   misses = 0;
+  taken = 0;
   refused = 0;
 }
 
@@ -49,14 +54,14 @@ new_folder reads creates appends most = record {
 abbrev pub faults_of : FolderState → ℕ
 faults_of f = f.reads.failed + f.creates.failed + f.appends.failed + f.refused
 
--- a read gives as many bytes as there are, have room and may be given; it is a miss exactly where the name is not held,
--- and otherwise fails exactly where it is listed
+-- a read gives as many bytes as there are, have room and may be given; it is a miss exactly where the name is not
+-- held, and otherwise fails exactly where it is listed
 abbrev pub ReadsInMemory : FolderState → FolderState → List ℕ → ℕ → ℕ → Result ℕ ReadMiss → Type 0
 ReadsInMemory old new name at room (Ok n) = (IsListed old.reads → ⊥)
     × IsSomeAnd (get old.files name) (λ bytes. n ≡ min (min (length bytes - at) room) old.most)
-    × (new ≡ record old { reads = made_one old.reads })
+    × (new ≡ record old { reads = made_one old.reads; taken = raised old.taken n })
 ReadsInMemory old new name at room (Err Absent) = (get old.files name ≡ None)
-    × (new ≡ record old { reads = made_one old.reads; misses = one_more old.misses })
+    × (new ≡ record old { reads = made_one old.reads; misses = raised old.misses 1 })
 ReadsInMemory old new name at room (Err Failed) = IsListed old.reads × IsSome (get old.files name)
     × (new ≡ record old { reads = failed_one old.reads })
 
@@ -64,12 +69,16 @@ ReadsInMemory old new name at room (Err Failed) = IsListed old.reads × IsSome (
 abbrev pub CreatesInMemory : FolderState → FolderState → List ℕ → Result (Unit {0}) CallFailed → Type 0
 CreatesInMemory old new name (Ok done) = (IsListed old.creates → ⊥)
     × (new ≡ record old { files = insert old.files name []; creates = made_one old.creates })
-CreatesInMemory old new name (Err e) = (IsListed old.creates × (new ≡ record old { creates = failed_one old.creates }))
-    ⊎ ((IsListed old.creates → ⊥) × (new ≡ record old { creates = made_one old.creates; refused = one_more old.refused }))
+CreatesInMemory old new name (Err e) =
+    (IsListed old.creates × (new ≡ record old { creates = failed_one old.creates }))
+    ⊎ ((IsListed old.creates → ⊥)
+    × (new ≡ record old { creates = made_one old.creates; refused = raised old.refused 1 }))
 
 -- an append takes as many bytes as it may, and fails exactly where it is listed or where memory was refused
 abbrev pub AppendsInMemory : FolderState → FolderState → List ℕ → List ℕ → Result ℕ CallFailed → Type 0
 AppendsInMemory old new name piece (Ok n) = (IsListed old.appends → ⊥) × (n ≡ min (length piece) old.most)
-    × (new ≡ record old { files = insert old.files name (unwrap_or (get old.files name) [] ++ take n piece); appends = made_one old.appends })
-AppendsInMemory old new name piece (Err e) = (IsListed old.appends × (new ≡ record old { appends = failed_one old.appends }))
-    ⊎ ((IsListed old.appends → ⊥) × (new ≡ record old { appends = made_one old.appends; refused = one_more old.refused }))
+    × (new ≡ record old { files = grown old.files name (take n piece); appends = made_one old.appends })
+AppendsInMemory old new name piece (Err e) =
+    (IsListed old.appends × (new ≡ record old { appends = failed_one old.appends }))
+    ⊎ ((IsListed old.appends → ⊥)
+    × (new ≡ record old { appends = made_one old.appends; refused = raised old.refused 1 }))

@@ -1,5 +1,6 @@
 //! The calls that are to fail.
-ghost use Rattle.std.specs.Prelude.{◌≡◌, ◌+◌, ◌-◌, ◌^◌, min, IsTrue, ◌↔◌, Contains};
+ghost use Rattle.std.specs.Prelude.{◌≡◌, IsTrue, ◌↔◌, Contains};
+ghost use Rattle.acas_outside.specs.Counts.{raised};
 
 /// The calls of one kind: the numbers of those that are to fail, how many were made, and how many failed.
 #[derive(Drop)]
@@ -25,7 +26,7 @@ impl Calls {
     // Counts a call, and says whether it is to fail.
     pub(crate) fn count(&mut self) -> bool
         ensures listed { IsTrue result ↔ Contains self.old.listed.items self.old.made }
-        ensures made { self.new ≡ record self.old { made = min (self.old.made + 1) (2 ^ 64 - 1) } }
+        ensures made { self.new ≡ record self.old { made = raised self.old.made 1 } }
     {
         let is_listed = self.listed.contains(&self.made);
         self.made = self.made.saturating_add(1);

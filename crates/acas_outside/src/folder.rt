@@ -1,7 +1,7 @@
 //! A folder of files by name, which may fail.
-ghost use Rattle.std.specs.Prelude.{◌≡◌, ◌⊎◌, ◌<◌, ◌≤◌, Bool, [], List, ℕ, Option, length, take, drop, IsSome, IfOk, OnOk, OnErr, IsErrOf, IsTrue};
-ghost use Rattle.acas_outside.specs.Counts.{Rose};
-ghost use Rattle.acas_outside.specs.Files.{Files, Given, Grows, GrowsPart, Reads, Stores, StoresPart};
+ghost use Rattle.std.specs.Prelude.{◌≡◌, ◌<◌, ◌≤◌, Bool, [], List, ℕ, Option, length, take, drop, IsSome, IfOk, OnOk, OnErr, IsErrOf, IsTrue};
+ghost use Rattle.acas_outside.specs.Counts.{Rose, raised};
+ghost use Rattle.acas_outside.specs.Files.{Files, Given, Grows, Reads, Stores};
 
 use crate::sink::Failed;
 
@@ -25,6 +25,9 @@ pub trait Folder {
     /// How often a read was of a name that is not held. It never falls.
     ghost misses: { Self → ℕ };
 
+    /// How many bytes the reads have given. It never falls.
+    ghost taken: { Self → ℕ };
+
     /// The names that a caller may use. No call changes them.
     ghost serves: { Self → List ℕ → Bool };
 
@@ -38,6 +41,8 @@ pub trait Folder {
         ensures given { Given (holds self.old) name.now (λ file. Reads file at result into.new) }
         ensures holds { holds self.new ≡ holds self.old }
         ensures serves { serves self.new ≡ serves self.old }
+        ensures taken { IfOk result (λ n. taken self.new ≡ raised (taken self.old) n) }
+        ensures untaken { OnErr result (taken self.new ≡ taken self.old) }
         ensures failed { IsErrOf result ReadMiss.Failed → Rose (faults self.old) (faults self.new) }
         ensures absent { IsErrOf result ReadMiss.Absent → Rose (misses self.old) (misses self.new) }
         ensures faults { faults self.old ≤ faults self.new }
@@ -51,7 +56,8 @@ pub trait Folder {
         ensures failed { OnErr result (Rose (faults self.old) (faults self.new)) }
         ensures serves { serves self.new ≡ serves self.old }
         ensures faults { faults self.old ≤ faults self.new }
-        ensures misses { misses self.old ≤ misses self.new };
+        ensures misses { misses self.new ≡ misses self.old }
+        ensures taken { taken self.new ≡ taken self.old };
 
     /// Appends the first bytes of a piece to a file that is held, and says how many.
     ///
@@ -63,45 +69,10 @@ pub trait Folder {
         ensures ok { IfOk result (λ n. Grows (holds self.old) (holds self.new) name.now (take n piece.now)) }
         ensures err { OnErr result (holds self.new ≡ holds self.old) }
         ensures failed { OnErr result (Rose (faults self.old) (faults self.new)) }
-        ensures none { IfOk result (λ n. n ≡ 0 → 0 < length piece.now → Rose (faults self.old) (faults self.new)) }
+        ensures none { IfOk result (λ n. n ≡ 0 → 0 < length piece.now →
+            Rose (faults self.old) (faults self.new)) }
         ensures serves { serves self.new ≡ serves self.old }
         ensures faults { faults self.old ≤ faults self.new }
-        ensures misses { misses self.old ≤ misses self.new };
-}
-
-/// Appends all bytes to a file that is held, over short writes. Where it fails, it has appended a proper prefix of them.
-pub fn write_piece<F: Folder>(folder: &mut F, name: &str, bytes: &[u8]) -> Result<(), Failed>
-    requires served { IsTrue (F.serves folder.old name.now) }
-    requires held { Given (F.holds folder.old) name.now (λ file. IsSome file) }
-    ensures ok { OnOk result (Grows (F.holds folder.old) (F.holds folder.new) name.now bytes.now) }
-    ensures err { OnErr result (GrowsPart (F.holds folder.old) (F.holds folder.new) name.now bytes.now) }
-    ensures failed { OnErr result (Rose (F.faults folder.old) (F.faults folder.new)) }
-    ensures serves { F.serves folder.new ≡ F.serves folder.old }
-    ensures faults { F.faults folder.old ≤ F.faults folder.new }
-    ensures misses { F.misses folder.old ≤ F.misses folder.new }
-{
-    let mut at = 0;
-    while at < bytes.len() {
-        let taken = folder.append(name, &bytes[at..])?;
-        if taken == 0 {
-            return Err(Failed);
-        }
-        at += taken;
-    }
-    Ok(())
-}
-
-/// Makes a name hold these bytes. Where it fails, the name holds what it held, or a proper prefix of these bytes.
-pub fn store_file<F: Folder>(folder: &mut F, name: &str, bytes: &[u8]) -> Result<(), Failed>
-    requires { IsTrue (F.serves folder.old name.now) }
-    ensures ok { OnOk result (Stores (F.holds folder.old) (F.holds folder.new) name.now bytes.now) }
-    ensures err { OnErr result ((F.holds folder.new ≡ F.holds folder.old)
-        ⊎ StoresPart (F.holds folder.old) (F.holds folder.new) name.now bytes.now) }
-    ensures failed { OnErr result (Rose (F.faults folder.old) (F.faults folder.new)) }
-    ensures serves { F.serves folder.new ≡ F.serves folder.old }
-    ensures faults { F.faults folder.old ≤ F.faults folder.new }
-    ensures misses { F.misses folder.old ≤ F.misses folder.new }
-{
-    folder.create(name)?;
-    write_piece(folder, name, bytes)
+        ensures misses { misses self.new ≡ misses self.old }
+        ensures taken { taken self.new ≡ taken self.old };
 }

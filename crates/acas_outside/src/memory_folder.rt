@@ -8,8 +8,8 @@ use crate::sink::Failed;
 use crate::stored::{Stored, find, grow, store};
 use std::alloc::{AllocError, Global};
 
-/// A folder in memory, which tells what it holds. It reads and appends at most `most` bytes per call, and its listed
-/// calls fail. It serves every name.
+/// A folder in memory, which tells what it holds. It reads and appends at most `most` bytes per call, and its
+/// listed calls fail. It serves every name.
 #[derive(Drop)]
 pub struct MemoryFolder {
     alloc: Global,
@@ -19,6 +19,7 @@ pub struct MemoryFolder {
     appends: Calls,
     most: u32,
     misses: u64,
+    taken: u64,
     refused: u64,
     ghost takes_some: { 1 ≤ most },
 }
@@ -29,8 +30,8 @@ impl MemoryFolder {
     ghost use Rattle.std.specs.Option.{option_copied};
     ghost use Rattle.acas_outside.specs.MemoryFolder.{folder_state, new_folder};
 
-    /// A folder that holds no file. `reads`, `creates` and `appends` are the numbers of the calls of each kind that are to
-    /// fail, counted from 0, and `most` is the greatest number of bytes per call, at least 1.
+    /// A folder that holds no file. `reads`, `creates` and `appends` are the numbers of the calls of each kind that
+    /// are to fail, counted from 0, and `most` is the greatest number of bytes per call, at least 1.
     pub fn new(
         alloc: Global,
         reads: Vec<u64>,
@@ -39,7 +40,8 @@ impl MemoryFolder {
         most: u32,
     ) -> Result<MemoryFolder, AllocError>
         requires { 1 ≤ most }
-        ensures { IfOk result (λ folder. folder_state folder ≡ new_folder reads.items creates.items appends.items most) }
+        ensures { IfOk result (λ folder.
+            folder_state folder ≡ new_folder reads.items creates.items appends.items most) }
     {
         Ok(MemoryFolder {
             alloc,
@@ -49,8 +51,16 @@ impl MemoryFolder {
             appends: Calls::new(appends),
             most,
             misses: 0,
+            taken: 0,
             refused: 0,
         })
+    }
+
+    /// How many bytes the reads have given, up to the end of 64 bits.
+    pub fn taken(&self) -> u64
+        ensures { result ≡ (folder_state self.now).taken }
+    {
+        self.taken
     }
 
     /// How many creates and appends failed for want of memory.
@@ -62,7 +72,9 @@ impl MemoryFolder {
 
     /// Makes a name hold these bytes, which counts as no call. After a refusal all is as before.
     pub fn put(&mut self, name: &str, bytes: Vec<u8>) -> Result<(), AllocError>
-        ensures ok { OnOk result (folder_state self.new ≡ record (folder_state self.old) { files = map.insert (folder_state self.old).files name.now bytes.items }) }
+        ensures ok { let old = folder_state self.old in
+            let files = map.insert old.files name.now bytes.items in
+            OnOk result (folder_state self.new ≡ record old { files = files }) }
         ensures err { OnErr result (folder_state self.new ≡ folder_state self.old) }
     {
         store(self.alloc, &mut self.files, name, bytes)
@@ -78,7 +90,7 @@ impl MemoryFolder {
 
 impl Folder for MemoryFolder {
     ghost use Rattle.std.specs.Prelude.{◌≡◌, ◌<◌, ◌≤◌, [], min, length, take, drop, IfOk, OnOk, OnErr, IsErrOf, IsSome, Some, true};
-    ghost use Rattle.acas_outside.specs.Counts.{Rose};
+    ghost use Rattle.acas_outside.specs.Counts.{Rose, raised};
     ghost use Rattle.acas_outside.specs.Files.{Given, Grows, Reads, Stores};
     ghost use Rattle.acas_outside.specs.MemoryFolder.{folder_state, faults_of, AppendsInMemory, CreatesInMemory, ReadsInMemory};
 
@@ -88,20 +100,29 @@ impl Folder for MemoryFolder {
 
     ghost misses = { λ folder. (folder_state folder).misses };
 
+    ghost taken = { λ folder. (folder_state folder).taken };
+
     ghost serves = { λ _ _. true };
 
     fn read(&mut self, name: &str, at: u64, into: &mut [u8]) -> Result<usize, ReadMiss>
         ensures bound { IfOk result (λ n. n ≤ length into.new) }
         ensures rest { IfOk result (λ n. drop n into.new ≡ drop n into.old) }
-        ensures given { Given (Some (folder_state self.old).files) name.now (λ file. Reads file at result into.new) }
+        ensures given { let files = (folder_state self.old).files in
+            Given (Some files) name.now (λ file. Reads file at result into.new) }
         ensures holds { (folder_state self.new).files ≡ (folder_state self.old).files }
-        ensures failed { IsErrOf result ReadMiss.Failed → Rose (faults_of (folder_state self.old)) (faults_of (folder_state self.new)) }
-        ensures absent { IsErrOf result ReadMiss.Absent → Rose (folder_state self.old).misses (folder_state self.new).misses }
+        ensures taken { IfOk result (λ n.
+            (folder_state self.new).taken ≡ raised (folder_state self.old).taken n) }
+        ensures untaken { OnErr result ((folder_state self.new).taken ≡ (folder_state self.old).taken) }
+        ensures failed { IsErrOf result ReadMiss.Failed →
+            Rose (faults_of (folder_state self.old)) (faults_of (folder_state self.new)) }
+        ensures absent { IsErrOf result ReadMiss.Absent →
+            Rose (folder_state self.old).misses (folder_state self.new).misses }
         ensures faults { faults_of (folder_state self.old) ≤ faults_of (folder_state self.new) }
         ensures misses { (folder_state self.old).misses ≤ (folder_state self.new).misses }
 
         // It fails exactly where the call is listed and the name held.
-        ensures exact { ReadsInMemory (folder_state self.old) (folder_state self.new) name.now at (length into.old) result }
+        ensures exact { let room = length into.old in
+            ReadsInMemory (folder_state self.old) (folder_state self.new) name.now at room result }
     {
         let is_listed = self.reads.count();
         let Some(bytes) = find(&self.files, name) else {
@@ -112,15 +133,20 @@ impl Folder for MemoryFolder {
             self.reads.failed = self.reads.failed.saturating_add(1);
             return Err(ReadMiss::Failed);
         }
-        Ok(copy_piece(bytes, at, self.most, into))
+        let count = copy_piece(bytes, at, self.most, into);
+        self.taken = self.taken.saturating_add(count as u64);
+        Ok(count)
     }
 
     fn create(&mut self, name: &str) -> Result<(), Failed>
-        ensures ok { OnOk result (Stores (Some (folder_state self.old).files) (Some (folder_state self.new).files) name.now []) }
+        ensures ok { OnOk result
+            (Stores (Some (folder_state self.old).files) (Some (folder_state self.new).files) name.now []) }
         ensures err { OnErr result ((folder_state self.new).files ≡ (folder_state self.old).files) }
-        ensures failed { OnErr result (Rose (faults_of (folder_state self.old)) (faults_of (folder_state self.new))) }
+        ensures failed { OnErr result
+            (Rose (faults_of (folder_state self.old)) (faults_of (folder_state self.new))) }
         ensures faults { faults_of (folder_state self.old) ≤ faults_of (folder_state self.new) }
-        ensures misses { (folder_state self.old).misses ≤ (folder_state self.new).misses }
+        ensures misses { (folder_state self.new).misses ≡ (folder_state self.old).misses }
+        ensures taken { (folder_state self.new).taken ≡ (folder_state self.old).taken }
 
         // It fails exactly where the call is listed, or where memory was refused.
         ensures exact { CreatesInMemory (folder_state self.old) (folder_state self.new) name.now result }
@@ -140,14 +166,18 @@ impl Folder for MemoryFolder {
     fn append(&mut self, name: &str, piece: &[u8]) -> Result<usize, Failed>
         requires held { Given (Some (folder_state self.old).files) name.now (λ file. IsSome file) }
         ensures bound { IfOk result (λ n. n ≤ length piece.now) }
-        ensures ok { IfOk result (λ n. Grows (Some (folder_state self.old).files) (Some (folder_state self.new).files) name.now (take n piece.now)) }
+        ensures ok { let old = (folder_state self.old).files in let new = (folder_state self.new).files in
+            IfOk result (λ n. Grows (Some old) (Some new) name.now (take n piece.now)) }
         ensures err { OnErr result ((folder_state self.new).files ≡ (folder_state self.old).files) }
-        ensures failed { OnErr result (Rose (faults_of (folder_state self.old)) (faults_of (folder_state self.new))) }
-        ensures none { IfOk result (λ n. n ≡ 0 → 0 < length piece.now → Rose (faults_of (folder_state self.old)) (faults_of (folder_state self.new))) }
+        ensures failed { OnErr result
+            (Rose (faults_of (folder_state self.old)) (faults_of (folder_state self.new))) }
+        ensures none { IfOk result (λ n. n ≡ 0 → 0 < length piece.now →
+            Rose (faults_of (folder_state self.old)) (faults_of (folder_state self.new))) }
         ensures faults { faults_of (folder_state self.old) ≤ faults_of (folder_state self.new) }
-        ensures misses { (folder_state self.old).misses ≤ (folder_state self.new).misses }
+        ensures misses { (folder_state self.new).misses ≡ (folder_state self.old).misses }
+        ensures taken { (folder_state self.new).taken ≡ (folder_state self.old).taken }
 
-        // It fails exactly where the call is listed, or where memory was refused, and takes as much as it may.
+        // It fails exactly where the call is listed or memory was refused, and takes as much as it may.
         ensures exact { AppendsInMemory (folder_state self.old) (folder_state self.new) name.now piece.now result }
     {
         if self.appends.count() {

@@ -5,7 +5,8 @@ use crate::calls::Calls;
 use crate::sink::{Failed, Sink};
 use std::alloc::{AllocError, Global};
 
-/// A sink in memory, which tells what was written. It takes at most `most` bytes per write, and its listed writes fail.
+/// A sink in memory, which tells what was written. It takes at most `most` bytes per write, and its listed writes
+/// fail.
 #[derive(Drop)]
 pub struct MemorySink {
     bytes: Vec<u8>,
@@ -18,8 +19,8 @@ pub struct MemorySink {
 impl MemorySink {
     ghost use Rattle.acas_outside.specs.MemorySink.{sink_state, new_sink};
 
-    /// A sink to which nothing is written. `writes` are the numbers of the writes that are to fail, counted from 0, and
-    /// `most` is the greatest number of bytes per write, at least 1.
+    /// A sink to which nothing is written. `writes` are the numbers of the writes that are to fail, counted from 0,
+    /// and `most` is the greatest number of bytes per write, at least 1.
     pub fn new(alloc: Global, writes: Vec<u64>, most: u32) -> Result<MemorySink, AllocError>
         requires { 1 ≤ most }
         ensures { IfOk result (λ sink. sink_state sink ≡ new_sink writes.items most) }
@@ -59,10 +60,13 @@ impl Sink for MemorySink {
 
     fn write(&mut self, piece: &[u8]) -> Result<usize, Failed>
         ensures bound { IfOk result (λ n. n ≤ length piece.now) }
-        ensures ok { IfOk result (λ n. Appends (Some (sink_state self.old).written) (Some (sink_state self.new).written) (take n piece.now)) }
+        ensures ok { let old = (sink_state self.old).written in let new = (sink_state self.new).written in
+            IfOk result (λ n. Appends (Some old) (Some new) (take n piece.now)) }
         ensures err { OnErr result ((sink_state self.new).written ≡ (sink_state self.old).written) }
-        ensures failed { OnErr result (Rose (faults_of (sink_state self.old)) (faults_of (sink_state self.new))) }
-        ensures none { IfOk result (λ n. n ≡ 0 → 0 < length piece.now → Rose (faults_of (sink_state self.old)) (faults_of (sink_state self.new))) }
+        ensures failed { OnErr result
+            (Rose (faults_of (sink_state self.old)) (faults_of (sink_state self.new))) }
+        ensures none { IfOk result (λ n. n ≡ 0 → 0 < length piece.now →
+            Rose (faults_of (sink_state self.old)) (faults_of (sink_state self.new))) }
         ensures faults { faults_of (sink_state self.old) ≤ faults_of (sink_state self.new) }
 
         // It fails exactly where the call is listed, or where memory was refused.

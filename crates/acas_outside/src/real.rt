@@ -10,13 +10,14 @@ use std::rt::Files;
 /// How many bytes one read of a file asks for.
 const PIECE: usize = 4096;
 
-/// The files of the system, which a runtime opens. A read of a name that the system does not find is a miss, and each
-/// other call that fails is a fault.
+/// The files of the system, which a runtime opens. A read of a name that the system does not find is a miss, and
+/// each other call that fails is a fault.
 #[derive(Drop)]
 pub struct RealFolder<'r, R: Files> {
     rt: &'r R,
     faults: u64,
     misses: u64,
+    taken: u64,
 }
 
 impl<'r, R: Files> RealFolder<'r, R> {
@@ -24,12 +25,14 @@ impl<'r, R: Files> RealFolder<'r, R> {
     pub fn new(rt: &'r R) -> RealFolder<'r, R>
         ensures faults { ⟦<RealFolder<'r, R> as Folder>⟧.faults result ≡ 0 }
         ensures misses { ⟦<RealFolder<'r, R> as Folder>⟧.misses result ≡ 0 }
+        ensures taken { ⟦<RealFolder<'r, R> as Folder>⟧.taken result ≡ 0 }
         ensures untold { ⟦<RealFolder<'r, R> as Folder>⟧.holds result ≡ None }
     {
         RealFolder {
             rt,
             faults: 0,
             misses: 0,
+            taken: 0,
         }
     }
 }
@@ -40,6 +43,8 @@ impl<R: Files> Folder for RealFolder<'_, R> {
     ghost faults = { λ folder. folder.faults };
 
     ghost misses = { λ folder. folder.misses };
+
+    ghost taken = { λ folder. folder.taken };
 
     ghost serves = { λ _ _. true };
 
@@ -56,7 +61,10 @@ impl<R: Files> Folder for RealFolder<'_, R> {
             }
         };
         match read_at(&mut file, at, into) {
-            Ok(count) => Ok(count),
+            Ok(count) => {
+                self.taken = self.taken.saturating_add(count as u64);
+                Ok(count)
+            }
             Err(_) => {
                 self.faults = self.faults.saturating_add(1);
                 Err(ReadMiss::Failed)
@@ -113,7 +121,8 @@ fn read_at<F: Read + Seek>(file: &mut F, at: u64, into: &mut [u8]) -> io::Result
     Ok(count)
 }
 
-/// A stream of the system, which a writer takes. Each write that fails, or takes nothing of a piece, is a fault.
+/// A stream of the system, which a writer takes. Each write that fails, or takes nothing of a piece, is a
+/// fault.
 #[derive(Drop)]
 pub struct RealSink<W: Write + Drop> {
     writer: W,

@@ -1,6 +1,6 @@
 //! A sink that bytes are appended to, which may fail.
-ghost use Rattle.std.specs.Prelude.{◌≡◌, ◌<◌, ◌≤◌, List, ℕ, Option, length, take, IfOk, OnOk, OnErr};
-ghost use Rattle.acas_outside.specs.Bytes.{Appends, AppendsPart};
+ghost use Rattle.std.specs.Prelude.{◌≡◌, ◌<◌, ◌≤◌, List, ℕ, Option, length, take, IfOk, OnErr};
+ghost use Rattle.acas_outside.specs.Bytes.{Appends};
 ghost use Rattle.acas_outside.specs.Counts.{Rose};
 
 /// A call of a folder or of a sink failed.
@@ -23,24 +23,7 @@ pub trait Sink {
         ensures ok { IfOk result (λ n. Appends (written self.old) (written self.new) (take n piece.now)) }
         ensures err { OnErr result (written self.new ≡ written self.old) }
         ensures failed { OnErr result (Rose (faults self.old) (faults self.new)) }
-        ensures none { IfOk result (λ n. n ≡ 0 → 0 < length piece.now → Rose (faults self.old) (faults self.new)) }
+        ensures none { IfOk result (λ n. n ≡ 0 → 0 < length piece.now →
+            Rose (faults self.old) (faults self.new)) }
         ensures faults { faults self.old ≤ faults self.new };
-}
-
-/// Appends all bytes to a sink, over short writes. Where it fails, it has appended a proper prefix of them.
-pub fn emit<S: Sink>(sink: &mut S, bytes: &[u8]) -> Result<(), Failed>
-    ensures ok { OnOk result (Appends (S.written sink.old) (S.written sink.new) bytes.now) }
-    ensures err { OnErr result (AppendsPart (S.written sink.old) (S.written sink.new) bytes.now) }
-    ensures failed { OnErr result (Rose (S.faults sink.old) (S.faults sink.new)) }
-    ensures faults { S.faults sink.old ≤ S.faults sink.new }
-{
-    let mut at = 0;
-    while at < bytes.len() {
-        let taken = sink.write(&bytes[at..])?;
-        if taken == 0 {
-            return Err(Failed);
-        }
-        at += taken;
-    }
-    Ok(())
 }

@@ -2,6 +2,7 @@
 ghost use Rattle.std.specs.Prelude.{◌≡◌, ◌++◌, [], IsSome, OnOk, OnErr, unwrap_or};
 ghost use Rattle.std.specs.Option.{option_copied};
 ghost use Rattle.std.specs.FinMap as map;
+ghost use Rattle.acas_outside.specs.Files.{grown};
 ghost use Rattle.acas_outside.specs.Stored.{files_of};
 
 use std::alloc::{AllocError, Global};
@@ -34,7 +35,7 @@ pub(crate) fn store(
 
 pub(crate) fn grow(files: &mut Stored, name: &str, bytes: &[u8]) -> Result<(), AllocError>
     requires held { IsSome (map.get (files_of files.old) name.now) }
-    ensures ok { OnOk result (files_of files.new ≡ map.insert (files_of files.old) name.now (unwrap_or (map.get (files_of files.old) name.now) [] ++ bytes.now)) }
+    ensures ok { OnOk result (files_of files.new ≡ grown (files_of files.old) name.now bytes.now) }
     ensures err { OnErr result (files_of files.new ≡ files_of files.old) }
 {
     match files.get_mut(name) {

@@ -1,8 +1,9 @@
 //! Files that are read whole.
 ghost use Rattle.std.specs.Prelude.{◌≡◌, ◌≤◌, ◌<◌, ◌^◌, ◌+◌, IsTrue, IfOk, IsErrOf, length};
-ghost use Rattle.acas_outside.specs.Counts.{Rose};
+ghost use Rattle.acas_outside.specs.Counts.{raised};
 ghost use Rattle.acas_outside.specs.Bytes.{IsBytes};
 ghost use Rattle.acas_outside.specs.Files.{Given};
+ghost use Rattle.acas_outside.specs.Frame.{OnlyReads};
 ghost use Rattle.acas_outside.specs.Whole.{ReadsWhole, ReadsOn};
 
 use crate::folder::{Folder, ReadMiss};
@@ -31,7 +32,8 @@ const PIECE: usize = 4096;
 
 /// Reads all bytes of a file, up to its end, where it has at most `limit` of them.
 ///
-/// It asks for at most `limit + 1` bytes, so that a file that is too long is not read to its end.
+/// It takes the bytes that it gives, and of a file that is too long one byte more than the limit: no byte is read
+/// twice, and none behind that one.
 pub fn read_whole<F: Folder>(
     alloc: Global,
     folder: &mut F,
@@ -43,12 +45,13 @@ pub fn read_whole<F: Folder>(
     ensures given { Given (F.holds folder.old) name.now (λ file. ReadsWhole file limit result) }
     ensures bound { IfOk result (λ bytes. length bytes.items ≤ limit) }
     ensures bytes { IfOk result (λ bytes. IsBytes bytes.items) }
-    ensures holds { F.holds folder.new ≡ F.holds folder.old }
-    ensures serves { F.serves folder.new ≡ F.serves folder.old }
-    ensures failed { IsErrOf result ReadFault.Failed → Rose (F.faults folder.old) (F.faults folder.new) }
-    ensures absent { IsErrOf result ReadFault.Absent → Rose (F.misses folder.old) (F.misses folder.new) }
-    ensures faults { F.faults folder.old ≤ F.faults folder.new }
-    ensures misses { F.misses folder.old ≤ F.misses folder.new }
+    ensures taken { IfOk result (λ bytes.
+        F.taken folder.new ≡ raised (F.taken folder.old) (length bytes.items)) }
+    ensures too_long { IsErrOf result ReadFault.TooLong →
+        F.taken folder.new ≡ raised (F.taken folder.old) (limit + 1) }
+    ensures most { F.taken folder.new ≤ raised (F.taken folder.old) (limit + 1) }
+    ensures frame { OnlyReads F.Folder folder.old folder.new
+        (IsErrOf result ReadFault.Failed) (IsErrOf result ReadFault.Absent) }
 {
     let mut bytes = Vec::new(alloc);
     while bytes.len() as u64 <= limit {
@@ -60,7 +63,8 @@ pub fn read_whole<F: Folder>(
     Err(ReadFault::TooLong)
 }
 
-// Appends what one read gives behind the bytes that are read, and says how many these are. There are none only at the end.
+// Appends what one read gives behind the bytes that are read, and says how many these are. There are none only at
+// the end.
 fn read_more<F: Folder>(
     folder: &mut F,
     name: &str,
@@ -70,17 +74,16 @@ fn read_more<F: Folder>(
     requires served { IsTrue (F.serves folder.old name.now) }
     requires room { 0 < room }
     requires small { length bytes.old.items < 2 ^ 60 }
-    ensures given { Given (F.holds folder.old) name.now (λ file. ReadsOn file bytes.old.items bytes.new.items result) }
+    ensures given { Given (F.holds folder.old) name.now (λ file.
+        ReadsOn file bytes.old.items bytes.new.items result) }
     ensures bytes { IfOk result (λ n. IsBytes bytes.new.items) }
     ensures grows { IfOk result (λ n. length bytes.new.items ≡ length bytes.old.items + n) }
     ensures bound { IfOk result (λ n. n ≤ room) }
     ensures limit { IsErrOf result ReadFault.TooLong → ⊥ }
-    ensures holds { F.holds folder.new ≡ F.holds folder.old }
-    ensures serves { F.serves folder.new ≡ F.serves folder.old }
-    ensures failed { IsErrOf result ReadFault.Failed → Rose (F.faults folder.old) (F.faults folder.new) }
-    ensures absent { IsErrOf result ReadFault.Absent → Rose (F.misses folder.old) (F.misses folder.new) }
-    ensures faults { F.faults folder.old ≤ F.faults folder.new }
-    ensures misses { F.misses folder.old ≤ F.misses folder.new }
+    ensures taken { IfOk result (λ n. F.taken folder.new ≡ raised (F.taken folder.old) n) }
+    ensures most { F.taken folder.new ≤ raised (F.taken folder.old) room }
+    ensures frame { OnlyReads F.Folder folder.old folder.new
+        (IsErrOf result ReadFault.Failed) (IsErrOf result ReadFault.Absent) }
 {
     let mut piece = [0u8; PIECE];
     let asked = room.min(PIECE);

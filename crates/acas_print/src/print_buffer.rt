@@ -1,7 +1,7 @@
 //! A buffer between lines and a sink.
-ghost use Rattle.std.specs.Prelude.{◌≡◌, ◌+◌, ◌≤◌, [], ◌++◌, length, IfOk, OnOk, OnErr};
+ghost use Rattle.std.specs.Prelude.{◌≡◌, ◌+◌, ◌≤◌, [], ◌++◌, length, IfOk, IsErr, OnOk, OnErr};
 ghost use Rattle.acas_outside.specs.Bytes.{Appends, AppendsPart};
-ghost use Rattle.acas_outside.specs.Counts.{Rose};
+ghost use Rattle.acas_outside.specs.Frame.{Emits};
 ghost use Rattle.acas_print.specs.Printing.{Prints};
 
 use acas_outside::{Failed, Sink, emit};
@@ -11,7 +11,8 @@ use std::marker::Model;
 /// The number of bytes that are gathered before they are written.
 pub const BLOCK_BYTES: usize = 65_536;
 
-/// Bytes that wait to be written, at most 65,536. Its memory is taken when it is made, so printing takes none.
+/// Bytes that wait to be written, at most 65,536. Its memory is taken when it is made, so printing takes
+/// none.
 #[derive(Drop)]
 pub struct PrintBuffer {
     bytes: Vec<u8>,
@@ -36,13 +37,15 @@ impl PrintBuffer {
         Ok(PrintBuffer { bytes })
     }
 
-    /// Prints a piece of at most 65,536 bytes behind what waits. What waits is written out first where there is no room.
+    /// Prints a piece of at most 65,536 bytes behind what waits. What waits is written out first where there is no
+    /// room.
     pub fn print<S: Sink>(&mut self, sink: &mut S, piece: &[u8]) -> Result<(), Failed>
         requires { length piece.now ≤ 65536 }
-        ensures ok { OnOk result (Prints (S.written sink.old) (S.written sink.new) self.old self.new piece.now) }
-        ensures err { OnErr result (AppendsPart (S.written sink.old) (S.written sink.new) (self.old ++ piece.now)) }
-        ensures failed { OnErr result (Rose (S.faults sink.old) (S.faults sink.new)) }
-        ensures faults { S.faults sink.old ≤ S.faults sink.new }
+        ensures ok { OnOk result
+            (Prints (S.written sink.old) (S.written sink.new) self.old self.new piece.now) }
+        ensures err { OnErr result
+            (AppendsPart (S.written sink.old) (S.written sink.new) (self.old ++ piece.now)) }
+        ensures frame { Emits S.Sink sink.old sink.new (IsErr result) }
     {
         self.make_room(sink, piece.len())?;
         let taken = self.bytes.extend_from_slice(piece);
@@ -56,8 +59,7 @@ impl PrintBuffer {
         ensures ok { OnOk result (Prints (S.written sink.old) (S.written sink.new) self.old self.new []) }
         ensures room { OnOk result (length self.new + count ≤ 65536) }
         ensures err { OnErr result (AppendsPart (S.written sink.old) (S.written sink.new) self.old) }
-        ensures failed { OnErr result (Rose (S.faults sink.old) (S.faults sink.new)) }
-        ensures faults { S.faults sink.old ≤ S.faults sink.new }
+        ensures frame { Emits S.Sink sink.old sink.new (IsErr result) }
     {
         if self.bytes.len() + count <= BLOCK_BYTES {
             return Ok(());
@@ -71,8 +73,7 @@ impl PrintBuffer {
         ensures ok { OnOk result (Appends (S.written sink.old) (S.written sink.new) self.old) }
         ensures empty { OnOk result (self.new ≡ []) }
         ensures err { OnErr result (AppendsPart (S.written sink.old) (S.written sink.new) self.old) }
-        ensures failed { OnErr result (Rose (S.faults sink.old) (S.faults sink.new)) }
-        ensures faults { S.faults sink.old ≤ S.faults sink.new }
+        ensures frame { Emits S.Sink sink.old sink.new (IsErr result) }
     {
         emit(sink, &self.bytes)?;
         self.bytes.clear();

@@ -1,21 +1,23 @@
--- What an accepted model says of its weights and of its choices.
-use Rattle.std.proofs.Common.{◌≡◌, ◌≢◌, ℕ, zero, suc, ◌<◌, ◌≤◌, pos, ◌≤ℤ◌, unsigned_abs, List, [], ◌∷◌, length, get_or, sum_by, Contains, true, false, nat_eq, refl, ap, sym, subst, ◌∙◌, arith}
+-- What a model within its limits says of its weights and of its choices.
+use Rattle.std.proofs.Common.{◌≡◌, ◌≢◌, ℕ, zero, suc, ◌<◌, ◌≤◌, pos, ◌≤ℤ◌, List, [], ◌∷◌, length, get_or, sum_by, Contains, true, false, nat_eq, refl, ap, sym, subst, ◌∙◌, arith}
 use Rattle.std.proofs.lemmas.Int.{ints}
 use Rattle.std.proofs.lemmas.List.Sums.{sum_by-cons}
-use Rattle.acas_spec.specs.Accepted.{IsAccepted, AreDistinct}
+use Rattle.acas_units.specs.declared.limits.TheConstants.{LEAST_COST, GREATEST_COST}
+use Rattle.acas_spec.specs.Axis.{IsBetween}
+use Rattle.acas_spec.specs.Limits.{IsModel, AreDistinct}
 use Rattle.acas_spec.specs.Model.{ModelData, choices_at, total_weight, weight_of}
 use Rattle.acas_spec.specs.declared.parts.Choice.{Choice}
 use Rattle.acas_spec.specs.declared.parts.SigmaPoint.{SigmaPoint}
-use Rattle.acas_process.specs.Cost.{MayChoose, advisories_of, cost_among, cost_of}
+use Rattle.acas_process.specs.Cost.{IsKnownChoice, MayChoose, advisories_of, cost_among, cost_of}
 
 -- ---- weights
 
-first_weighs : (points : List SigmaPoint) (d : SigmaPoint) → 1 ≤ length points → pos 1 ≤ℤ (get_or points 0 d).weight → 0 < sum_by weight_of points
+first_weighs : (sigmas : List SigmaPoint) (d : SigmaPoint) → 1 ≤ length sigmas → pos 1 ≤ℤ (get_or sigmas 0 d).weight → 0 < sum_by weight_of sigmas
 first_weighs [] d h k = absurd (omega arith)
-first_weighs (p ∷ points) d h k = let e : 1 ≤ weight_of p = omega (arith, ints) in omega (arith, sum_by-cons weight_of p points)
+first_weighs (p ∷ sigmas) d h k = let e : 1 ≤ weight_of p = omega (arith, ints) in omega (arith, sum_by-cons weight_of p sigmas)
 
-pub total_weight_pos : (m : ModelData) → IsAccepted m → 0 < total_weight m
-total_weight_pos m v = first_weighs m.points _ v.some_points (v.points 0 (omega (arith, v.some_points))).light
+pub total_weight_pos : (m : ModelData) → IsModel m → 0 < total_weight m
+total_weight_pos m v = first_weighs m.sigmas _ v.some_sigmas (v.sigmas 0 (omega (arith, v.some_sigmas))).weight.low
 
 -- ---- choices
 
@@ -57,18 +59,24 @@ own_cost (c ∷ rest) (suc k) d apart h =
     (own_cost rest k d (record { apart = λ i j l w. apart.apart (suc i) (suc j) (omega arith) (omega arith) }) within)
 
 -- each choice has its own cost
-pub cost_is_own : (m : ModelData) (p place : ℕ) (d : Choice) → IsAccepted m → p < m.grid.advisories → place < length (choices_at m p) →
+pub cost_is_own : (m : ModelData) (p place : ℕ) (d : Choice) → IsModel m → p < m.grid.advisories → place < length (choices_at m p) →
     cost_of m p (get_or (choices_at m p) place d).advisory ≡ (get_or (choices_at m p) place d).cost
 cost_is_own m p place d v known within = own_cost (choices_at m p) place d (v.choices p known).distinct within
 
--- what may be chosen is an advisory of the model, at a cost of at most 10^9 in size
+-- what may be chosen is an advisory of the model, at a cost within its limits
 pub record IsChosen (m : ModelData) (p a : ℕ) : Type 0 where
   pub inside : a < m.grid.advisories
-  pub small : unsigned_abs (cost_of m p a) ≤ 1_000_000_000
+  pub limits : IsBetween LEAST_COST GREATEST_COST (cost_of m p a)
 
-pub is_chosen : (m : ModelData) (p a : ℕ) → IsAccepted m → p < m.grid.advisories → MayChoose m p a → IsChosen m p a
+pub is_chosen : (m : ModelData) (p a : ℕ) → IsModel m → p < m.grid.advisories → MayChoose m p a → IsChosen m p a
 is_chosen m p a v known follows =
     let at = place_of (choices_at m p) a (record { advisory = 0; cost = pos 0 }) follows in
     let choice = (v.choices p known).each at.place at.within in
     let cost = cost_is_own m p at.place (record { advisory = 0; cost = pos 0 }) v known at.within in
-    subst (λ (z : ℕ). IsChosen m p z) at.is (record { inside = choice.advisory; small = omega (arith, ap (λ z. unsigned_abs z) cost, choice.cost) })
+    subst (λ (z : ℕ). IsChosen m p z) at.is (record { inside = choice.advisory; limits = subst (λ z. IsBetween LEAST_COST GREATEST_COST z) (sym cost) choice.cost })
+
+pub known_choice : (m : ModelData) (p i : ℕ) (d : Choice) → IsModel m → p < m.grid.advisories → i < length (choices_at m p) → IsKnownChoice m p (get_or (choices_at m p) i d)
+known_choice m p i d v known within =
+    let own = cost_is_own m p i d v known within in
+    let chosen = is_chosen m p (get_or (choices_at m p) i d).advisory v known (listed (choices_at m p) i d within) in
+    record { inside = chosen.inside; cost = own; limits = subst (λ z. IsBetween LEAST_COST GREATEST_COST z) own chosen.limits }

@@ -12,7 +12,7 @@ use Rattle.acas_process.proofs.SumLaws.{sum_of_two}
 
 -- ---- the order of the places
 
-next_above : (axis : List ℤ) (k : ℕ) → IsAxis axis → k + 1 < length axis → place_value axis k <ℤ place_value axis (k + 1)
+pub next_above : (axis : List ℤ) (k : ℕ) → IsAxis axis → k + 1 < length axis → place_value axis k <ℤ place_value axis (k + 1)
 unfolding Rises
 next_above axis k a h = a.rising k h
 
@@ -69,7 +69,7 @@ between_of axis k x e = let h = between_low (length axis) (k + 1) (place_value a
 abbrev pub others : List ℤ → ℕ → ℕ
 others axis k = gap_product axis / gap axis k
 
-distance-same : (a : ℤ) → distance a a ≡ 0
+pub distance-same : (a : ℤ) → distance a a ≡ 0
 distance-same a = omega (arith, ints)
 
 pub distance-add : (a x b : ℤ) → a ≤ℤ x → x ≤ℤ b → distance a x + distance x b ≡ distance a b

@@ -2,14 +2,16 @@
 use Rattle.std.proofs.Common.{◌≡◌, ℕ, zero, suc, ◌^◌, ◌<◌, ℤ, pos, ◌+ℤ◌, ◌*ℤ◌, ◌≤ℤ◌, ap, sym, subst, ◌∙◌, arith}
 use Rattle.std.proofs.lemmas.Int.{ints}
 use Rattle.std.proofs.Math.Nat.{pow-suc, pow-zero}
-use Rattle.acas_spec.specs.Accepted.{IsAccepted}
+use Rattle.acas_spec.specs.Limits.{IsModel}
 use Rattle.acas_spec.specs.Model.{ModelData}
 use Rattle.acas_grid.specs.Grid.{IsVertex}
-use Rattle.acas_grid.specs.declared.place.Vertex.{Vertex}
+use Rattle.acas_spec.specs.declared.place.Vertex.{Vertex}
 use Rattle.acas_frac.specs.Rounding.{down, up}
 use Rattle.acas_frac.proofs.SignedProducts.{mul-add_ℤ, mul_assoc_ℤ, mul_comm_ℤ, mul-le_ℤ}
-use Rattle.acas_process.specs.Cost.{IsEntry, MayChoose, Policy, IsPolicy, cost_of, transition_total, terminal_cost, expected_cost}
-use Rattle.acas_process.specs.Bounds.{Table, mean_value, HasTwoSidedBounds, IsSound}
+use Rattle.acas_spec.specs.Table.{Policy}
+use Rattle.acas_process.specs.Cost.{IsEntry, MayChoose, IsPolicy, cost_of, transition_total, terminal_cost, expected_cost}
+use Rattle.acas_spec.specs.Table.{Table}
+use Rattle.acas_process.specs.Bounds.{mean_value, HasTwoSidedBounds, IsSound}
 use Rattle.acas_process.proofs.AcceptedLaws.{is_chosen}
 use Rattle.acas_process.proofs.MeanLaws.{spread, spread-le, spread-mul, transitions_spread, spread-le-mean, mean-le-spread}
 
@@ -56,10 +58,10 @@ no_power : (m : ℕ) (z : ℤ) → pos (m ^ 0) *ℤ z ≡ z
 no_power m z = ap (λ (k : ℕ). pos k *ℤ z) (pow-zero m) ∙ omega (arith, ints)
 
 -- a state below, under an advisory that may be chosen
-below : (m : ModelData) (n p a : ℕ) (x y : Vertex) → IsAccepted m → IsEntry m (suc n) p x → MayChoose m p a → IsVertex m.grid y → IsEntry m n a y
+below : (m : ModelData) (n p a : ℕ) (x y : Vertex) → IsModel m → IsEntry m (suc n) p x → MayChoose m p a → IsVertex m.grid y → IsEntry m n a y
 below m n p a x y v at follows inside = record { seconds = omega (arith, at.seconds); present = (is_chosen m p a v at.present follows).inside; vertex = inside }
 
-pub upper_bound_at : (m : ModelData) (t : Table) → IsAccepted m → IsSound m t → (n p : ℕ) (x : Vertex) → IsEntry m n p x →
+pub upper_bound_at : (m : ModelData) (t : Table) → IsModel m → IsSound m t → (n p : ℕ) (x : Vertex) → IsEntry m n p x →
     (million *ℤ expected_cost m t.advice n p x) ≤ℤ (pos (transition_total m ^ n) *ℤ t.upper n p x)
 upper_bound_at m t v s zero p x at =
     subst (λ z. (million *ℤ terminal_cost m x) ≤ℤ z) (sym (no_power (transition_total m) (t.upper 0 p x))) (s.entries 0 p x at).1
@@ -74,7 +76,7 @@ upper_bound_at m t v s (suc n) p x at =
     subst (λ z. (million *ℤ (pos (transition_total m ^ suc n) *ℤ cost_of m p a +ℤ z)) ≤ℤ (pos (transition_total m ^ suc n) *ℤ t.upper (suc n) p x)) (sym (transitions_spread m x a cost))
     (upper_step (transition_total m) n (cost_of m p a) (mean_value up m (t.upper n) x a) (spread m x a cost) (spread m x a (t.upper n a)) (t.upper (suc n) p x) sums (spread-le-mean m (t.upper n) x a v) entry.1)
 
-pub lower_bound_at : (m : ModelData) (t : Table) (policy : Policy) → IsAccepted m → IsSound m t → IsPolicy m policy → (n p : ℕ) (x : Vertex) → IsEntry m n p x →
+pub lower_bound_at : (m : ModelData) (t : Table) (policy : Policy) → IsModel m → IsSound m t → IsPolicy m policy → (n p : ℕ) (x : Vertex) → IsEntry m n p x →
     (pos (transition_total m ^ n) *ℤ t.lower n p x) ≤ℤ (million *ℤ expected_cost m policy n p x)
 lower_bound_at m t policy v s w zero p x at =
     subst (λ z. z ≤ℤ (million *ℤ terminal_cost m x)) (sym (no_power (transition_total m) (t.lower 0 p x))) (s.entries 0 p x at).0
@@ -95,7 +97,7 @@ sound_policy : (m : ModelData) (t : Table) → IsSound m t → (n p : ℕ) (x : 
 sound_policy m t s zero p x h at = absurd (omega arith)
 sound_policy m t s (suc n) p x h at = (s.entries (suc n) p x at).0
 
-pub two_sided_bounds : (m : ModelData) (t : Table) → IsAccepted m → IsSound m t → HasTwoSidedBounds m t
+pub two_sided_bounds : (m : ModelData) (t : Table) → IsModel m → IsSound m t → HasTwoSidedBounds m t
 two_sided_bounds m t v s = record {
   policy = record { allowed = sound_policy m t s };
   above = record { holds = upper_bound_at m t v s };

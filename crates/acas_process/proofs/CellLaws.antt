@@ -1,18 +1,16 @@
 -- A sum by the shares of a point has eight terms: those at the corners of its cell.
-use Rattle.std.proofs.Common.{◌≡◌, ℕ, suc, ◌+◌, ◌*◌, ◌<◌, ◌≤◌, ℤ, pos, ◌+ℤ◌, ◌*ℤ◌, List, length, get_or, Bool, true, false, cond, nat_eq, refl, ap, sym, subst, ◌∙◌, arith, ⊎_elim}
+use Rattle.std.proofs.Common.{◌≡◌, ℕ, suc, ◌+◌, ◌*◌, ◌<◌, ℤ, pos, ◌+ℤ◌, ◌*ℤ◌, List, length, get_or, ap, sym, ◌∙◌, arith}
 use Rattle.std.proofs.lemmas.Int.{ints}
-use Rattle.std.proofs.lemmas.Bool.{cases_lt}
-use Rattle.acas_spec.specs.Axis.{IsAxis}
 use Rattle.acas_spec.specs.Model.{GridData}
 use Rattle.acas_grid.specs.Axis.{IsCell}
-use Rattle.acas_grid.specs.declared.place.Vertex.{Vertex}
-use Rattle.acas_grid.specs.declared.place.Point.{Point}
+use Rattle.acas_spec.specs.declared.place.Vertex.{Vertex}
+use Rattle.acas_spec.specs.declared.place.Point.{Point}
 use Rattle.acas_frac.proofs.SignedProducts.{mul-add_ℤ, mul_assoc_ℤ, mul_comm_ℤ}
 use Rattle.acas_process.specs.Sums.{sum_below}
-use Rattle.acas_process.specs.Axis.{IsStraight, distance, gap_product, tent}
+use Rattle.acas_process.specs.Axis.{distance, tent}
 use Rattle.acas_process.specs.Step.{share, over_vertices}
 use Rattle.acas_process.proofs.SumLaws.{sum_below-same, sum_below-mul, sum_of_two}
-use Rattle.acas_process.proofs.AxisLaws.{IsBetween, HasCell, others, has_cell}
+use Rattle.acas_process.proofs.AxisLaws.{IsBetween, HasCell}
 
 -- the two ends of a cell, with their weights
 abbrev pub at_ends : ℕ → ℕ → ℕ → (ℕ → ℤ) → ℤ
@@ -91,67 +89,3 @@ grid_sum grid s p q r f hp hq hr =
     ∙ ap (λ z. pos p.other *ℤ z) (at_ends-mul p.lower p.upper p.cell (pos (q.other * r.other)) middle)
     ∙ sym (mul_assoc_ℤ (pos p.other) (pos (q.other * r.other)) (ends_of p middle))
     ∙ ap (λ n. pos n *ℤ ends_of p middle) (omega arith)
-
-test_same : (a b : ℕ) → a ≡ b → nat_eq a b ≡ true
-test_same a b e = grind arith
-
-test_apart : (a b : ℕ) → ¬ (a ≡ b) → nat_eq a b ≡ false
-test_apart a b h = grind arith
-
--- the tent of place i in the cell k
-tent_value : (axis : List ℤ) (i k : ℕ) (x : ℤ) → IsAxis axis → IsBetween axis k x →
-    tent axis i x ≡ cond (nat_eq i k) (others axis k * distance x (get_or axis (k + 1) (pos 0))) (cond (nat_eq i (k + 1)) (others axis k * distance (get_or axis k (pos 0)) x) 0)
-tent_value axis i k x r c =
-    let cell = has_cell axis k x r c in
-    ⊎_elim
-    (λ (h : i < k). rw (test_apart i k (λ e. omega arith), test_apart i (k + 1) (λ e. omega arith)) (cell.before i h))
-    (λ (h : k ≤ i).
-    ⊎_elim
-    (λ (l : i < k + 1). let e : k ≡ i = omega arith in rw (test_same i k (omega arith)) (subst (λ (n : ℕ). tent axis n x ≡ others axis k * distance x (get_or axis (k + 1) (pos 0))) e cell.lower))
-    (λ (l : k + 1 ≤ i).
-    ⊎_elim
-    (λ (o : suc k < i). rw (test_apart i k (λ e. omega arith), test_apart i (k + 1) (λ e. omega arith)) (cell.after i o))
-    (λ (o : i ≤ suc k). let e : suc k ≡ i = omega arith in rw (test_apart i k (λ e. omega arith), test_same i (k + 1) (omega arith)) (subst (λ (n : ℕ). tent axis n x ≡ others axis k * distance (get_or axis k (pos 0)) x) e cell.upper))
-    (cases_lt (suc k) i))
-    (cases_lt i (k + 1)))
-    (cases_lt i k)
-
-record OnLine (p q : Bool) (d x y c ta tb t : ℕ) : Type 0 where
-  at_low : ta ≡ cond p c 0
-  at_high : tb ≡ cond q c 0
-  between : d * t ≡ x * ta + y * tb
-
-on_line : (p q : Bool) (o d x y c ta tb t u v : ℕ) → ¬ ((p ≡ true) × (q ≡ true)) → u ≡ 0 → v ≡ 0 → o * d ≡ c →
-    ta ≡ cond p (o * d) (cond q (o * u) 0) → tb ≡ cond p (o * v) (cond q (o * d) 0) → t ≡ cond p (o * x) (cond q (o * y) 0) → OnLine p q d x y c ta tb t
-on_line true true o d x y c ta tb t u v apart zu zv whole ea eb e = absurd (apart (refl, refl))
-on_line true false o d x y c ta tb t u v apart zu zv whole ea eb e = record {
-  at_low = ea ∙ whole;
-  at_high = omega (arith, eb, ap (λ (n : ℕ). o * n) zv);
-  between = omega (arith, ap (λ (n : ℕ). d * n) e, ap (λ (n : ℕ). x * n) ea, ap (λ (n : ℕ). y * n) (eb ∙ ap (λ (n : ℕ). o * n) zv));
-}
-on_line false true o d x y c ta tb t u v apart zu zv whole ea eb e = record {
-  at_low = omega (arith, ea, ap (λ (n : ℕ). o * n) zu);
-  at_high = eb ∙ whole;
-  between = omega (arith, ap (λ (n : ℕ). d * n) e, ap (λ (n : ℕ). y * n) eb, ap (λ (n : ℕ). x * n) (ea ∙ ap (λ (n : ℕ). o * n) zu));
-}
-on_line false false o d x y c ta tb t u v apart zu zv whole ea eb e = record {
-  at_low = ea;
-  at_high = eb;
-  between = omega (arith, ap (λ (n : ℕ). d * n) e, ap (λ (n : ℕ). x * n) ea, ap (λ (n : ℕ). y * n) eb);
-}
-
-not_both : (i k : ℕ) → ¬ ((nat_eq i k ≡ true) × (nat_eq i (k + 1) ≡ true))
-not_both i k h = grind (arith, h)
-
-pub straight : (axis : List ℤ) (i k : ℕ) (x : ℤ) → IsAxis axis → IsBetween axis k x → IsStraight axis i k x
-straight axis i k x r c =
-    let a : ℤ = get_or axis k (pos 0) in
-    let b : ℤ = get_or axis (k + 1) (pos 0) in
-    let same : (z : ℤ) → distance z z ≡ 0 = λ z. omega (arith, ints) in
-    let low = tent_value axis i k a r (record { place = c.place; low = omega (arith, ints); high = omega (arith, ints, c.low, c.high) }) in
-    let high = tent_value axis i k b r (record { place = c.place; low = omega (arith, ints, c.low, c.high); high = omega (arith, ints) }) in
-    let here = tent_value axis i k x r c in
-    let whole = (has_cell axis k x r c).product in
-    let line = on_line (nat_eq i k) (nat_eq i (k + 1)) (others axis k) (distance a b) (distance x b) (distance a x) (gap_product axis) (tent axis i a) (tent axis i b) (tent axis i x) (distance a a) (distance b b)
-    (not_both i k) (same a) (same b) whole low high here in
-    record { at_low = line.at_low; at_high = line.at_high; between = line.between }

@@ -1,12 +1,12 @@
 pub mod SumLaws
 pub mod AcceptedLaws
+pub mod Least
 pub mod AxisLaws
 pub mod VertexLaws
 pub mod MeanLaws
 pub mod BoundLaws
 pub mod CompiledLaws
+pub mod HatLaws
 pub mod CellLaws
 pub mod SizeLaws
-pub mod ChoiceLaws
 pub mod SameLaws
-mod Accepting

@@ -2,19 +2,20 @@
 use Rattle.std.proofs.Common.{◌≡◌, ℕ, ◌+◌, ◌*◌, ◌<◌, ℤ, pos, ◌+ℤ◌, ◌*ℤ◌, ◌≤ℤ◌, length, ap, sym, subst, ◌∙◌, arith}
 use Rattle.std.proofs.lemmas.Int.{ints}
 use Rattle.std.proofs.Math.Nat.{mul-pos}
-use Rattle.acas_spec.specs.Accepted.{IsAccepted, IsGrid}
+use Rattle.acas_spec.specs.Limits.{IsModel, IsGrid}
 use Rattle.acas_spec.specs.Model.{GridData, ModelData, total_weight}
 use Rattle.acas_grid.specs.Grid.{IsVertex}
-use Rattle.acas_grid.specs.declared.place.Vertex.{Vertex}
-use Rattle.acas_grid.specs.declared.place.Point.{Point}
+use Rattle.acas_spec.specs.declared.place.Vertex.{Vertex}
+use Rattle.acas_spec.specs.declared.place.Point.{Point}
 use Rattle.acas_frac.specs.Rounding.{down, up}
 use Rattle.acas_frac.proofs.SignedProducts.{mul-add_ℤ, mul_assoc_ℤ, mul_comm_ℤ, mul-le_ℤ}
 use Rattle.acas_frac.proofs.RoundingLaws.{down_is_floor, up_is_ceiling, up-le-down}
 use Rattle.acas_process.specs.Sums.{sum_below}
-use Rattle.acas_process.specs.Step.{grid_product, moved, share, over_vertices, over_points, point_weight}
+use Rattle.acas_process.specs.Step.{grid_product, moved, share, over_vertices, over_sigmas, sigma_weight}
 use Rattle.acas_process.specs.Cost.{transition_weight, transition_total}
-use Rattle.acas_process.specs.Bounds.{Values, mean_value}
-use Rattle.acas_process.proofs.SumLaws.{sum_below-same, sum_below-le, sum_below-mul, sum_below-add}
+use Rattle.acas_spec.specs.Table.{Values}
+use Rattle.acas_process.specs.Bounds.{mean_value}
+use Rattle.acas_process.proofs.SumLaws.{sum_below-same, sum_below-le, sum_below-mul, sum_below-add, sum_below-pos}
 use Rattle.acas_process.proofs.VertexLaws.{over_vertices-le, over_vertices-same, over_vertices-mul, over_vertices-add, over_vertices-swap, moved_shares_sum, weights_sum}
 use Rattle.acas_process.proofs.AxisLaws.{gap_product_pos}
 use Rattle.acas_process.proofs.AcceptedLaws.{total_weight_pos}
@@ -69,13 +70,13 @@ shared grid s f = over_vertices grid (λ y. pos (share grid s y) *ℤ f y)
 
 -- the sum over the sigma points of that
 abbrev pub spread : ModelData → Vertex → ℕ → (Vertex → ℤ) → ℤ
-spread m x a f = over_points m (λ q. pos (point_weight m q) *ℤ shared m.grid (moved m x a q) f)
+spread m x a f = over_sigmas m (λ q. pos (sigma_weight m q) *ℤ shared m.grid (moved m x a q) f)
 
 pub shared-le : (grid : GridData) (s : Point) (f g : Vertex → ℤ) → ((y : Vertex) → IsVertex grid y → f y ≤ℤ g y) → shared grid s f ≤ℤ shared grid s g
 shared-le grid s f g h = over_vertices-le grid (λ y. pos (share grid s y) *ℤ f y) (λ y. pos (share grid s y) *ℤ g y) (λ y v. mul-le_ℤ (share grid s y) (f y) (g y) (h y v))
 
 pub spread-le : (m : ModelData) (x : Vertex) (a : ℕ) (f g : Vertex → ℤ) → ((y : Vertex) → IsVertex m.grid y → f y ≤ℤ g y) → spread m x a f ≤ℤ spread m x a g
-spread-le m x a f g h = weighted-le (length m.points) (λ q. point_weight m q) _ _ (λ q _. shared-le m.grid (moved m x a q) f g h)
+spread-le m x a f g h = weighted-le (length m.sigmas) (λ q. sigma_weight m q) _ _ (λ q _. shared-le m.grid (moved m x a q) f g h)
 
 pub shared-mul : (grid : GridData) (s : Point) (c : ℤ) (f : Vertex → ℤ) → shared grid s (λ y. c *ℤ f y) ≡ c *ℤ shared grid s f
 shared-mul grid s c f =
@@ -84,8 +85,8 @@ shared-mul grid s c f =
 
 pub spread-mul : (m : ModelData) (x : Vertex) (a : ℕ) (c : ℤ) (f : Vertex → ℤ) → spread m x a (λ y. c *ℤ f y) ≡ c *ℤ spread m x a f
 spread-mul m x a c f =
-    sum_below-same (length m.points) _ _ (λ q _. ap (λ z. pos (point_weight m q) *ℤ z) (shared-mul m.grid (moved m x a q) c f))
-    ∙ weighted-mul (length m.points) (λ q. point_weight m q) c (λ q. shared m.grid (moved m x a q) f)
+    sum_below-same (length m.sigmas) _ _ (λ q _. ap (λ z. pos (sigma_weight m q) *ℤ z) (shared-mul m.grid (moved m x a q) c f))
+    ∙ weighted-mul (length m.sigmas) (λ q. sigma_weight m q) c (λ q. shared m.grid (moved m x a q) f)
 
 sum_below-mul_right : (n : ℕ) (f : ℕ → ℤ) (z : ℤ) → sum_below n f *ℤ z ≡ sum_below n (λ q. f q *ℤ z)
 sum_below-mul_right n f z = mul_comm_ℤ (sum_below n f) z ∙ sym (sum_below-mul n z f) ∙ sum_below-same n _ _ (λ q _. mul_comm_ℤ z (f q))
@@ -93,10 +94,10 @@ sum_below-mul_right n f z = mul_comm_ℤ (sum_below n f) z ∙ sym (sum_below-mu
 -- the sum over vertices by their transition weights is the same
 pub transitions_spread : (m : ModelData) (x : Vertex) (a : ℕ) (f : Vertex → ℤ) → over_vertices m.grid (λ y. transition_weight m x a y *ℤ f y) ≡ spread m x a f
 transitions_spread m x a f =
-    let weight : ℕ → ℕ = λ q. point_weight m q in
-    over_vertices-same m.grid _ _ (λ y _. sum_below-mul_right (length m.points) (λ q. pos (weight q * share m.grid (moved m x a q) y)) (f y))
-    ∙ over_vertices-swap m.grid (length m.points) (λ q y. pos (weight q * share m.grid (moved m x a q) y) *ℤ f y)
-    ∙ sum_below-same (length m.points) _ _ (λ q _.
+    let weight : ℕ → ℕ = λ q. sigma_weight m q in
+    over_vertices-same m.grid _ _ (λ y _. sum_below-mul_right (length m.sigmas) (λ q. pos (weight q * share m.grid (moved m x a q) y)) (f y))
+    ∙ over_vertices-swap m.grid (length m.sigmas) (λ q y. pos (weight q * share m.grid (moved m x a q) y) *ℤ f y)
+    ∙ sum_below-same (length m.sigmas) _ _ (λ q _.
     over_vertices-same m.grid _ _ (λ y _. mul_assoc_ℤ (pos (weight q)) (pos (share m.grid (moved m x a q) y)) (f y))
     ∙ over_vertices-mul m.grid (pos (weight q)) (λ y. pos (share m.grid (moved m x a q) y) *ℤ f y))
 
@@ -104,11 +105,11 @@ pub grid_product_pos : (grid : GridData) → IsGrid grid → 0 < grid_product gr
 grid_product_pos grid v = mul-pos (mul-pos (gap_product_pos grid.h v.altitudes) (gap_product_pos grid.v0 v.own_rates)) (gap_product_pos grid.v1 v.intruder_rates)
 
 -- the mean that is rounded up is at least the exact one
-pub spread-le-mean : (m : ModelData) (u : Values) (x : Vertex) (a : ℕ) → IsAccepted m → spread m x a (u a) ≤ℤ (pos (transition_total m) *ℤ mean_value up m u x a)
-spread-le-mean m u x a v = weighted_up (length m.points) (λ q. point_weight m q) (λ q. shared m.grid (moved m x a q) (u a)) (grid_product m.grid) (total_weight m) (grid_product_pos m.grid v.grid) (total_weight_pos m v)
+pub spread-le-mean : (m : ModelData) (u : Values) (x : Vertex) (a : ℕ) → IsModel m → spread m x a (u a) ≤ℤ (pos (transition_total m) *ℤ mean_value up m u x a)
+spread-le-mean m u x a v = weighted_up (length m.sigmas) (λ q. sigma_weight m q) (λ q. shared m.grid (moved m x a q) (u a)) (grid_product m.grid) (total_weight m) (grid_product_pos m.grid v.grid) (total_weight_pos m v)
 
-pub mean-le-spread : (m : ModelData) (l : Values) (x : Vertex) (a : ℕ) → IsAccepted m → (pos (transition_total m) *ℤ mean_value down m l x a) ≤ℤ spread m x a (l a)
-mean-le-spread m l x a v = weighted_down (length m.points) (λ q. point_weight m q) (λ q. shared m.grid (moved m x a q) (l a)) (grid_product m.grid) (total_weight m) (grid_product_pos m.grid v.grid) (total_weight_pos m v)
+pub mean-le-spread : (m : ModelData) (l : Values) (x : Vertex) (a : ℕ) → IsModel m → (pos (transition_total m) *ℤ mean_value down m l x a) ≤ℤ spread m x a (l a)
+mean-le-spread m l x a v = weighted_down (length m.sigmas) (λ q. sigma_weight m q) (λ q. shared m.grid (moved m x a q) (l a)) (grid_product m.grid) (total_weight m) (grid_product_pos m.grid v.grid) (total_weight_pos m v)
 
 shared_gap : (grid : GridData) (s : Point) (f g : Vertex → ℤ) (d : ℕ) → over_vertices grid (λ y. pos (share grid s y)) ≡ pos (grid_product grid) → ((y : Vertex) → IsVertex grid y → f y ≤ℤ (g y +ℤ pos d)) →
     shared grid s f ≤ℤ (shared grid s g +ℤ pos (grid_product grid) *ℤ pos d)
@@ -121,18 +122,22 @@ shared_gap grid s f g d whole h =
     subst (λ z. shared grid s f ≤ℤ z) parts terms
 
 -- two roundings add at most 2 to the distance
-pub mean-le-mean : (m : ModelData) (u l : Values) (x : Vertex) (a d : ℕ) → IsAccepted m → ((y : Vertex) → IsVertex m.grid y → u a y ≤ℤ (l a y +ℤ pos d)) →
+pub mean-le-mean : (m : ModelData) (u l : Values) (x : Vertex) (a d : ℕ) → IsModel m → ((y : Vertex) → IsVertex m.grid y → u a y ≤ℤ (l a y +ℤ pos d)) →
     mean_value up m u x a ≤ℤ (mean_value down m l x a +ℤ pos (d + 2))
 mean-le-mean m u l x a d v h =
-    weighted_gap (length m.points) (λ q. point_weight m q) (λ q. shared m.grid (moved m x a q) (u a)) (λ q. shared m.grid (moved m x a q) (l a)) (grid_product m.grid) (total_weight m) d
+    weighted_gap (length m.sigmas) (λ q. sigma_weight m q) (λ q. shared m.grid (moved m x a q) (u a)) (λ q. shared m.grid (moved m x a q) (l a)) (grid_product m.grid) (total_weight m) d
     (grid_product_pos m.grid v.grid) (total_weight_pos m v) (weights_sum m) (λ q _. shared_gap m.grid (moved m x a q) (u a) (l a) d (moved_shares_sum m x a q v.grid) h)
 
+-- a transition weight is at least 0
+pub transition_weight-pos : (m : ModelData) (x y : Vertex) (a : ℕ) → pos 0 ≤ℤ transition_weight m x a y
+transition_weight-pos m x y a = sum_below-pos (length m.sigmas) _ (λ q _. omega (arith, ints))
+
 -- all transition weights from one vertex sum to one number
-pub transitions_sum : (m : ModelData) (x : Vertex) (a : ℕ) → IsAccepted m → over_vertices m.grid (transition_weight m x a) ≡ pos (transition_total m)
+pub transitions_sum : (m : ModelData) (x : Vertex) (a : ℕ) → IsModel m → over_vertices m.grid (transition_weight m x a) ≡ pos (transition_total m)
 transitions_sum m x a v =
-    let weight : ℕ → ℕ = λ q. point_weight m q in
-    over_vertices-swap m.grid (length m.points) (λ q y. pos (weight q * share m.grid (moved m x a q) y))
-    ∙ sum_below-same (length m.points) _ _ (λ q _. over_vertices-mul m.grid (pos (weight q)) (λ y. pos (share m.grid (moved m x a q) y)) ∙ ap (λ z. pos (weight q) *ℤ z) (moved_shares_sum m x a q v.grid) ∙ mul_comm_ℤ (pos (weight q)) (pos (grid_product m.grid)))
-    ∙ sum_below-mul (length m.points) (pos (grid_product m.grid)) (λ q. pos (weight q))
+    let weight : ℕ → ℕ = λ q. sigma_weight m q in
+    over_vertices-swap m.grid (length m.sigmas) (λ q y. pos (weight q * share m.grid (moved m x a q) y))
+    ∙ sum_below-same (length m.sigmas) _ _ (λ q _. over_vertices-mul m.grid (pos (weight q)) (λ y. pos (share m.grid (moved m x a q) y)) ∙ ap (λ z. pos (weight q) *ℤ z) (moved_shares_sum m x a q v.grid) ∙ mul_comm_ℤ (pos (weight q)) (pos (grid_product m.grid)))
+    ∙ sum_below-mul (length m.sigmas) (pos (grid_product m.grid)) (λ q. pos (weight q))
     ∙ ap (λ z. pos (grid_product m.grid) *ℤ z) (weights_sum m)
     ∙ mul_comm_ℤ (pos (grid_product m.grid)) (pos (total_weight m))

@@ -1,25 +1,27 @@
 -- How large the values of a compiled table are.
-use Rattle.std.proofs.Common.{◌≡◌, ℕ, zero, suc, ◌+◌, ◌*◌, ◌<◌, ◌≤◌, ℤ, pos, neg_ℤ, ◌*ℤ◌, ◌≤ℤ◌, length, unsigned_abs, nat_le, true, false, ⊎_elim, ap, subst, ◌∙◌, arith}
+use Rattle.std.proofs.Common.{◌≡◌, ℕ, zero, suc, ◌+◌, ◌*◌, ◌<◌, ◌≤◌, ℤ, pos, neg_ℤ, ◌*ℤ◌, ◌≤ℤ◌, length, unsigned_abs, Bool, true, false, cond, ap, subst, ◌∙◌, arith}
 use Rattle.std.proofs.lemmas.Int.{ints}
-use Rattle.std.proofs.lemmas.Bool.{cases_Bool}
-use Rattle.acas_spec.specs.Accepted.{IsAccepted}
+use Rattle.acas_units.specs.declared.limits.TheConstants.{LEAST_COST, GREATEST_COST}
+use Rattle.acas_spec.specs.Limits.{IsModel}
 use Rattle.acas_spec.specs.Model.{GridData, ModelData, choices_at, total_weight}
 use Rattle.acas_grid.specs.Grid.{IsVertex}
-use Rattle.acas_grid.specs.declared.place.Point.{Point}
-use Rattle.acas_grid.specs.declared.place.Vertex.{Vertex}
+use Rattle.acas_spec.proofs.Bounds.{unsigned_abs-between}
+use Rattle.acas_spec.specs.declared.place.Point.{Point}
+use Rattle.acas_spec.specs.declared.place.Vertex.{Vertex}
 use Rattle.acas_frac.specs.Rounding.{IsRounding, down, up}
 use Rattle.acas_frac.proofs.RoundingLaws.{down_greatest, down_is_floor, either, round_bounded, up_is_ceiling, up_least}
 use Rattle.acas_frac.proofs.SignedProducts.{le-from_mul_ℤ, mul_comm_ℤ, mul-neg_ℤ}
 use Rattle.acas_process.specs.Sums.{sum_below}
-use Rattle.acas_process.specs.Step.{grid_product, vertex_point, moved, share, over_vertices, over_points, point_weight}
-use Rattle.acas_process.specs.Cost.{terminal_cost}
-use Rattle.acas_process.specs.Bounds.{Values, interpolated, mean_value, choice_value}
+use Rattle.acas_process.specs.Step.{grid_product, moved, share, over_vertices, over_sigmas, sigma_weight}
+use Rattle.acas_process.specs.Cost.{cost_of, terminal_cost}
+use Rattle.acas_spec.specs.Table.{Values}
+use Rattle.acas_process.specs.Bounds.{interpolated, mean_value, choice_value}
 use Rattle.acas_process.specs.Compiled.{least, first_least, compiled_values}
 use Rattle.acas_process.proofs.SumLaws.{sum_below-same, sum_below-mul}
 use Rattle.acas_process.proofs.VertexLaws.{over_vertices-same, over_vertices-mul, moved_shares_sum, weights_sum}
 use Rattle.acas_process.proofs.MeanLaws.{shared, shared-le, weighted-le, grid_product_pos}
 use Rattle.acas_process.proofs.AcceptedLaws.{is_chosen, total_weight_pos}
-use Rattle.acas_process.proofs.CompiledLaws.{first_least_is}
+use Rattle.acas_process.proofs.Least.{first_least_is}
 
 shared_const : (grid : GridData) (s : Point) (z : ℤ) → over_vertices grid (λ y. pos (share grid s y)) ≡ pos (grid_product grid) → shared grid s (λ y. z) ≡ pos (grid_product grid) *ℤ z
 shared_const grid s z whole =
@@ -51,11 +53,11 @@ weighted_bounded n w f t b whole h =
     (subst (λ z. z ≤ℤ sum_below n (λ q. pos (w q) *ℤ f q)) (weighted_const n w t (neg_ℤ (pos b)) whole) (weighted-le n w (λ q. neg_ℤ (pos b)) f (λ q k. at_least (f q) b (h q k))))
 
 -- a mean of values is no larger than the largest of them
-pub mean_bounded : (round : ℤ → ℤ → ℤ) → IsRounding round → (m : ModelData) (below : Values) (x : Vertex) (a b : ℕ) → IsAccepted m → ((y : Vertex) → IsVertex m.grid y → unsigned_abs (below a y) ≤ b) →
+pub mean_bounded : (round : ℤ → ℤ → ℤ) → IsRounding round → (m : ModelData) (below : Values) (x : Vertex) (a b : ℕ) → IsModel m → ((y : Vertex) → IsVertex m.grid y → unsigned_abs (below a y) ≤ b) →
     unsigned_abs (mean_value round m below x a) ≤ b
 mean_bounded round way m below x a b v h =
-    round_bounded round way (over_points m (λ q. pos (point_weight m q) *ℤ interpolated round m below a (moved m x a q))) (total_weight m) b (total_weight_pos m v)
-    (weighted_bounded (length m.points) (λ q. point_weight m q) (λ q. interpolated round m below a (moved m x a q)) (total_weight m) b (weights_sum m)
+    round_bounded round way (over_sigmas m (λ q. pos (sigma_weight m q) *ℤ interpolated round m below a (moved m x a q))) (total_weight m) b (total_weight_pos m v)
+    (weighted_bounded (length m.sigmas) (λ q. sigma_weight m q) (λ q. interpolated round m below a (moved m x a q)) (total_weight m) b (weights_sum m)
     (λ q _. round_bounded round way (shared m.grid (moved m x a q) (below a)) (grid_product m.grid) b (grid_product_pos m.grid v.grid) (shared_bounded m.grid (moved m x a q) (below a) b (moved_shares_sum m x a q v.grid) h)))
 
 down-le : (a b : ℤ) (c : ℕ) → 0 < c → a ≤ℤ (pos c *ℤ b) → down a (pos c) ≤ℤ b
@@ -71,42 +73,47 @@ le-round : (a b : ℤ) (c : ℕ) → 0 < c → (pos c *ℤ b) ≤ℤ a → (roun
 le-round a b c some h = either (λ round. b ≤ℤ round a (pos c)) (down_greatest a c b some h) (le-up a b c some h)
 
 -- a mean of values that are at most b is at most b
-pub mean-le : (round : ℤ → ℤ → ℤ) → IsRounding round → (m : ModelData) (below : Values) (x : Vertex) (a : ℕ) (b : ℤ) → IsAccepted m → ((y : Vertex) → IsVertex m.grid y → below a y ≤ℤ b) →
+pub mean-le : (round : ℤ → ℤ → ℤ) → IsRounding round → (m : ModelData) (below : Values) (x : Vertex) (a : ℕ) (b : ℤ) → IsModel m → ((y : Vertex) → IsVertex m.grid y → below a y ≤ℤ b) →
     mean_value round m below x a ≤ℤ b
 mean-le round way m below x a b v h =
     let at : ℕ → ℤ = λ q. interpolated round m below a (moved m x a q) in
-    let each : (q : ℕ) → q < length m.points → at q ≤ℤ b = λ q _.
+    let each : (q : ℕ) → q < length m.sigmas → at q ≤ℤ b = λ q _.
     round-le (shared m.grid (moved m x a q) (below a)) b (grid_product m.grid) (grid_product_pos m.grid v.grid)
     (subst (λ z. shared m.grid (moved m x a q) (below a) ≤ℤ z) (shared_const m.grid (moved m x a q) b (moved_shares_sum m x a q v.grid)) (shared-le m.grid (moved m x a q) (below a) (λ y. b) h)) round way in
-    round-le (over_points m (λ q. pos (point_weight m q) *ℤ at q)) b (total_weight m) (total_weight_pos m v)
-    (subst (λ z. over_points m (λ q. pos (point_weight m q) *ℤ at q) ≤ℤ z) (weighted_const (length m.points) (λ q. point_weight m q) (total_weight m) b (weights_sum m)) (weighted-le (length m.points) (λ q. point_weight m q) at (λ q. b) each)) round way
+    round-le (over_sigmas m (λ q. pos (sigma_weight m q) *ℤ at q)) b (total_weight m) (total_weight_pos m v)
+    (subst (λ z. over_sigmas m (λ q. pos (sigma_weight m q) *ℤ at q) ≤ℤ z) (weighted_const (length m.sigmas) (λ q. sigma_weight m q) (total_weight m) b (weights_sum m)) (weighted-le (length m.sigmas) (λ q. sigma_weight m q) at (λ q. b) each)) round way
 
 -- and one of values that are at least b is at least b
-pub le-mean : (round : ℤ → ℤ → ℤ) → IsRounding round → (m : ModelData) (below : Values) (x : Vertex) (a : ℕ) (b : ℤ) → IsAccepted m → ((y : Vertex) → IsVertex m.grid y → b ≤ℤ below a y) →
+pub le-mean : (round : ℤ → ℤ → ℤ) → IsRounding round → (m : ModelData) (below : Values) (x : Vertex) (a : ℕ) (b : ℤ) → IsModel m → ((y : Vertex) → IsVertex m.grid y → b ≤ℤ below a y) →
     b ≤ℤ mean_value round m below x a
 le-mean round way m below x a b v h =
     let at : ℕ → ℤ = λ q. interpolated round m below a (moved m x a q) in
-    let each : (q : ℕ) → q < length m.points → b ≤ℤ at q = λ q _.
+    let each : (q : ℕ) → q < length m.sigmas → b ≤ℤ at q = λ q _.
     le-round (shared m.grid (moved m x a q) (below a)) b (grid_product m.grid) (grid_product_pos m.grid v.grid)
     (subst (λ z. z ≤ℤ shared m.grid (moved m x a q) (below a)) (shared_const m.grid (moved m x a q) b (moved_shares_sum m x a q v.grid)) (shared-le m.grid (moved m x a q) (λ y. b) (below a) h)) round way in
-    le-round (over_points m (λ q. pos (point_weight m q) *ℤ at q)) b (total_weight m) (total_weight_pos m v)
-    (subst (λ z. z ≤ℤ over_points m (λ q. pos (point_weight m q) *ℤ at q)) (weighted_const (length m.points) (λ q. point_weight m q) (total_weight m) b (weights_sum m)) (weighted-le (length m.points) (λ q. point_weight m q) (λ q. b) at each)) round way
+    le-round (over_sigmas m (λ q. pos (sigma_weight m q) *ℤ at q)) b (total_weight m) (total_weight_pos m v)
+    (subst (λ z. z ≤ℤ over_sigmas m (λ q. pos (sigma_weight m q) *ℤ at q)) (weighted_const (length m.sigmas) (λ q. sigma_weight m q) (total_weight m) b (weights_sum m)) (weighted-le (length m.sigmas) (λ q. sigma_weight m q) (λ q. b) at each)) round way
 
-terminal_size : (m : ModelData) (x : Vertex) → IsAccepted m → unsigned_abs (terminal_cost m x) ≤ 1_000_000_000
-terminal_size m x v = ⊎_elim (λ (e : nat_le (unsigned_abs (vertex_point m.grid x).h) m.half ≡ true). rw e v.contact) (λ (e : nat_le (unsigned_abs (vertex_point m.grid x).h) m.half ≡ false). rw e (omega arith)) (cases_Bool (nat_le (unsigned_abs (vertex_point m.grid x).h) m.half))
+unsigned_abs-cond : (b : Bool) (most : ℕ) (z : ℤ) → unsigned_abs z ≤ most → unsigned_abs (cond b z (pos 0)) ≤ most
+unsigned_abs-cond true most z h = h
+unsigned_abs-cond false most z h = omega arith
+
+terminal_size : (m : ModelData) (x : Vertex) → IsModel m → unsigned_abs (terminal_cost m x) ≤ 1_000_000_000
+terminal_size m x v = unsigned_abs-cond _ 1_000_000_000 m.contact (unsigned_abs-between 1_000_000_000 LEAST_COST GREATEST_COST m.contact v.contact (omega arith) (omega arith))
 
 -- the least value over the choices is at most 10 ^ 15 larger in size than the values below
-pub least_size : (round : ℤ → ℤ → ℤ) → IsRounding round → (m : ModelData) → IsAccepted m → (below : Values) (p : ℕ) (x : Vertex) (b : ℕ) → p < m.grid.advisories →
+pub least_size : (round : ℤ → ℤ → ℤ) → IsRounding round → (m : ModelData) → IsModel m → (below : Values) (p : ℕ) (x : Vertex) (b : ℕ) → p < m.grid.advisories →
     ((a : ℕ) (y : Vertex) → a < m.grid.advisories → IsVertex m.grid y → unsigned_abs (below a y) ≤ b) →
     unsigned_abs (least (choice_value round m below p x) (choices_at m p)) ≤ b + 1_000_000_000_000_000
 least_size round way m v below p x b known h =
     let best = first_least_is (choice_value round m below p x) (choices_at m p) ((v.choices p known).some) in
     let a : ℕ = first_least (choice_value round m below p x) (choices_at m p) in
     let mean = mean_bounded round way m below x a b v (λ y k. h a y ((is_chosen m p a v known best.listed).inside) k) in
-    omega (arith, ints, best.least, mean, (is_chosen m p a v known best.listed).small)
+    let cost = unsigned_abs-between 1_000_000_000 LEAST_COST GREATEST_COST (cost_of m p a) (is_chosen m p a v known best.listed).limits (omega arith) (omega arith) in
+    omega (arith, ints, best.least, mean, cost)
 
 -- a layer's values are at most (n + 1) * 10 ^ 15 in size
-pub compiled_size : (round : ℤ → ℤ → ℤ) → IsRounding round → (m : ModelData) → IsAccepted m → (n p : ℕ) (x : Vertex) → p < m.grid.advisories →
+pub compiled_size : (round : ℤ → ℤ → ℤ) → IsRounding round → (m : ModelData) → IsModel m → (n p : ℕ) (x : Vertex) → p < m.grid.advisories →
     unsigned_abs (compiled_values round m n p x) ≤ (n + 1) * 1_000_000_000_000_000
 compiled_size round way m v zero p x known = omega (arith, ints, terminal_size m x v)
 compiled_size round way m v (suc n) p x known =

@@ -25,6 +25,11 @@ pub sum_below-zero : (n : ℕ) → sum_below n (λ i. pos 0) ≡ pos 0
 sum_below-zero zero = refl
 sum_below-zero (suc n) = omega (arith, ints, sum_below-zero n)
 
+-- a sum of terms that are at least 0
+pub sum_below-pos : (n : ℕ) (f : ℕ → ℤ) → ((i : ℕ) → i < n → pos 0 ≤ℤ f i) → pos 0 ≤ℤ sum_below n f
+sum_below-pos zero f h = omega (arith, ints)
+sum_below-pos (suc n) f h = omega (arith, ints, sum_below-pos n f (λ i k. h i (omega arith)), h n (omega arith))
+
 -- the first term apart
 pub sum_below-first : (n : ℕ) (f : ℕ → ℤ) → sum_below (suc n) f ≡ f 0 +ℤ sum_below n (λ i. f (suc i))
 sum_below-first zero f = omega (arith, ints)

@@ -1,15 +1,15 @@
 -- Sums over the vertices of a grid and over the sigma points.
 use Rattle.std.proofs.Common.{◌≡◌, ℕ, zero, suc, ◌*◌, ℤ, pos, ◌+ℤ◌, ◌*ℤ◌, ◌≤ℤ◌, List, [], ◌∷◌, length, get_or, sum_by, refl, ap, sym, ◌∙◌, arith}
 use Rattle.std.proofs.lemmas.List.Sums.{sum_by-cons}
-use Rattle.acas_spec.specs.Accepted.{IsGrid}
+use Rattle.acas_spec.specs.Limits.{IsGrid}
 use Rattle.acas_spec.specs.Model.{GridData, ModelData, total_weight, weight_of}
 use Rattle.acas_spec.specs.declared.parts.SigmaPoint.{SigmaPoint}
 use Rattle.acas_grid.specs.Grid.{IsInside, IsVertex, clamp_point}
-use Rattle.acas_grid.specs.declared.place.Vertex.{Vertex}
-use Rattle.acas_grid.specs.declared.place.Point.{Point}
+use Rattle.acas_spec.specs.declared.place.Vertex.{Vertex}
+use Rattle.acas_spec.specs.declared.place.Point.{Point}
 use Rattle.acas_process.specs.Sums.{sum_below}
 use Rattle.acas_process.specs.Axis.{gap_product, tent}
-use Rattle.acas_process.specs.Step.{grid_product, moved, over_points, over_vertices, point_weight, share}
+use Rattle.acas_process.specs.Step.{grid_product, moved, over_sigmas, over_vertices, sigma_weight, share}
 use Rattle.acas_process.proofs.SumLaws.{sum_below-same, sum_below-le, sum_below-mul, sum_below-add, sum_below-zero, sum_below-first}
 use Rattle.acas_process.proofs.AxisLaws.{axis_tents_sum, clamped_between}
 
@@ -78,10 +78,10 @@ pub moved_shares_sum : (m : ModelData) (x : Vertex) (a q : ℕ) → IsGrid m.gri
 moved_shares_sum m x a q v = shares_sum m.grid (moved m x a q) v (moved_inside m x a q v)
 
 -- the total weight as a sum over the points' numbers
-weights_sum_from : (points : List SigmaPoint) (d : SigmaPoint) → sum_below (length points) (λ q. pos (weight_of (get_or points q d))) ≡ pos (sum_by weight_of points)
+weights_sum_from : (sigmas : List SigmaPoint) (d : SigmaPoint) → sum_below (length sigmas) (λ q. pos (weight_of (get_or sigmas q d))) ≡ pos (sum_by weight_of sigmas)
 weights_sum_from [] d = refl
-weights_sum_from (p ∷ points) d =
-    sum_below-first (length points) (λ q. pos (weight_of (get_or (p ∷ points) q d))) ∙ ap (λ z. pos (weight_of p) +ℤ z) (weights_sum_from points d) ∙ ap pos (sym (sum_by-cons weight_of p points))
+weights_sum_from (p ∷ sigmas) d =
+    sum_below-first (length sigmas) (λ q. pos (weight_of (get_or (p ∷ sigmas) q d))) ∙ ap (λ z. pos (weight_of p) +ℤ z) (weights_sum_from sigmas d) ∙ ap pos (sym (sum_by-cons weight_of p sigmas))
 
-pub weights_sum : (m : ModelData) → over_points m (λ q. pos (point_weight m q)) ≡ pos (total_weight m)
-weights_sum m = weights_sum_from m.points _
+pub weights_sum : (m : ModelData) → over_sigmas m (λ q. pos (sigma_weight m q)) ≡ pos (total_weight m)
+weights_sum m = weights_sum_from m.sigmas _

@@ -1,5 +1,5 @@
 -- Interpolation on one axis, whose numbers rise.
-use Rattle.std.specs.Prelude.{◌≡◌, ℕ, zero, suc, ◌+◌, ◌*◌, ◌/◌, ℤ, ◌-ℤ◌, unsigned_abs, Bool, ◌&&◌, List, [], ◌∷◌, length, if◌then◌else◌, nat_eq, nat_lt, int_le}
+use Rattle.std.specs.Prelude.{ℕ, zero, suc, ◌+◌, ◌*◌, ◌/◌, ℤ, ◌-ℤ◌, unsigned_abs, Bool, ◌&&◌, List, [], ◌∷◌, length, if◌then◌else◌, nat_lt, int_le}
 use Rattle.acas_spec.specs.Axis.{place_value}
 
 -- how far it is from a to b
@@ -18,7 +18,8 @@ gap_product (a ∷ b ∷ rest) = distance a b * gap_product (b ∷ rest)
 
 -- x is between the numbers at the places k and k + 1
 abbrev pub is_between : List ℤ → ℕ → ℤ → Bool
-is_between axis k x = nat_lt (k + 1) (length axis) && (int_le (place_value axis k) x && int_le x (place_value axis (k + 1)))
+is_between axis k x =
+    nat_lt (k + 1) (length axis) && (int_le (place_value axis k) x && int_le x (place_value axis (k + 1)))
 
 -- the line that rises between the places k and k + 1, from 0 to the gap product
 abbrev pub rise : List ℤ → ℕ → ℤ → ℕ
@@ -32,11 +33,6 @@ fall axis k x = distance x (place_value axis (k + 1)) * (gap_product axis / gap 
 -- after, and is 0 elsewhere
 abbrev pub tent : List ℤ → ℕ → ℤ → ℕ
 tent axis zero x = if is_between axis 0 x then fall axis 0 x else 0
-tent axis (suc i) x = if is_between axis i x then rise axis i x else if is_between axis (suc i) x then fall axis (suc i) x else 0
-
--- the tent of place i is the gap product or 0 at the places k and k + 1, and at x between them it is on the straight line
-pub record IsStraight (axis : List ℤ) (i k : ℕ) (x : ℤ) : Type 0 where
-  pub at_low : tent axis i (place_value axis k) ≡ (if nat_eq i k then gap_product axis else 0)
-  pub at_high : tent axis i (place_value axis (k + 1)) ≡ (if nat_eq i (k + 1) then gap_product axis else 0)
-  pub between : gap axis k * tent axis i x
-      ≡ distance x (place_value axis (k + 1)) * tent axis i (place_value axis k) + distance (place_value axis k) x * tent axis i (place_value axis (k + 1))
+tent axis (suc i) x =
+    if is_between axis i x then rise axis i x
+    else if is_between axis (suc i) x then fall axis (suc i) x else 0

@@ -1,21 +1,12 @@
 -- A table of upper and lower values in millionths of a unit, and what it promises.
 use Rattle.std.specs.Prelude.{ℕ, zero, suc, ◌*◌, ◌^◌, ℤ, pos, ◌+ℤ◌, ◌*ℤ◌, ◌≤ℤ◌}
 use Rattle.acas_spec.specs.Model.{ModelData, total_weight}
-use Rattle.acas_grid.specs.declared.place.Point.{Point}
-use Rattle.acas_grid.specs.declared.place.Vertex.{Vertex}
+use Rattle.acas_spec.specs.declared.place.Point.{Point}
+use Rattle.acas_spec.specs.declared.place.Vertex.{Vertex}
 use Rattle.acas_frac.specs.Rounding.{down, up}
-use Rattle.acas_process.specs.Step.{moved, grid_product, share, over_vertices, over_points, point_weight}
-use Rattle.acas_process.specs.Cost.{IsEntry, MayChoose, Policy, IsPolicy, cost_of, terminal_cost, transition_total, expected_cost}
-
--- a value for each present advisory and vertex
-abbrev pub Values : Type 0
-Values = ℕ → Vertex → ℤ
-
--- a table has two values and an advice for each number of seconds to go, present advisory and vertex
-pub record Table : Type 0 where
-  pub upper : ℕ → Values
-  pub lower : ℕ → Values
-  pub advice : Policy
+use Rattle.acas_process.specs.Step.{moved, grid_product, share, over_vertices, over_sigmas, sigma_weight}
+use Rattle.acas_spec.specs.Table.{Policy, Table, Values}
+use Rattle.acas_process.specs.Cost.{IsEntry, MayChoose, IsPolicy, cost_of, terminal_cost, transition_total, expected_cost}
 
 -- a cost in units, in millionths
 abbrev pub millionths : ℤ → ℤ
@@ -23,11 +14,13 @@ millionths cost = pos 1_000_000 *ℤ cost
 
 -- the values of the layer below under the advisory a, interpolated at the point s and rounded
 abbrev pub interpolated : (ℤ → ℤ → ℤ) → ModelData → Values → ℕ → Point → ℤ
-interpolated round m below a s = round (over_vertices m.grid (λ y. pos (share m.grid s y) *ℤ below a y)) (pos (grid_product m.grid))
+interpolated round m below a s =
+    round (over_vertices m.grid (λ y. pos (share m.grid s y) *ℤ below a y)) (pos (grid_product m.grid))
 
 -- the mean of that over the points to which the sigma points move the vertex x, by their weights, rounded
 abbrev pub mean_value : (ℤ → ℤ → ℤ) → ModelData → Values → Vertex → ℕ → ℤ
-mean_value round m below x a = round (over_points m (λ q. pos (point_weight m q) *ℤ interpolated round m below a (moved m x a q))) (pos (total_weight m))
+mean_value round m below x a =
+    round (over_sigmas m (λ q. pos (sigma_weight m q) *ℤ interpolated round m below a (moved m x a q))) (pos (total_weight m))
 
 -- the value of choosing the advisory a at the vertex x where p is present: that mean and the cost of the second
 abbrev pub choice_value : (ℤ → ℤ → ℤ) → ModelData → Values → ℕ → Vertex → ℕ → ℤ
@@ -44,7 +37,9 @@ lower_value m below p x a = choice_value down m below p x a
 -- An entry is sound by the layer below. With no second to go the cost at the end is between lower and upper. Otherwise the advice may
 -- be chosen, upper is at least the upper value of the advice, and lower is at most the lower value of each choice.
 abbrev pub IsSoundEntry : ModelData → Table → ℕ → ℕ → Vertex → Type 0
-IsSoundEntry m t zero p x = (t.lower 0 p x ≤ℤ millionths (terminal_cost m x)) × (millionths (terminal_cost m x) ≤ℤ t.upper 0 p x)
+IsSoundEntry m t zero p x =
+    (t.lower 0 p x ≤ℤ millionths (terminal_cost m x))
+    × (millionths (terminal_cost m x) ≤ℤ t.upper 0 p x)
 IsSoundEntry m t (suc n) p x =
     MayChoose m p (t.advice (suc n) p x)
     × (upper_value m (t.upper n) p x (t.advice (suc n) p x) ≤ℤ t.upper (suc n) p x)
@@ -56,11 +51,13 @@ pub record IsSound (m : ModelData) (t : Table) : Type 0 where
 
 -- the expected cost of a policy, in millionths, is at most the upper value of every entry
 pub record IsUpperBound (m : ModelData) (t : Table) (policy : Policy) : Type 0 where
-  pub holds : (n p : ℕ) (x : Vertex) → IsEntry m n p x → millionths (expected_cost m policy n p x) ≤ℤ (pos (transition_total m ^ n) *ℤ t.upper n p x)
+  pub holds : (n p : ℕ) (x : Vertex) → IsEntry m n p x →
+      millionths (expected_cost m policy n p x) ≤ℤ (pos (transition_total m ^ n) *ℤ t.upper n p x)
 
 -- the expected cost of a policy, in millionths, is at least the lower value of every entry
 pub record IsLowerBound (m : ModelData) (t : Table) (policy : Policy) : Type 0 where
-  pub holds : (n p : ℕ) (x : Vertex) → IsEntry m n p x → (pos (transition_total m ^ n) *ℤ t.lower n p x) ≤ℤ millionths (expected_cost m policy n p x)
+  pub holds : (n p : ℕ) (x : Vertex) → IsEntry m n p x →
+      (pos (transition_total m ^ n) *ℤ t.lower n p x) ≤ℤ millionths (expected_cost m policy n p x)
 
 -- the table's advice is a policy that costs at most its upper values, and no policy costs less than its lower values
 pub record HasTwoSidedBounds (m : ModelData) (t : Table) : Type 0 where

@@ -1,12 +1,13 @@
 -- The table that is compiled: one function of the model, layer by layer.
-use Rattle.std.specs.Prelude.{ℕ, zero, suc, ◌+◌, ◌*◌, ◌≤◌, ℤ, pos, unsigned_abs, List, [], ◌∷◌, if◌then◌else◌, int_le}
+use Rattle.std.specs.Prelude.{ℕ, zero, suc, ℤ, pos, List, [], ◌∷◌, if◌then◌else◌, int_le}
 use Rattle.std.specs.Int.{int_min}
 use Rattle.acas_spec.specs.Model.{ModelData, choices_at}
 use Rattle.acas_spec.specs.declared.parts.Choice.{Choice}
-use Rattle.acas_grid.specs.declared.place.Vertex.{Vertex}
 use Rattle.acas_frac.specs.Rounding.{down, up}
-use Rattle.acas_process.specs.Cost.{Policy, terminal_cost}
-use Rattle.acas_process.specs.Bounds.{Values, Table, millionths, choice_value, upper_value}
+use Rattle.acas_spec.specs.Table.{Policy}
+use Rattle.acas_process.specs.Cost.{terminal_cost}
+use Rattle.acas_spec.specs.Table.{Values, Table}
+use Rattle.acas_process.specs.Bounds.{millionths, choice_value, upper_value}
 
 -- the least value over the choices of a list, which is not empty
 abbrev pub least : (ℕ → ℤ) → List Choice → ℤ
@@ -18,7 +19,8 @@ least f (c ∷ d ∷ rest) = int_min (f c.advisory) (least f (d ∷ rest))
 abbrev pub first_least : (ℕ → ℤ) → List Choice → ℕ
 first_least f [] = 0
 first_least f (c ∷ []) = c.advisory
-first_least f (c ∷ d ∷ rest) = if int_le (f c.advisory) (least f (d ∷ rest)) then c.advisory else first_least f (d ∷ rest)
+first_least f (c ∷ d ∷ rest) =
+    if int_le (f c.advisory) (least f (d ∷ rest)) then c.advisory else first_least f (d ∷ rest)
 
 -- the values with n seconds to go, by the way to round: the cost at the end, and later the least value over the choices
 abbrev pub compiled_values : (ℤ → ℤ → ℤ) → ModelData → ℕ → Values
@@ -33,8 +35,3 @@ compiled_advice m (suc n) p x = first_least (upper_value m (compiled_values up m
 -- the compiled table has the least upper and the least lower value of the choices
 abbrev pub compiled : ModelData → Table
 compiled m = record { upper = compiled_values up m; lower = compiled_values down m; advice = compiled_advice m }
-
--- both values of an entry with n seconds to go are at most (n + 1) * 10^15 in size
-pub record IsOfSize (t : Table) (n p : ℕ) (x : Vertex) : Type 0 where
-  pub upper : unsigned_abs (t.upper n p x) ≤ (n + 1) * 1_000_000_000_000_000
-  pub lower : unsigned_abs (t.lower n p x) ≤ (n + 1) * 1_000_000_000_000_000

@@ -4,4 +4,3 @@ pub mod Step
 pub mod Cost
 pub mod Bounds
 pub mod Compiled
-pub mod Examples

@@ -1,4 +1,5 @@
 pub mod Steps
 pub mod Axis
 pub mod Model
-pub mod Accepted
+pub mod Table
+pub mod Limits

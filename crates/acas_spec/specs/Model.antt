@@ -1,11 +1,12 @@
--- A model of two aircraft, as its file says it. Altitudes are in ticks of 1/120 ft, rates in ft/min, accelerations in
--- ft/min per second, ranges in ft, closing speeds in ft/s, times in seconds, costs in units.
+-- A model of two aircraft, as its file says it. Altitudes are in ticks, rates in ft/min, accelerations in ft/min
+-- per second, ranges in ft, closing speeds in ft/s, times in seconds, costs in units.
 use Rattle.std.specs.Prelude.{ℕ, ◌*◌, ◌+◌, ℤ, pos, unsigned_abs, List, [], length, get_or, sum_by}
 use Rattle.acas_spec.specs.declared.parts.Advisory.{Advisory}
 use Rattle.acas_spec.specs.declared.parts.Choice.{Choice}
 use Rattle.acas_spec.specs.declared.parts.SigmaPoint.{SigmaPoint}
 
--- the axes of relative altitude, own rate and intruder rate; how many advisories there are; how many seconds a table goes back
+-- the axes of relative altitude, own rate and intruder rate; how many advisories there are; how many seconds a
+-- table goes back
 pub record GridData : Type 0 where
   pub h : List ℤ
   pub v0 : List ℤ
@@ -19,7 +20,7 @@ pub record ModelData : Type 0 where
   pub advisories : List Advisory
   -- what may be chosen under each present advisory
   pub choices : List (List Choice)
-  pub points : List SigmaPoint
+  pub sigmas : List SigmaPoint
   -- the least and the greatest acceleration of a pilot who follows an advisory
   pub pull : ℕ
   pub limit : ℕ
@@ -29,8 +30,8 @@ pub record ModelData : Type 0 where
   pub radius : ℕ
   pub half : ℕ
   -- the least and the greatest closing speed
-  pub least : ℕ
-  pub greatest : ℕ
+  pub least_closing : ℕ
+  pub greatest_closing : ℕ
   -- the cost of contact at the end
   pub contact : ℤ
 
@@ -55,8 +56,8 @@ abbrev pub choices_at : ModelData → ℕ → List Choice
 choices_at m p = get_or m.choices p []
 
 -- the sigma point of a number
-abbrev pub point_at : ModelData → ℕ → SigmaPoint
-point_at m q = get_or m.points q (record { weight = pos 0; own = pos 0; intruder = pos 0 })
+abbrev pub sigma_at : ModelData → ℕ → SigmaPoint
+sigma_at m q = get_or m.sigmas q (record { weight = pos 0; own = pos 0; intruder = pos 0 })
 
 -- the weight of a sigma point, which in an accepted model is above 0
 abbrev pub weight_of : SigmaPoint → ℕ
@@ -64,4 +65,4 @@ weight_of p = unsigned_abs p.weight
 
 -- the sum of all sigma weights
 abbrev pub total_weight : ModelData → ℕ
-total_weight m = sum_by weight_of m.points
+total_weight m = sum_by weight_of m.sigmas

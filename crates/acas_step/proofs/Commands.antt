@@ -1,12 +1,13 @@
 -- The own command by its cases, and the moved point by its parts.
-use Rattle.std.proofs.Common.{◌≡◌, ℕ, ℤ, pos, neg_ℤ, ◌+ℤ◌, ◌-ℤ◌, ◌≤ℤ◌, ◌<ℤ◌, true, false, int_lt, arith, ap, ◌∙◌}
-use Rattle.std.proofs.lemmas.Int.{ints}
+use Rattle.std.proofs.Common.{◌≡◌, ◌≤◌, ℕ, ℤ, unsigned_abs, w64, pos, neg_ℤ, ◌+ℤ◌, ◌-ℤ◌, ◌≤ℤ◌, ◌<ℤ◌, true, false, int_lt, arith, ap, ◌∙◌}
+use Rattle.std.proofs.lemmas.Int.{clamps, ints}
 use Rattle.std.specs.Int.{int_min}
-use Rattle.acas_spec.specs.Model.{ModelData, advisory_at, point_at}
+use mir.Val.{SFits}
+use Rattle.acas_spec.specs.Model.{ModelData, advisory_at, sigma_at}
 use Rattle.acas_spec.specs.declared.parts.SigmaPoint.{SigmaPoint}
 use Rattle.acas_grid.specs.Grid.{clamp_point}
-use Rattle.acas_grid.specs.declared.place.Point.{Point}
-use Rattle.acas_grid.specs.declared.place.Vertex.{Vertex}
+use Rattle.acas_spec.specs.declared.place.Point.{Point}
+use Rattle.acas_spec.specs.declared.place.Vertex.{Vertex}
 use Rattle.acas_process.specs.Step.{after_second, command, moved, vertex_point}
 
 test-true : (x b : ℤ) → x <ℤ b → int_lt x b ≡ true
@@ -14,6 +15,17 @@ test-true x b h = grind (arith, ints)
 
 test-false : (x b : ℤ) → b ≤ℤ x → int_lt x b ≡ false
 test-false x b h = grind (arith, ints)
+
+-- the lesser of two numbers is no larger than the larger
+pub int_min-small : (x y least : ℤ) (most : ℕ) → least ≡ int_min x y → unsigned_abs x ≤ most → unsigned_abs y ≤ most → unsigned_abs least ≤ most
+int_min-small x y least most e h k = omega (arith, ints, clamps)
+
+-- a small number fits 64 bits, and so does its negation
+pub SFits-small : (x : ℤ) → unsigned_abs x ≤ 20_000 → SFits w64 x
+SFits-small x h = omega (arith, ints)
+
+pub SFits-neg_small : (x : ℤ) → unsigned_abs x ≤ 20_000 → SFits w64 (pos 0 -ℤ x)
+SFits-neg_small x h = omega (arith, ints)
 
 -- above hi the rate falls
 pub command_above : (lo hi pull v fall r : ℤ) → lo ≤ℤ v → hi <ℤ v → fall ≡ int_min pull (v -ℤ hi) → r ≡ pos 0 -ℤ fall → r ≡ command lo hi pull v
@@ -23,11 +35,11 @@ pub point-same : {h h' v0 v0' v1 v1' : ℤ} → h ≡ h' → v0 ≡ v0' → v1 �
 point-same p q r = cc
 
 pub moved_is : (m : ModelData) (x : Vertex) (a q : ℕ) (from : Point) (n : SigmaPoint) (own : ℤ) (to r : Point) →
-    from ≡ vertex_point m.grid x → n ≡ point_at m q → own ≡ command (advisory_at m a).lo (advisory_at m a).hi (pos m.pull) from.v0 +ℤ n.own → to ≡ after_second from own n.intruder → r ≡ clamp_point m.grid to → r ≡ moved m x a q
+    from ≡ vertex_point m.grid x → n ≡ sigma_at m q → own ≡ command (advisory_at m a).lo (advisory_at m a).hi (pos m.pull) from.v0 +ℤ n.own → to ≡ after_second from own n.intruder → r ≡ clamp_point m.grid to → r ≡ moved m x a q
 moved_is m x a q from n own to r e f g h k =
     let start : Point = vertex_point m.grid x in
     let rule : ℤ → ℤ = λ v. command (advisory_at m a).lo (advisory_at m a).hi (pos m.pull) v in
     k ∙ ap (λ z. clamp_point m.grid z)
     (h ∙ ap (λ z. after_second z own n.intruder) e
     ∙ ap (λ w. after_second start w n.intruder) (g ∙ ap (λ (z : Point). rule z.v0 +ℤ n.own) e ∙ ap (λ (z : SigmaPoint). rule start.v0 +ℤ z.own) f)
-    ∙ ap (λ (z : SigmaPoint). after_second start (rule start.v0 +ℤ (point_at m q).own) z.intruder) f)
+    ∙ ap (λ (z : SigmaPoint). after_second start (rule start.v0 +ℤ (sigma_at m q).own) z.intruder) f)

@@ -1,12 +1,13 @@
 -- The eight corners of a cell carry the shares of its point.
-use Rattle.std.proofs.Common.{◌≡◌, ℕ, zero, suc, ◌+◌, ◌*◌, ◌<◌, ◌≤◌, ℤ, pos, ◌+ℤ◌, ◌*ℤ◌, List, [], ◌∷◌, length, get_or, refl, ap, sym, ◌∙◌, ⊎_elim, arith}
+use Rattle.std.proofs.Common.{◌≡◌, ℕ, zero, suc, ◌+◌, ◌*◌, ◌<◌, ◌≤◌, ℤ, pos, unsigned_abs, ◌+ℤ◌, ◌*ℤ◌, List, [], ◌∷◌, length, get_or, refl, ap, sym, ◌∙◌, ⊎_elim, arith}
 use Rattle.std.proofs.lemmas.Int.{ints}
 use Rattle.std.proofs.lemmas.Bool.{cases_lt}
-use Rattle.acas_spec.specs.Accepted.{IsGrid}
+use Rattle.acas_spec.specs.Limits.{IsGrid}
 use Rattle.acas_spec.specs.Axis.{IsAxis, IsWithin, place_value}
 use Rattle.acas_spec.specs.Model.{GridData, vertices}
+use Rattle.acas_spec.proofs.Bounds.{unsigned_abs-within}
 use Rattle.acas_grid.specs.Grid.{vertex_number}
-use Rattle.acas_grid.specs.declared.place.Point.{Point}
+use Rattle.acas_spec.specs.declared.place.Point.{Point}
 use Rattle.acas_frac.proofs.SignedProducts.{mul_assoc_ℤ}
 use Rattle.acas_process.specs.Axis.{distance, gap, gap_product, tent}
 use Rattle.acas_process.specs.Step.{grid_product}
@@ -16,11 +17,12 @@ use Rattle.acas_process.proofs.CellLaws.{Place, at_ends, axis_sum, cell_holds, g
 use Rattle.acas_process.proofs.MeanLaws.{grid_product_pos}
 use Rattle.acas_step.specs.Corners.{IsInterpolation, IsLight, IsWeighting, cell_product, corner_sum}
 use Rattle.acas_step.specs.Ends.{FitsAxis, FitsGrid, IsCorner, IsEnds, IsRound, vertex_on, weight_of_cell}
+use Rattle.acas_step.specs.Sizes.{greatest_weight}
 use Rattle.acas_step.specs.declared.cell.Cell.{Cell}
 use Rattle.acas_step.specs.declared.cell.Corner.{Corner}
 use Rattle.acas_step.specs.declared.cell.Ends.{Ends}
-use Rattle.acas_step.specs.declared.layer.Side.{Side}
-use Rattle.acas_step.specs.declared.layer.Side.TheVariants.{Lower, Upper}
+use Rattle.acas_step.specs.declared.cell.End.{End}
+use Rattle.acas_step.specs.declared.cell.End.TheVariants.{Lower, Upper}
 
 -- a corner's term, with its places written in another way
 term_is : (g : GridData) (i j k i' j' k' w : ℕ) (c : Corner) (v : ℕ → ℤ) → c.vertex ≡ vertex_number g (record { i = i'; j = j'; k = k' }) → c.weight ≡ pos w → i' ≡ i → j' ≡ j → k' ≡ k →
@@ -131,18 +133,19 @@ weight_of_cell-gaps g s t valid is =
     ∙ ap (λ (n : ℕ). gap g.h t.h.cell * gap g.v0 t.v0.cell * n) r
 
 -- the gap of a cell, whose ends are not far from 0
-fits_axis : (axis : List ℤ) (x : ℤ) (most : ℕ) (e : Ends) → IsAxis axis → IsWithin most axis → IsEnds axis x e → FitsAxis axis (2 * most) e
-fits_axis axis x most e rising near is =
-    let low = near.bounded e.cell (omega (arith, is.cell.before_last)) in
-    let high = near.bounded (e.cell + 1) is.cell.before_last in
+fits_axis : (axis : List ℤ) (x least greatest : ℤ) (most : ℕ) (e : Ends) → IsAxis axis → IsWithin least greatest axis → unsigned_abs least ≤ most → unsigned_abs greatest ≤ most → IsEnds axis x e
+    → FitsAxis axis (2 * most) e
+fits_axis axis x least greatest most e rising near bottom top is =
+    let low = unsigned_abs-within most least greatest axis e.cell near (omega (arith, is.cell.before_last)) bottom top in
+    let high = unsigned_abs-within most least greatest axis (e.cell + 1) near is.cell.before_last bottom top in
     let width : e.lower + e.upper ≡ distance (place_value axis e.cell) (place_value axis (e.cell + 1)) = (placed axis x e rising is).width in
     record { place = is.cell.before_last; short = rising.at_most; narrow = omega (arith, ints, width, low, high) }
 
 pub fits_grid : (g : GridData) (s : Point) (t : Cell) → IsGrid g → IsRound g s t → FitsGrid g t
 fits_grid g s t valid is = record {
-  h = fits_axis g.h s.h 1200000 t.h valid.altitudes valid.altitudes_within is.h;
-  v0 = fits_axis g.v0 s.v0 10000 t.v0 valid.own_rates valid.own_within is.v0;
-  v1 = fits_axis g.v1 s.v1 10000 t.v1 valid.intruder_rates valid.intruder_within is.v1;
+  h = fits_axis g.h s.h _ _ 1200000 t.h valid.altitudes valid.altitudes_within (omega arith) (omega arith) is.h;
+  v0 = fits_axis g.v0 s.v0 _ _ 10000 t.v0 valid.own_rates valid.own_within (omega arith) (omega arith) is.v0;
+  v1 = fits_axis g.v1 s.v1 _ _ 10000 t.v1 valid.intruder_rates valid.intruder_within (omega arith) (omega arith) is.v1;
 }
 
 -- a factor of a number above 0 is above 0
@@ -179,11 +182,11 @@ each_of_eight P a b c d e f g i pa pb pc pd pe pf pg pi (suc (suc (suc (suc (suc
 abbrev IsIn : GridData → Corner → Type 0
 IsIn g c = c.vertex < vertices g
 
-light : (g : GridData) (t : Cell) (h v0 v1 : Side) (c : Corner) → IsCorner g t h v0 v1 c → IsLight c
+light : (g : GridData) (t : Cell) (h v0 v1 : End) (c : Corner) → IsCorner g t h v0 v1 c → IsLight c
 light g t h v0 v1 c is = record { some = omega (arith, ints, is.weight); light = omega (arith, ints, is.weight, is.light) }
 
 pub weighs : (g : GridData) (s : Point) (t : Cell) (a b c d e f h i : Corner) (total : ℤ) → IsGrid g → IsRound g s t → AreEight g t a b c d e f h i →
-    total ≡ pos (weight_of_cell t) → weight_of_cell t ≤ 960_000_000_000_000 → IsWeighting g (a ∷ b ∷ c ∷ d ∷ e ∷ f ∷ h ∷ i ∷ []) total
+    total ≡ pos (weight_of_cell t) → weight_of_cell t ≤ greatest_weight → IsWeighting g (a ∷ b ∷ c ∷ d ∷ e ∷ f ∷ h ∷ i ∷ []) total
 weighs g s t a b c d e f h i total valid round are is small = record {
   vertices = each_of_eight (IsIn g) a b c d e f h i are.at_a.below are.at_b.below are.at_c.below are.at_d.below are.at_e.below are.at_f.below are.at_h.below are.at_i.below;
   weights = each_of_eight IsLight a b c d e f h i (light g t _ _ _ a are.at_a) (light g t _ _ _ b are.at_b) (light g t _ _ _ c are.at_c) (light g t _ _ _ d are.at_d) (light g t _ _ _ e are.at_e) (light g t _ _ _ f are.at_f) (light g t _ _ _ h are.at_h) (light g t _ _ _ i are.at_i);

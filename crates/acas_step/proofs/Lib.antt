@@ -1,8 +1,10 @@
-pub mod StateNumbers
 pub mod Commands
 pub mod CornerLaws
 pub mod ShareLaws
 pub mod Weights
 pub mod SumSteps
 pub mod Quotients
-pub mod Means
+pub mod SigmaSteps
+pub mod NumberedStates
+pub mod Written
+pub mod LayerMeans

@@ -1,11 +1,11 @@
 -- The eight corners of a cell have the shares of their vertices, and every other vertex has none.
 use Rattle.std.proofs.Common.{◌≡◌, ◌≢◌, ℕ, zero, suc, ◌+◌, ◌*◌, ◌<◌, ◌≤◌, ◌⊎◌, ℤ, pos, ◌*ℤ◌, List, [], ◌∷◌, length, get_or, refl, ap, sym, subst, inl, inr, ◌∙◌, ⊎_elim, arith}
 use Rattle.std.proofs.lemmas.Bool.{cases_lt}
-use Rattle.acas_spec.specs.Accepted.{IsGrid}
+use Rattle.acas_spec.specs.Limits.{IsGrid}
 use Rattle.acas_spec.specs.Axis.{IsAxis}
 use Rattle.acas_spec.specs.Model.{GridData}
-use Rattle.acas_grid.specs.declared.place.Point.{Point}
-use Rattle.acas_grid.specs.declared.place.Vertex.{Vertex}
+use Rattle.acas_spec.specs.declared.place.Point.{Point}
+use Rattle.acas_spec.specs.declared.place.Vertex.{Vertex}
 use Rattle.acas_process.specs.Axis.{tent}
 use Rattle.acas_process.specs.Step.{grid_product, share}
 use Rattle.acas_process.proofs.AxisLaws.{has_cell, others}
@@ -15,8 +15,8 @@ use Rattle.acas_step.specs.Ends.{IsCorner, IsEnds, IsRound, place_on, vertex_on,
 use Rattle.acas_step.specs.declared.cell.Cell.{Cell}
 use Rattle.acas_step.specs.declared.cell.Corner.{Corner}
 use Rattle.acas_step.specs.declared.cell.Ends.{Ends}
-use Rattle.acas_step.specs.declared.layer.Side.{Side}
-use Rattle.acas_step.specs.declared.layer.Side.TheVariants.{Lower, Upper}
+use Rattle.acas_step.specs.declared.cell.End.{End}
+use Rattle.acas_step.specs.declared.cell.End.TheVariants.{Lower, Upper}
 use Rattle.acas_step.proofs.CornerLaws.{AreEight, others_of, product_of_gaps, weight_of_cell-gaps}
 
 same_vertex : (i j k i' j' k' : ℕ) → i ≡ i' → j ≡ j' → k ≡ k' → ◌≡◌ {A = Vertex} (record { i = i; j = j; k = k }) (record { i = i'; j = j'; k = k' })
@@ -48,11 +48,11 @@ has_tents axis x e rising is =
     }
 
 -- the same at either end
-record IsOn (axis : List ℤ) (x : ℤ) (e : Ends) (o : ℕ) (side : Side) : Type 0 where
-  place : place_on e side < length axis
-  is : tent axis (place_on e side) x ≡ o * weight_on e side
+record IsOn (axis : List ℤ) (x : ℤ) (e : Ends) (o : ℕ) (end : End) : Type 0 where
+  place : place_on e end < length axis
+  is : tent axis (place_on e end) x ≡ o * weight_on e end
 
-on : (axis : List ℤ) (x : ℤ) (e : Ends) (o : ℕ) (side : Side) → HasTents axis x e o → IsOn axis x e o side
+on : (axis : List ℤ) (x : ℤ) (e : Ends) (o : ℕ) (end : End) → HasTents axis x e o → IsOn axis x e o end
 on axis x e o Lower has = record { place = omega (arith, has.place); is = has.lower }
 on axis x e o Upper has = record { place = has.place; is = has.upper }
 
@@ -73,7 +73,7 @@ has_all g s t valid is = record {
 weights_joined : (a b c o p q t n : ℕ) → n ≡ t * (o * p * q) → (a * b * c) * n ≡ ((o * a) * (p * b) * (q * c)) * t
 weights_joined a b c o p q t n e = ap (λ (k : ℕ). (a * b * c) * k) e ∙ omega arith
 
-corner_share : (g : GridData) (s : Point) (t : Cell) (total : ℤ) (h v0 v1 : Side) (c : Corner) → HasAll g s t → grid_product g ≡ weight_of_cell t * others_of g t → total ≡ pos (weight_of_cell t) →
+corner_share : (g : GridData) (s : Point) (t : Cell) (total : ℤ) (h v0 v1 : End) (c : Corner) → HasAll g s t → grid_product g ≡ weight_of_cell t * others_of g t → total ≡ pos (weight_of_cell t) →
     IsCorner g t h v0 v1 c → HasShare g s total c (vertex_on t h v0 v1)
 corner_share g s t total h v0 v1 c has product total_is is =
     let x = on g.h s.h t.h (others g.h t.h.cell) h has.h in

@@ -1,8 +1,8 @@
 -- Bounds of a value times a weight that is not negative.
-use Rattle.std.proofs.Common.{◌*◌, ◌≤◌, ◌^◌, ℤ, pos, negsuc, ◌*ℤ◌, ◌≤ℤ◌, unsigned_abs, w64, arith}
-use Rattle.std.proofs.lemmas.Int.{ints, fits_signed_mul, unsigned_abs-mul}
-use Rattle.std.proofs.Math.Nat.{mul-le-mul_left}
+use Rattle.std.proofs.Common.{ℤ, pos, negsuc, ◌*ℤ◌, ◌≤ℤ◌, w64, arith}
+use Rattle.std.proofs.lemmas.Int.{ints, fits_signed_mul}
 use Rattle.acas_frac.proofs.SignedProducts.{mul-le_ℤ, mul_comm_ℤ}
+use Rattle.acas_step.specs.Sizes.{greatest_weight}
 use mir.Syntax.{w128}
 use mir.Val.{SFits}
 
@@ -14,10 +14,6 @@ pub weight_low : (w v least : ℤ) → pos 0 ≤ℤ w → least ≤ℤ v → (le
 weight_low (pos n) v least p h = omega (arith, ints, mul-le_ℤ n least v h, mul_comm_ℤ (pos n) least)
 weight_low (negsuc n) v least p h = absurd (omega (arith, ints))
 
--- a weight of at most 10^15 times a value of 64 bits fits 128 bits
-pub weighted_fits : (w v : ℤ) → pos 0 ≤ℤ w → w ≤ℤ pos 1_000_000_000_000_000 → SFits w64 v → SFits w128 (w *ℤ v)
-weighted_fits w v p h f = fits_signed_mul w128 w v 1_000_000_000_000_000 9223372036854775808 (omega (arith, ints)) (omega (arith, ints)) (omega arith)
-
--- a value of at most 2^63 in size times any weight
-pub weighted_small : (w v : ℤ) → unsigned_abs v ≤ 2 ^ 63 → unsigned_abs (w *ℤ v) ≤ 2 ^ 63 * unsigned_abs w
-weighted_small w v h = omega (arith, unsigned_abs-mul w v, mul-le-mul_left (unsigned_abs w) h)
+-- the weight of a corner times a value of 64 bits fits 128 bits
+pub weighted_fits : (w v : ℤ) → pos 0 ≤ℤ w → w ≤ℤ pos greatest_weight → SFits w64 v → SFits w128 (w *ℤ v)
+weighted_fits w v p h f = fits_signed_mul w128 w v greatest_weight 9223372036854775808 (omega (arith, ints)) (omega (arith, ints)) (omega arith)

@@ -1,15 +1,16 @@
 //! The cell that holds a point, and its eight corners with their interpolation weights.
 ghost use Rattle.std.specs.Prelude.{◌≡◌, ◌*◌, ◌+◌, ◌<◌, ◌≤◌, pos};
-ghost use Rattle.acas_spec.specs.Accepted.{IsGrid};
+ghost use Rattle.acas_spec.specs.Limits.{IsGrid};
 ghost use Rattle.acas_grid.specs.Axis.{IsBetweenEnds};
 ghost use Rattle.acas_grid.specs.Grid.{IsInside};
 ghost use Rattle.acas_step.specs.Corners.{AreCorners, IsInterpolation, IsWeighting};
 ghost use Rattle.acas_step.specs.Ends.{FitsGrid, IsCorner, IsEnds, IsRound, place_on, weight_of_cell, weight_on};
+ghost use Rattle.acas_step.specs.Sizes.{altitude_gap, greatest_weight, rate_gap};
 
-use crate::layer::Side;
-use crate::layer::Side::{Lower, Upper};
+use self::End::{Lower, Upper};
+use acas_base::Model;
 use acas_grid::{Axis, Grid, Point, Vertex};
-use acas_model::Model;
+use acas_units::GREATEST_VERTICES;
 
 /// A vertex by its number, with its weight.
 #[derive(Clone, Copy, Debug, PartialEq, Eq)]
@@ -23,6 +24,13 @@ pub struct Corner {
 pub struct CornerSet {
     pub corners: [Corner; 8],
     pub total: i128,
+}
+
+// One of the two ends of a cell on an axis.
+#[derive(Clone, Copy, Debug, PartialEq, Eq)]
+enum End {
+    Lower,
+    Upper,
 }
 
 // The cell of an axis that holds a number, and the weights of its two ends there: the distance to the other end.
@@ -64,37 +72,37 @@ fn cell_of(grid: &Grid, point: Point) -> Cell
     }
 }
 
-fn place_on(ends: Ends, side: Side) -> u32
-    requires { ends.cell < 129 }
-    ensures { result ≡ place_on ends side }
+fn place_on(ends: Ends, end: End) -> u32
+    requires { ends.cell < GREATEST_VERTICES }
+    ensures { result ≡ place_on ends end }
 {
-    match side {
+    match end {
         Lower => ends.cell,
         Upper => ends.cell + 1,
     }
 }
 
-fn weight_on(ends: Ends, side: Side) -> u64
-    ensures { result ≡ weight_on ends side }
+fn weight_on(ends: Ends, end: End) -> u64
+    ensures { result ≡ weight_on ends end }
 {
-    match side {
+    match end {
         Lower => ends.lower,
         Upper => ends.upper,
     }
 }
 
 fn product(h: u64, v0: u64, v1: u64) -> u64
-    requires h { h ≤ 2_400_000 }
-    requires v0 { v0 ≤ 20_000 }
-    requires v1 { v1 ≤ 20_000 }
+    requires h { h ≤ altitude_gap }
+    requires v0 { v0 ≤ rate_gap }
+    requires v1 { v1 ≤ rate_gap }
     ensures value { result ≡ h * v0 * v1 }
-    ensures small { result ≤ 960_000_000_000_000 }
+    ensures small { result ≤ greatest_weight }
 {
     h * v0 * v1
 }
 
 // The corner at these ends of the three axes.
-fn corner_at(grid: &Grid, cell: &Cell, h: Side, v0: Side, v1: Side) -> Corner
+fn corner_at(grid: &Grid, cell: &Cell, h: End, v0: End, v1: End) -> Corner
     requires { FitsGrid grid.now cell.now }
     ensures { IsCorner grid.now cell.now h v0 v1 result }
 {
@@ -116,11 +124,11 @@ fn corner_at(grid: &Grid, cell: &Cell, h: Side, v0: Side, v1: Side) -> Corner
 
 // What the weights of the corners sum to.
 fn total_of(cell: &Cell) -> i128
-    requires h { cell.now.h.lower + cell.now.h.upper ≤ 2_400_000 }
-    requires v0 { cell.now.v0.lower + cell.now.v0.upper ≤ 20_000 }
-    requires v1 { cell.now.v1.lower + cell.now.v1.upper ≤ 20_000 }
+    requires h { cell.now.h.lower + cell.now.h.upper ≤ altitude_gap }
+    requires v0 { cell.now.v0.lower + cell.now.v0.upper ≤ rate_gap }
+    requires v1 { cell.now.v1.lower + cell.now.v1.upper ≤ rate_gap }
     ensures value { result ≡ pos (weight_of_cell cell.now) }
-    ensures light { weight_of_cell cell.now ≤ 960_000_000_000_000 }
+    ensures light { weight_of_cell cell.now ≤ greatest_weight }
 {
     let weight = product(
         cell.h.lower + cell.h.upper,

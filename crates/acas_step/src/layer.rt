@@ -1,13 +1,14 @@
 //! The values of a layer, and their sums by the weights of corners.
-ghost use Rattle.std.specs.Prelude.{◌≡◌, ℕ, ◌+◌, ◌*◌, ◌^◌, ◌<◌, ◌≤◌, pos, neg_ℤ, ◌*ℤ◌, ◌≤ℤ◌, length, slice_index_or};
+ghost use Rattle.std.specs.Prelude.{◌≡◌, ℕ, ◌+◌, ◌-◌, ◌*◌, ◌^◌, ◌<◌, ◌≤◌, pos, neg_ℤ, ◌*ℤ◌, ◌≤ℤ◌, length, slice_index_or};
 ghost use Rattle.acas_step.specs.Corners.{IsLight, corner_sum};
 ghost use Rattle.acas_step.specs.Layer.{value_at, value_of};
+ghost use Rattle.acas_step.specs.Sizes.{greatest_weight};
 ghost use Rattle.acas_step.specs.declared.cell.Corner.{Corner};
 
 use crate::cell::Corner;
 use acas_units::Pair;
 
-/// One of the two values of a pair, and one of the two ends of a cell on an axis.
+/// One of the two values of a pair.
 #[derive(Clone, Copy, Debug, PartialEq, Eq)]
 pub enum Side {
     Upper,
@@ -24,12 +25,12 @@ fn value_of(pair: Pair, side: Side) -> i64
     }
 }
 
-// A value times a weight that is not negative.
-fn weighted(weight: i128, value: i64) -> i128
+// A value times a weight that is not negative: it is between that weight of the least and of the greatest value of 64 bits.
+pub(crate) fn weighted(weight: i128, value: i64) -> i128
     requires positive { pos 0 ≤ℤ weight }
-    requires light { weight ≤ℤ pos 1_000_000_000_000_000 }
+    requires light { weight ≤ℤ pos greatest_weight }
     ensures value { result ≡ weight *ℤ value }
-    ensures high { result ≤ℤ (pos (2 ^ 63) *ℤ weight) }
+    ensures high { result ≤ℤ (pos (2 ^ 63 - 1) *ℤ weight) }
     ensures low { (neg_ℤ (pos (2 ^ 63)) *ℤ weight) ≤ℤ result }
 {
     weight * value as i128
@@ -38,10 +39,12 @@ fn weighted(weight: i128, value: i64) -> i128
 // The sum of a layer's values by the weights of corners, where the states of an advisory begin at `first`.
 pub(crate) fn weighted_sum(corners: &[Corner], first: usize, side: Side, below: &[Pair]) -> i128
     requires few { length corners.now ≤ 8 }
-    requires inside { (n : ℕ) (d : Corner) → n < length corners.now → first + (slice_index_or corners.now n d).vertex < length below.now }
-    requires weights { (n : ℕ) (d : Corner) → n < length corners.now → IsLight (slice_index_or corners.now n d) }
+    requires inside { (n : ℕ) (d : Corner) → n < length corners.now
+        → first + (slice_index_or corners.now n d).vertex < length below.now }
+    requires weights { (n : ℕ) (d : Corner) → n < length corners.now
+        → IsLight (slice_index_or corners.now n d) }
     ensures value { result ≡ corner_sum corners.now (λ n. value_at side below.now (first + n)) }
-    ensures high { result ≤ℤ (pos (2 ^ 63) *ℤ corner_sum corners.now (λ n. pos 1)) }
+    ensures high { result ≤ℤ (pos (2 ^ 63 - 1) *ℤ corner_sum corners.now (λ n. pos 1)) }
     ensures low { (neg_ℤ (pos (2 ^ 63)) *ℤ corner_sum corners.now (λ n. pos 1)) ≤ℤ result }
 {
     let mut sum: i128 = 0;

@@ -2,23 +2,22 @@
 //! choice is worth by the values of the layer below.
 #![tactic(auto)]
 
+mod backups;
 mod cell;
-mod counter;
+mod choices;
 mod ending;
 mod laws;
 mod layer;
+mod means;
 mod second;
-mod states;
 mod values;
 
+pub use backups::{Backups, backup, value_of_choice};
 pub use cell::{Corner, CornerSet, corners};
-pub use counter::Backups;
+pub use choices::{choice_at, choice_count, with_cost};
 pub use ending::terminal;
 pub use laws::choices_have_their_values;
 pub use layer::Side;
+pub use means::{fill_means, means_at};
 pub use second::moved;
-pub use states::{state_present, state_vertex, vertex_at};
-pub use values::{backup, mean};
-
-#[cfg(test)]
-mod tests;
+pub use values::mean;

@@ -1,25 +1,20 @@
-//! The value of a choice by the layer below: the rounded mean of its values over the points to which the sigma points lead,
-//! and the cost of the choice. One such value is a backup of dynamic programming, as in ATC-371 (Kochenderfer and
-//! Chryssanthacopoulos, MIT Lincoln Laboratory, 2011).
-ghost use Rattle.std.specs.Prelude.{◌≡◌, ℕ, ◌+◌, ◌*◌, ◌^◌, ◌<◌, ◌≤◌, pos, ◌*ℤ◌, length, unsigned_abs};
-ghost use Rattle.acas_spec.specs.Accepted.{IsAccepted};
+//! The mean of a layer's values over the points to which a second leads.
+ghost use Rattle.std.specs.Prelude.{◌≡◌, ℕ, ◌+◌, ◌*◌, ◌<◌, ◌≤◌, pos, ◌≤ℤ◌, length, unsigned_abs};
+ghost use Rattle.acas_spec.specs.Limits.{IsModel};
 ghost use Rattle.acas_spec.specs.Model.{states, total_weight, vertices};
 ghost use Rattle.acas_grid.specs.Grid.{IsInside};
+ghost use Rattle.acas_grid.specs.States as numbers;
 ghost use Rattle.acas_process.specs.Bounds.{interpolated, mean_value};
 ghost use Rattle.acas_process.specs.Step as process;
-ghost use Rattle.acas_step.specs.Layer.{layer_values};
-ghost use Rattle.acas_step.specs.States as numbers;
-ghost use Rattle.acas_step.specs.Values.{AreWithin, counted, value_with_cost};
+ghost use Rattle.acas_step.specs.Layer.{AreWithin, layer_values};
 
 use crate::cell::corners;
-use crate::counter::Backups;
-use crate::layer::{Side, weighted_sum};
+use crate::layer::{Side, weighted, weighted_sum};
 use crate::second::moved_from;
-use crate::states::vertex_at;
+use acas_base::Model;
 use acas_frac::Rounding;
-use acas_grid::{Grid, Point};
-use acas_model::{Choice, Model};
-use acas_units::Pair;
+use acas_grid::{Grid, Point, vertex_at};
+use acas_units::{GREATEST_TOTAL_WEIGHT, GREATEST_WEIGHT, Pair};
 
 // The number of the first state of an advisory.
 fn first_state(grid: &Grid, advisory: u8) -> usize
@@ -37,50 +32,40 @@ fn interpolated<R: Rounding>(
     advisory: u8,
     side: Side,
     below: &[Pair],
-) -> i128
+) -> i64
     requires inside { IsInside model.now.grid at }
     requires advisory { advisory < model.now.grid.advisories }
     requires below { length below.now ≡ states model.now.grid }
-    ensures value { result ≡ interpolated R.round model.now (layer_values side model.now.grid below.now) advisory at }
-    ensures small { unsigned_abs result ≤ 2 ^ 63 }
+    ensures { let values = layer_values side model.now.grid below.now in
+        result ≡ interpolated R.round model.now values advisory at }
 {
     let first = first_state(model.grid(), advisory);
     let set = corners(model, at);
     let sum = weighted_sum(&set.corners, first, side, below);
-    R::div(sum, set.total)
+    R::div(sum, set.total) as i64
 }
 
-fn point_count(model: &Model) -> u32
-    ensures value { result ≡ length model.now.points }
-    ensures valid { IsAccepted model.now }
+fn sigma_count(model: &Model) -> u32
+    ensures value { result ≡ length model.now.sigmas }
+    ensures valid { IsModel model.now }
 {
     let _ = model.grid();
     model.points().len() as u32
 }
 
-fn point_weight(model: &Model, point: u32) -> i64
-    requires { point < length model.now.points }
-    ensures value { result ≡ pos (process.point_weight model.now point) }
-    ensures light { process.point_weight model.now point ≤ 1000 }
+fn sigma_weight(model: &Model, sigma: u32) -> i128
+    requires { sigma < length model.now.sigmas }
+    ensures value { result ≡ pos (process.sigma_weight model.now sigma) }
+    ensures light { result ≤ℤ GREATEST_WEIGHT }
 {
     let _ = model.grid();
-    model.points()[point as usize].weight
-}
-
-// A value times the weight of a sigma point.
-fn by_weight(weight: i64, value: i128) -> i128
-    requires weight { unsigned_abs weight ≤ 1000 }
-    requires value { unsigned_abs value ≤ 2 ^ 63 }
-    ensures value { result ≡ weight *ℤ value }
-    ensures small { unsigned_abs result ≤ 2 ^ 63 * unsigned_abs weight }
-{
-    weight as i128 * value
+    i128::from(model.points()[sigma as usize].weight)
 }
 
 fn total_weight(model: &Model) -> i128
     ensures value { result ≡ pos (total_weight model.now) }
     ensures some { 0 < total_weight model.now }
-    ensures light { total_weight model.now ≤ 1000 }
+    ensures light { total_weight model.now ≤ GREATEST_TOTAL_WEIGHT }
 {
     let _ = model.grid();
     i128::from(model.total_weight())
@@ -94,46 +79,22 @@ pub fn mean<R: Rounding>(
     advisory: u8,
     side: Side,
     below: &[Pair],
-) -> i128
+) -> i64
     requires vertex { vertex < vertices model.now.grid }
     requires advisory { advisory < model.now.grid.advisories }
     requires below { length below.now ≡ states model.now.grid }
-    ensures value { result ≡ mean_value R.round model.now (layer_values side model.now.grid below.now) (numbers.vertex_at model.now.grid vertex) advisory }
+    ensures value { let x = numbers.vertex_at model.now.grid vertex in
+        result ≡ mean_value R.round model.now (layer_values side model.now.grid below.now) x advisory }
+
+    // No mean is larger than the largest value.
     ensures bounded { (most : ℕ) → AreWithin most side below.now → unsigned_abs result ≤ most }
-    ensures small { unsigned_abs result ≤ 2 ^ 63 }
 {
     let from = vertex_at(model.grid(), vertex);
     let mut sum: i128 = 0;
-    for point in 0..point_count(model) {
-        let at = moved_from(model, from, advisory, point);
+    for sigma in 0..sigma_count(model) {
+        let at = moved_from(model, from, advisory, sigma);
         let value = interpolated::<R>(model, at, advisory, side, below);
-        sum += by_weight(point_weight(model, point), value);
+        sum += weighted(sigma_weight(model, sigma), value);
     }
-    R::div(sum, total_weight(model))
-}
-
-/// The value of a choice at a vertex by the layer below, in millionths, whose pairs stand in the order of the states' numbers.
-/// It counts one backup for the upper side and none for the lower.
-pub fn backup<R: Rounding>(
-    model: &Model,
-    vertex: u32,
-    choice: &Choice,
-    side: Side,
-    below: &[Pair],
-    count: &mut Backups,
-) -> i128
-    requires vertex { vertex < vertices model.now.grid }
-    requires advisory { choice.now.advisory < model.now.grid.advisories }
-    requires cost { unsigned_abs choice.now.cost ≤ 1_000_000_000 }
-    requires below { length below.now ≡ states model.now.grid }
-    requires count { count.old + counted side < 2 ^ 64 }
-    ensures value { result ≡ value_with_cost R.round model.now (layer_values side model.now.grid below.now) (numbers.vertex_at model.now.grid vertex) choice.now }
-    ensures bounded { (most : ℕ) → AreWithin most side below.now → unsigned_abs result ≤ most + 1_000_000_000_000_000 }
-    ensures count { count.new ≡ count.old + counted side }
-{
-    if side == Side::Upper {
-        count.add_one();
-    }
-    let mean = mean::<R>(model, vertex, choice.advisory, side, below);
-    mean + 1_000_000 * i128::from(choice.cost)
+    R::div(sum, total_weight(model)) as i64
 }

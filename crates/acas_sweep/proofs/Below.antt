@@ -4,35 +4,35 @@ use Rattle.std.proofs.lemmas.List.{get_or-append-add, get_or-drop, get_or-take, 
 use Rattle.std.proofs.Math.Nat.{mul-le-mul_right}
 use Rattle.std.proofs.Math.Seq.{take-append_seam}
 use Rattle.std.specs.List.{slice_range}
-use Rattle.acas_spec.specs.Accepted.{IsAccepted}
+use Rattle.acas_spec.specs.Limits.{IsModel}
 use Rattle.acas_spec.specs.Model.{ModelData, entries, states, vertices}
-use Rattle.acas_grid.specs.Grid.{IsVertex, state_number, vertex_number}
-use Rattle.acas_grid.specs.declared.place.Vertex.{Vertex}
-use Rattle.acas_grid.proofs.Vertices.{row_below, some_width, vertices-one_to_one}
+use Rattle.acas_grid.specs.Grid.{IsVertex}
+use Rattle.acas_spec.specs.declared.place.Vertex.{Vertex}
+use Rattle.acas_grid.proofs.Vertices.{row_below, some_width}
 use Rattle.std.proofs.lemmas.Nat.{mod_below}
 use Rattle.acas_frac.specs.Rounding.{down, up}
 use Rattle.acas_units.specs.declared.pair.Pair.{Pair}
 use Rattle.acas_process.specs.Compiled.{compiled, compiled_values}
 use Rattle.acas_process.proofs.SameLaws.{next_advice, next_layer}
 use Rattle.acas_process.proofs.SizeLaws.{compiled_size}
-use Rattle.acas_step.specs.Layer.{layer_values}
-use Rattle.acas_step.specs.States.{state_present, state_vertex}
+use Rattle.acas_step.specs.Entries.{IsStateEntry}
+use Rattle.acas_step.specs.Layer.{AreValuesOf, IsLayer, layer_values, no_pair}
+use Rattle.acas_step.proofs.NumberedStates.{layer_values-is}
+use Rattle.acas_grid.specs.States.{state_present, state_vertex}
 use Rattle.acas_step.specs.declared.layer.Side.TheVariants.{Upper, Lower}
-use Rattle.acas_sweep.specs.Entries.{AreBelow, AreOver, IsEntryOf, IsWhole, entry_at}
-use Rattle.acas_sweep.specs.Layer.{IsLayer}
+use Rattle.acas_sweep.specs.Entries.{AreBelow, AreOver, IsWhole, listed_entry}
 use Rattle.acas_sweep.specs.Layers.{AreLayers, LayersData}
 use Rattle.acas_sweep.proofs.Over.{below_or_at}
-use Rattle.acas_step.proofs.StateNumbers.{state_present-below}
-use Rattle.acas_sweep.proofs.NumberedStates.{state_present-state_number, state_vertex-state_number}
+use Rattle.acas_grid.proofs.StateNumbers.{state_present-below}
 
 pub below_one : (m : ModelData) (pairs : List Pair) (advice : List ℕ)
-    → ((s : ℕ) → s < states m.grid → IsEntryOf (compiled m) 0 (state_present m.grid s) (state_vertex m.grid s) (entry_at pairs advice s)) → AreBelow m 1 pairs advice
+    → ((s : ℕ) → s < states m.grid → IsStateEntry m (compiled m) 0 s (listed_entry pairs advice s)) → AreBelow m 1 pairs advice
 below_one m pairs advice first = record { entry = at }
   where
-    at : (k s : ℕ) → k < 1 → s < states m.grid → IsEntryOf (compiled m) k (state_present m.grid s) (state_vertex m.grid s) (entry_at pairs advice (k * states m.grid + s))
+    at : (k s : ℕ) → k < 1 → s < states m.grid → IsStateEntry m (compiled m) k s (listed_entry pairs advice (k * states m.grid + s))
     at zero s h inside =
         let place : s ≡ 0 * states m.grid + s = omega arith in
-        subst (λ (n : ℕ). IsEntryOf (compiled m) 0 (state_present m.grid s) (state_vertex m.grid s) (entry_at pairs advice n)) place (first s inside)
+        subst (λ (n : ℕ). IsStateEntry m (compiled m) 0 s (listed_entry pairs advice n)) place (first s inside)
     at (suc k) s h inside = absurd (omega arith)
 
 -- ---- the layer below
@@ -40,32 +40,35 @@ below_one m pairs advice first = record { entry = at }
 -- the pairs of a layer of the compiled table
 pub record ArePairs (m : ModelData) (n : ℕ) (pairs : List Pair) : Type 0 where
   pub count : length pairs ≡ states m.grid
-  pub upper : (s : ℕ) → s < states m.grid → (get_or pairs s (record { upper = pos 0; lower = pos 0 })).upper ≡ (compiled m).upper n (state_present m.grid s) (state_vertex m.grid s)
-  pub lower : (s : ℕ) → s < states m.grid → (get_or pairs s (record { upper = pos 0; lower = pos 0 })).lower ≡ (compiled m).lower n (state_present m.grid s) (state_vertex m.grid s)
+  pub values : AreValuesOf m (compiled m) n pairs
 
 -- the last of the layers below
 pub last_pairs : (m : ModelData) (k first : ℕ) (pairs : List Pair) (advice : List ℕ) → first ≡ suc k * states m.grid → first ≤ length pairs → AreBelow m (suc k) pairs advice
     → ArePairs m k (drop (first - states m.grid) (take first pairs))
 last_pairs m k first pairs advice begins long below = record {
   count = length-drop (first - states m.grid) (take first pairs) ∙ omega (arith, length-take first pairs);
-  upper = λ s h. rw (at s h) ((below.entry k s (omega arith) h).upper);
-  lower = λ s h. rw (at s h) ((below.entry k s (omega arith) h).lower);
+  values = record {
+    upper = λ s h. rw (at s h) ((below.entry k s (omega arith) h).upper);
+    lower = λ s h. rw (at s h) ((below.entry k s (omega arith) h).lower);
+  };
 }
   where
     place : first - states m.grid ≡ k * states m.grid
     place = omega arith
 
-    at : (s : ℕ) → s < states m.grid → get_or (drop (first - states m.grid) (take first pairs)) s (record { upper = pos 0; lower = pos 0 }) ≡ get_or pairs (k * states m.grid + s) (record { upper = pos 0; lower = pos 0 })
+    at : (s : ℕ) → s < states m.grid → get_or (drop (first - states m.grid) (take first pairs)) s no_pair ≡ get_or pairs (k * states m.grid + s) no_pair
     at s h =
-        get_or-drop (first - states m.grid) (take first pairs) s (record { upper = pos 0; lower = pos 0 })
-        ∙ get_or-take first pairs (first - states m.grid + s) (record { upper = pos 0; lower = pos 0 }) (omega arith)
-        ∙ ap (λ (n : ℕ). get_or pairs (n + s) (record { upper = pos 0; lower = pos 0 })) place
+        get_or-drop (first - states m.grid) (take first pairs) s no_pair
+        ∙ get_or-take first pairs (first - states m.grid + s) no_pair (omega arith)
+        ∙ ap (λ (n : ℕ). get_or pairs (n + s) no_pair) place
 
-pub is_whole : (m : ModelData) (k : ℕ) (pairs : List Pair) → IsAccepted m → k < m.grid.horizon → ArePairs m k pairs → IsWhole m pairs
+pub is_whole : (m : ModelData) (k : ℕ) (pairs : List Pair) → IsModel m → k < m.grid.horizon → ArePairs m k pairs → IsWhole m pairs
 is_whole m k pairs valid below are = record {
   count = are.count;
-  upper = record { bounded = λ s h. rw (are.upper s (inside s h)) (omega (arith, valid.grid.horizon, compiled_size up (inr refl) m valid k (state_present m.grid s) (state_vertex m.grid s) (state_present-below m.grid s (inside s h)))) };
-  lower = record { bounded = λ s h. rw (are.lower s (inside s h)) (omega (arith, valid.grid.horizon, compiled_size down (inl refl) m valid k (state_present m.grid s) (state_vertex m.grid s) (state_present-below m.grid s (inside s h)))) };
+  small = record {
+    upper = record { bounded = λ s h. rw (are.values.upper s (inside s h)) (omega (arith, valid.grid.horizon, compiled_size up (inr refl) m valid k (state_present m.grid s) (state_vertex m.grid s) (state_present-below m.grid s (inside s h)))) };
+    lower = record { bounded = λ s h. rw (are.values.lower s (inside s h)) (omega (arith, valid.grid.horizon, compiled_size down (inl refl) m valid k (state_present m.grid s) (state_vertex m.grid s) (state_present-below m.grid s (inside s h)))) };
+  };
 }
   where
     inside : (s : ℕ) → s < length pairs → s < states m.grid
@@ -73,8 +76,8 @@ is_whole m k pairs valid below are = record {
 
 -- ---- the next layer
 
-pub next_entry : (m : ModelData) (k : ℕ) (below pairs : List Pair) (advice : List ℕ) → IsAccepted m → ArePairs m k below → AreOver m below (vertices m.grid) pairs advice
-    → (s : ℕ) → s < states m.grid → IsEntryOf (compiled m) (suc k) (state_present m.grid s) (state_vertex m.grid s) (entry_at pairs advice s)
+pub next_entry : (m : ModelData) (k : ℕ) (below pairs : List Pair) (advice : List ℕ) → IsModel m → ArePairs m k below → AreOver m below (vertices m.grid) pairs advice
+    → (s : ℕ) → s < states m.grid → IsStateEntry m (compiled m) (suc k) s (listed_entry pairs advice s)
 next_entry m k below pairs advice valid are over s h =
     let known = state_present-below m.grid s h in
     let here = over.entry s h (mod_below s (vertices m.grid) (some_width m.grid.advisories (vertices m.grid) s h)) in
@@ -84,59 +87,46 @@ next_entry m k below pairs advice valid are over s h =
       advice = here.advice ∙ next_advice up m k (layer_values Upper m.grid below) valid upper (state_present m.grid s) (state_vertex m.grid s) known;
     }
   where
-    number : Vertex → ℕ → ℕ
-    number y p = state_number m.grid p (vertex_number m.grid y)
-
     upper : (p : ℕ) (y : Vertex) → p < m.grid.advisories → IsVertex m.grid y → layer_values Upper m.grid below p y ≡ compiled_values up m k p y
-    upper p y known is =
-        let v = (vertices-one_to_one m.grid).below y is in
-        let inside = row_below m.grid.advisories (vertices m.grid) p (vertex_number m.grid y) known v in
-        are.upper (state_number m.grid p (vertex_number m.grid y)) inside
-        ∙ ap (λ (q : ℕ). compiled_values up m k q (state_vertex m.grid (state_number m.grid p (vertex_number m.grid y)))) (state_present-state_number m.grid p (vertex_number m.grid y) v)
-        ∙ ap (λ (x : Vertex). compiled_values up m k p x) (state_vertex-state_number m.grid p y is)
+    upper = layer_values-is m.grid Upper below (compiled_values up m k) are.values.upper
 
     lower : (p : ℕ) (y : Vertex) → p < m.grid.advisories → IsVertex m.grid y → layer_values Lower m.grid below p y ≡ compiled_values down m k p y
-    lower p y known is =
-        let v = (vertices-one_to_one m.grid).below y is in
-        let inside = row_below m.grid.advisories (vertices m.grid) p (vertex_number m.grid y) known v in
-        are.lower (state_number m.grid p (vertex_number m.grid y)) inside
-        ∙ ap (λ (q : ℕ). compiled_values down m k q (state_vertex m.grid (state_number m.grid p (vertex_number m.grid y)))) (state_present-state_number m.grid p (vertex_number m.grid y) v)
-        ∙ ap (λ (x : Vertex). compiled_values down m k p x) (state_vertex-state_number m.grid p y is)
+    lower = layer_values-is m.grid Lower below (compiled_values down m k) are.values.lower
 
 -- the layers so far stay, and one more stands after them
 pub below_next : (m : ModelData) (n first : ℕ) (pairs : List Pair) (advice : List ℕ) (pairs' : List Pair) (advice' : List ℕ) → first ≡ n * states m.grid → first ≤ length pairs → first ≤ length advice
     → AreBelow m n pairs advice
-    → ((s : ℕ) → s < states m.grid → IsEntryOf (compiled m) n (state_present m.grid s) (state_vertex m.grid s) (entry_at pairs' advice' s))
+    → ((s : ℕ) → s < states m.grid → IsStateEntry m (compiled m) n s (listed_entry pairs' advice' s))
     → AreBelow m (n + 1) (take first pairs ++ pairs') (take first advice ++ advice')
 below_next m n first pairs advice pairs' advice' begins long enough below here = record { entry = λ k s l h. at k s l h }
   where
     d : Pair
     d = record { upper = pos 0; lower = pos 0 }
 
-    pair_before : (i : ℕ) → i < first → get_or (take first pairs ++ pairs') i (record { upper = pos 0; lower = pos 0 }) ≡ get_or pairs i (record { upper = pos 0; lower = pos 0 })
-    pair_before i l = get_or_append_left (take first pairs) pairs' (record { upper = pos 0; lower = pos 0 }) i (omega (arith, length-take first pairs)) ∙ get_or-take first pairs i (record { upper = pos 0; lower = pos 0 }) l
+    pair_before : (i : ℕ) → i < first → get_or (take first pairs ++ pairs') i no_pair ≡ get_or pairs i no_pair
+    pair_before i l = get_or_append_left (take first pairs) pairs' no_pair i (omega (arith, length-take first pairs)) ∙ get_or-take first pairs i no_pair l
 
     advice_before : (i : ℕ) → i < first → get_or (take first advice ++ advice') i 0 ≡ get_or advice i 0
     advice_before i l = get_or_append_left (take first advice) advice' 0 i (omega (arith, length-take first advice)) ∙ get_or-take first advice i 0 l
 
-    pair_after : (s : ℕ) → get_or (take first pairs ++ pairs') (first + s) (record { upper = pos 0; lower = pos 0 }) ≡ get_or pairs' s (record { upper = pos 0; lower = pos 0 })
+    pair_after : (s : ℕ) → get_or (take first pairs ++ pairs') (first + s) no_pair ≡ get_or pairs' s no_pair
     pair_after s =
         let count : length (take first pairs) ≡ first = omega (arith, length-take first pairs) in
-        subst (λ (n : ℕ). get_or (take first pairs ++ pairs') (n + s) (record { upper = pos 0; lower = pos 0 }) ≡ get_or pairs' s (record { upper = pos 0; lower = pos 0 })) count (get_or-append-add (take first pairs) pairs' s (record { upper = pos 0; lower = pos 0 }))
+        subst (λ (n : ℕ). get_or (take first pairs ++ pairs') (n + s) no_pair ≡ get_or pairs' s no_pair) count (get_or-append-add (take first pairs) pairs' s no_pair)
 
     advice_after : (s : ℕ) → get_or (take first advice ++ advice') (first + s) 0 ≡ get_or advice' s 0
     advice_after s =
         let count : length (take first advice) ≡ first = omega (arith, length-take first advice) in
         subst (λ (n : ℕ). get_or (take first advice ++ advice') (n + s) 0 ≡ get_or advice' s 0) count (get_or-append-add (take first advice) advice' s 0)
 
-    at : (k s : ℕ) → k < n + 1 → s < states m.grid → IsEntryOf (compiled m) k (state_present m.grid s) (state_vertex m.grid s) (entry_at (take first pairs ++ pairs') (take first advice ++ advice') (k * states m.grid + s))
+    at : (k s : ℕ) → k < n + 1 → s < states m.grid → IsStateEntry m (compiled m) k s (listed_entry (take first pairs ++ pairs') (take first advice ++ advice') (k * states m.grid + s))
     at k s l h = ⊎_elim
         (λ (earlier : k < n).
         let inside : k * states m.grid + s < first = subst (λ (z : ℕ). k * states m.grid + s < z) (sym begins) (row_below n (states m.grid) k s earlier h) in
         rw (pair_before (k * states m.grid + s) inside, advice_before (k * states m.grid + s) inside) (below.entry k s earlier h))
         (λ (now : k ≡ n).
-        subst (λ (j : ℕ). IsEntryOf (compiled m) j (state_present m.grid s) (state_vertex m.grid s) (entry_at (take first pairs ++ pairs') (take first advice ++ advice') (j * states m.grid + s))) (sym now)
-        (subst (λ (f : ℕ). IsEntryOf (compiled m) n (state_present m.grid s) (state_vertex m.grid s) (entry_at (take first pairs ++ pairs') (take first advice ++ advice') (f + s))) begins
+        subst (λ (j : ℕ). IsStateEntry m (compiled m) j s (listed_entry (take first pairs ++ pairs') (take first advice ++ advice') (j * states m.grid + s))) (sym now)
+        (subst (λ (f : ℕ). IsStateEntry m (compiled m) n s (listed_entry (take first pairs ++ pairs') (take first advice ++ advice') (f + s))) begins
         (rw (pair_after s, advice_after s) (here s h))))
         (below_or_at k n l)
 
@@ -161,16 +151,16 @@ before_is m n pairs advice some h long below =
     take_all (length (take first pairs) - (first - states m.grid)) (drop (first - states m.grid) (take first pairs)) (omega (arith, length-drop (first - states m.grid) (take first pairs))) in
     subst (λ (xs : List Pair). ArePairs m (n - 1) xs) (sym whole) (last_pairs m (n - 1) first pairs advice begins (room m n (length pairs) h long) so_far)
 
-pub whole_below : (m : ModelData) (n : ℕ) (pairs : List Pair) (advice : List ℕ) → IsAccepted m → 0 < n → n ≤ m.grid.horizon → length pairs ≡ entries m.grid → AreBelow m n pairs advice → IsWhole m (layer_before m n pairs)
+pub whole_below : (m : ModelData) (n : ℕ) (pairs : List Pair) (advice : List ℕ) → IsModel m → 0 < n → n ≤ m.grid.horizon → length pairs ≡ entries m.grid → AreBelow m n pairs advice → IsWhole m (layer_before m n pairs)
 whole_below m n pairs advice valid some h long below = is_whole m (n - 1) (layer_before m n pairs) valid (omega arith) (before_is m n pairs advice some h long below)
 
-pub next_below : (m : ModelData) (n : ℕ) (pairs : List Pair) (advice : List ℕ) (pairs' : List Pair) (advice' : List ℕ) → IsAccepted m → 0 < n → n ≤ m.grid.horizon
+pub next_below : (m : ModelData) (n : ℕ) (pairs : List Pair) (advice : List ℕ) (pairs' : List Pair) (advice' : List ℕ) → IsModel m → 0 < n → n ≤ m.grid.horizon
     → length pairs ≡ entries m.grid → length advice ≡ entries m.grid → AreBelow m n pairs advice → AreOver m (layer_before m n pairs) (vertices m.grid) pairs' advice'
     → AreBelow m (n + 1) (take (n * states m.grid) pairs ++ pairs') (take (n * states m.grid) advice ++ advice')
 next_below m n pairs advice pairs' advice' valid some h long enough below over =
     let k : suc (n - 1) ≡ n = omega arith in
     below_next m n (n * states m.grid) pairs advice pairs' advice' refl (room m n (length pairs) h long) (room m n (length advice) h enough) below
-    (λ s i. subst (λ (j : ℕ). IsEntryOf (compiled m) j (state_present m.grid s) (state_vertex m.grid s) (entry_at pairs' advice' s)) k
+    (λ s i. subst (λ (j : ℕ). IsStateEntry m (compiled m) j s (listed_entry pairs' advice' s)) k
     (next_entry m (n - 1) (layer_before m n pairs) pairs' advice' valid (before_is m n pairs advice some h long below) over s i))
 
 -- ---- all layers
@@ -194,8 +184,10 @@ are_layers m pairs advice pair_count advice_count below = record { horizon = ref
     layer n h = record {
       pair_count = count pairs n h pair_count;
       advice_count = count advice n h advice_count;
-      upper = λ s i. rw (at pairs n s (record { upper = pos 0; lower = pos 0 }) i) ((below.entry n s (omega arith) i).upper);
-      lower = λ s i. rw (at pairs n s (record { upper = pos 0; lower = pos 0 }) i) ((below.entry n s (omega arith) i).lower);
+      values = record {
+        upper = λ s i. rw (at pairs n s no_pair i) ((below.entry n s (omega arith) i).upper);
+        lower = λ s i. rw (at pairs n s no_pair i) ((below.entry n s (omega arith) i).lower);
+      };
       advices = λ s i. rw (at advice n s 0 i) ((below.entry n s (omega arith) i).advice);
     }
 

@@ -8,7 +8,7 @@ use Rattle.std.proofs.lemmas.List.{length-map}
 use Rattle.std.proofs.lemmas.List.Sums.{sum_by-cons}
 use Rattle.std.proofs.lemmas.Map.Keys.{IsDistinct-from_apart}
 use Rattle.std.proofs.lemmas.Map.Steps.{length-le_from_distinct_below}
-use Rattle.acas_spec.specs.Accepted.{AreDistinct, IsAccepted}
+use Rattle.acas_spec.specs.Limits.{AreDistinct, IsModel}
 use Rattle.acas_spec.specs.Model.{ModelData, choices_at, vertices}
 use Rattle.acas_spec.specs.declared.parts.Choice.{Choice}
 use Rattle.acas_process.specs.Cost.{advisories_of}
@@ -31,7 +31,7 @@ apart-distinct xs apart =
     (λ same. apart.apart i j l h (sym (get_or_default_zero xs i d (omega arith)) ∙ same ∙ get_or_default_zero xs j d h)))
 
 -- a list has at most as many choices as there are advisories
-choices-few : (m : ModelData) (p : ℕ) → IsAccepted m → p < m.grid.advisories → length (choices_at m p) ≤ 16
+choices-few : (m : ModelData) (p : ℕ) → IsModel m → p < m.grid.advisories → length (choices_at m p) ≤ 16
 choices-few m p valid known =
     let cs : List Choice = choices_at m p in
     let each : (i : ℕ) → i < length (advisories_of (choices_at m p)) → get_or (advisories_of (choices_at m p)) i 0 < m.grid.advisories =
@@ -44,7 +44,7 @@ sum-few [] most h = omega arith
 sum-few (cs ∷ rest) most h = omega (arith, sum_by-cons (λ choices. length choices) cs rest, h 0 (omega arith), sum-few rest most (λ p l. h (suc p) (omega arith)))
 
 -- a table takes at most 120 layers of 4,000,000 vertices with 256 choices
-pub few_backups : (m : ModelData) → IsAccepted m → backup_count m ≤ 122_880_000_000
+pub few_backups : (m : ModelData) → IsModel m → backup_count m ≤ 122_880_000_000
 few_backups m valid =
     let choices : choice_count m ≤ 256 = omega (arith, sum-few m.choices 16 (λ p h. choices-few m p valid (omega (arith, valid.choice_count))), valid.choice_count, valid.grid.few_advisories) in
     let states : 2 * vertices m.grid ≤ m.grid.advisories * vertices m.grid = mul-le-mul valid.grid.some_advisories (omega arith) in

@@ -1,6 +1,5 @@
-mod Least
 mod Written
-mod NumberedStates
 pub mod Counts
+mod BestFrom
 mod Over
 mod Below

@@ -1,9 +1,9 @@
 -- All layers of a compiled table, and how many backups they take.
-use Rattle.std.specs.Prelude.{◌≡◌, ℕ, ◌+◌, ◌*◌, ◌≤◌, List, length, slice_range, sum_by}
-use Rattle.acas_spec.specs.Model.{ModelData, vertices}
+use Rattle.std.specs.Prelude.{◌≡◌, ◌≢◌, ℕ, ◌+◌, ◌*◌, ◌<◌, ◌≤◌, List, length, get_or, slice_range, sum_by}
+use Rattle.acas_spec.specs.Model.{GridData, ModelData, states, vertices}
 use Rattle.acas_units.specs.declared.pair.Pair.{Pair}
 use Rattle.acas_process.specs.Compiled.{compiled}
-use Rattle.acas_sweep.specs.Layer.{IsLayer}
+use Rattle.acas_step.specs.Layer.{IsLayer}
 
 -- all layers of a table, from no second to go up to the horizon, one after the other, each with so many states
 pub record LayersData : Type 0 where
@@ -24,6 +24,10 @@ advice_of layers n = slice_range layers.advice (n * layers.states) (n * layers.s
 pub record AreLayers (m : ModelData) (layers : LayersData) : Type 0 where
   pub horizon : layers.horizon ≡ m.grid.horizon
   pub layer : (n : ℕ) → n ≤ m.grid.horizon → IsLayer m (compiled m) n (pairs_of layers n) (advice_of layers n)
+
+-- above layer 0, each advice of a layer is an advisory
+pub record IsAdvised (g : GridData) (n : ℕ) (advice : List ℕ) : Type 0 where
+  pub known : (s : ℕ) → s < states g → n ≢ 0 → get_or advice s 0 < g.advisories
 
 -- how many choices there are under all present advisories
 abbrev pub choice_count : ModelData → ℕ

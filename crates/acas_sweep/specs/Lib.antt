@@ -1,4 +1,3 @@
-pub mod Layer
 pub mod Layers
 pub mod Entries
-pub mod Means
+pub mod Best

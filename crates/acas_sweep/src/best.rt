@@ -1,71 +1,73 @@
 //! The best of the choices under a present advisory.
-ghost use Rattle.std.specs.Prelude.{◌≡◌, ◌+◌, ◌<◌, ◌≤◌, ◌^◌, pos, ◌+ℤ◌, length, unsigned_abs, slice_index_or, if◌then◌else◌, int_le};
+ghost use Rattle.std.specs.Prelude.{◌≡◌, ◌+◌, ◌<◌, ◌≤◌, ◌^◌, ◌+ℤ◌, length, unsigned_abs, if◌then◌else◌, int_le};
 ghost use Rattle.std.specs.Int.{int_min};
+ghost use Rattle.acas_spec.specs.Axis.{IsBetween};
 ghost use Rattle.acas_spec.specs.Model.{choices_at};
-ghost use Rattle.acas_process.proofs.ChoiceLaws.{IsKnownChoice};
 ghost use Rattle.acas_process.specs.Bounds.{millionths};
-ghost use Rattle.acas_sweep.specs.Means.{AreSmall, IsBest, IsSmall, IsValued};
+ghost use Rattle.acas_step.specs.Choices.{listed_choice};
+ghost use Rattle.acas_sweep.specs.Best.{IsBest, IsValued};
+ghost use Rattle.acas_sweep.specs.Entries.{AreSmall, greatest_value};
 
-use acas_model::{Choice, Model};
-use acas_step::Backups;
-use acas_units::{Entry, Pair};
+use acas_base::Model;
+use acas_spec::Choice;
+use acas_step::{Backups, Side, choice_at, choice_count, value_of_choice};
+use acas_units::{Entry, GREATEST_COST, LEAST_COST, Pair};
 
-// The choice at a place of the present advisory's list.
-fn choice_at(model: &Model, present: u8, place: usize) -> Choice
-    requires present { present < model.now.grid.advisories }
-    requires place { place < length (choices_at model.now present) }
-    ensures value { result ≡ slice_index_or (choices_at model.now present) place (record { advisory = 0; cost = pos 0 }) }
-    ensures known { IsKnownChoice model.now present result }
-    ensures few { result.advisory < 16 }
+// Both values of a choice, by the means under its advisory. It counts one backup.
+fn pair_of_choice(means: Pair, choice: &Choice, count: &mut Backups) -> Pair
+    requires upper { unsigned_abs means.upper ≤ greatest_value }
+    requires lower { unsigned_abs means.lower ≤ greatest_value }
+    requires cost { IsBetween LEAST_COST GREATEST_COST choice.now.cost }
+    requires count { count.old + 1 < 2 ^ 64 }
+    ensures upper { result.upper ≡ means.upper +ℤ millionths choice.now.cost }
+    ensures lower { result.lower ≡ means.lower +ℤ millionths choice.now.cost }
+    ensures count { count.new ≡ count.old + 1 }
 {
-    let _ = model.grid();
-    model.choices(present)[place]
-}
-
-// Means and the cost of a second, in units.
-fn with_cost(means: Pair, cost: i64) -> Pair
-    requires means { IsSmall means }
-    requires cost { unsigned_abs cost ≤ 1_000_000_000 }
-    ensures upper { result.upper ≡ means.upper +ℤ millionths cost }
-    ensures lower { result.lower ≡ means.lower +ℤ millionths cost }
-{
-    let cost = 1_000_000 * cost;
+    let upper = value_of_choice(means.upper, choice, Side::Upper, count);
+    let lower = value_of_choice(means.lower, choice, Side::Lower, count);
     Pair {
-        upper: means.upper + cost,
-        lower: means.lower + cost,
+        upper: upper as i64,
+        lower: lower as i64,
     }
 }
 
-// The two values of the choice at a place.
-fn valued_choice(model: &Model, present: u8, place: usize, means: &[Pair; 16]) -> Entry
+// Both values of the choice at a place, by the means at a vertex, and its advisory. It counts one backup.
+fn valued_choice(
+    model: &Model,
+    present: u8,
+    place: usize,
+    vertex_means: &[Pair; 16],
+    count: &mut Backups,
+) -> Entry
     requires present { present < model.now.grid.advisories }
     requires place { place < length (choices_at model.now present) }
-    requires means { AreSmall model.now means.now }
-    ensures { IsValued model.now means.now present (slice_index_or (choices_at model.now present) place (record { advisory = 0; cost = pos 0 })) result }
+    requires means { AreSmall vertex_means.now }
+    requires count { count.old + 1 < 2 ^ 64 }
+    ensures value { let choice = listed_choice model.now present place in
+        IsValued model.now vertex_means.now present choice result }
+    ensures count { count.new ≡ count.old + 1 }
 {
+    // By the model's limits the number of an advisory is below 16.
+    let _ = model.grid();
     let choice = choice_at(model, present, place);
+    let means = vertex_means[usize::from(choice.advisory)];
     Entry {
-        pair: with_cost(means[usize::from(choice.advisory)], choice.cost),
+        pair: pair_of_choice(means, &choice, count),
         advice: choice.advisory,
     }
-}
-
-fn lesser(a: i64, b: i64) -> i64
-    ensures { result ≡ int_min a b }
-{
-    if b < a { b } else { a }
 }
 
 // The best of a choice and of those that stand after it. Where they tie, the choice is advised.
 fn better(choice: Entry, later: Entry) -> Entry
     ensures upper { result.pair.upper ≡ int_min choice.pair.upper later.pair.upper }
     ensures lower { result.pair.lower ≡ int_min choice.pair.lower later.pair.lower }
-    ensures advice { result.advice ≡ (if int_le choice.pair.upper later.pair.upper then choice.advice else later.advice) }
+    ensures advice { let first = int_le choice.pair.upper later.pair.upper in
+        result.advice ≡ (if first then choice.advice else later.advice) }
 {
     Entry {
         pair: Pair {
-            upper: lesser(choice.pair.upper, later.pair.upper),
-            lower: lesser(choice.pair.lower, later.pair.lower),
+            upper: choice.pair.upper.min(later.pair.upper),
+            lower: choice.pair.lower.min(later.pair.lower),
         },
         advice: if choice.pair.upper <= later.pair.upper {
             choice.advice
@@ -75,37 +77,26 @@ fn better(choice: Entry, later: Entry) -> Entry
     }
 }
 
-// How many advisories may be chosen, of which there is one at least.
-fn choice_count(model: &Model, present: u8) -> usize
-    requires { present < model.now.grid.advisories }
-    ensures value { result ≡ length (choices_at model.now present) }
-    ensures some { 0 < result }
-{
-    let _ = model.grid();
-    model.choices(present).len()
-}
-
 /// The least upper and the least lower value of the choices under a present advisory, and the first choice that has the least
 /// upper value. It counts a backup for each choice.
 pub(crate) fn best_choice(
     model: &Model,
     present: u8,
-    means: &[Pair; 16],
+    vertex_means: &[Pair; 16],
     count: &mut Backups,
 ) -> Entry
     requires present { present < model.now.grid.advisories }
-    requires means { AreSmall model.now means.now }
+    requires means { AreSmall vertex_means.now }
     requires count { count.old + length (choices_at model.now present) < 2 ^ 64 }
-    ensures best { IsBest model.now means.now present (choices_at model.now present) result }
+    ensures best { IsBest model.now vertex_means.now present (choices_at model.now present) result }
     ensures count { count.new ≡ count.old + length (choices_at model.now present) }
 {
     let mut place = choice_count(model, present) - 1;
-    let mut best = valued_choice(model, present, place, means);
-    count.add_one();
+    let mut best = valued_choice(model, present, place, vertex_means, count);
     while place > 0 {
         place -= 1;
-        best = better(valued_choice(model, present, place, means), best);
-        count.add_one();
+        let choice = valued_choice(model, present, place, vertex_means, count);
+        best = better(choice, best);
     }
     best
 }

@@ -2,38 +2,41 @@
 ghost use Rattle.std.specs.Prelude.{◌≡◌, ◌+◌, ◌<◌, ◌≤◌, ◌^◌, length};
 ghost use Rattle.acas_spec.specs.Model.{states, vertices};
 ghost use Rattle.acas_process.specs.Compiled.{compiled};
-ghost use Rattle.acas_step.specs.States.{vertex_at};
+ghost use Rattle.acas_grid.specs.States.{vertex_at};
+ghost use Rattle.acas_step.specs.Entries.{IsEntryOf};
 ghost use Rattle.acas_sweep.specs.Entries.{AreBelow, AreOver, IsWhole};
 ghost use Rattle.acas_sweep.specs.Layers.{layer_backups};
 
-use crate::means::means_at;
 use crate::vertex::fill_vertex;
-use acas_model::Model;
-use acas_step::{Backups, terminal};
-use acas_units::Pair;
+use acas_base::Model;
+use acas_step::{Backups, means_at, terminal};
+use acas_units::{Entry, Pair};
 
-// The values of a vertex with no second to go.
-fn terminal_pair(model: &Model, vertex: u32) -> Pair
+// The entry of a vertex with no second to go, under each present advisory: the cost at the end, and no advice, which is written 255.
+fn terminal_entry(model: &Model, vertex: u32) -> Entry
     requires { vertex < vertices model.now.grid }
-    ensures upper { result.upper ≡ (compiled model.now).upper 0 0 (vertex_at model.now.grid vertex) }
-    ensures lower { result.lower ≡ (compiled model.now).lower 0 0 (vertex_at model.now.grid vertex) }
+    ensures { IsEntryOf (compiled model.now) 0 0 (vertex_at model.now.grid vertex) result }
 {
     let cost = 1_000_000 * terminal(model, vertex);
-    Pair {
-        upper: cost,
-        lower: cost,
+    Entry {
+        pair: Pair {
+            upper: cost,
+            lower: cost,
+        },
+        advice: 255,
     }
 }
 
-/// Writes the layer with no second to go: the cost at the end, and no advice, which is written 255.
+/// Writes the layer with no second to go.
 pub(crate) fn fill_first(model: &Model, pairs: &mut [Pair], advice: &mut [u8])
     requires pairs { states model.now.grid ≤ length pairs.old }
     requires advice { states model.now.grid ≤ length advice.old }
     ensures { AreBelow model.now 1 pairs.new advice.new }
 {
     for state in 0..model.grid().states() {
-        pairs[state as usize] = terminal_pair(model, state % model.grid().vertices());
-        advice[state as usize] = 255;
+        let entry = terminal_entry(model, state % model.grid().vertices());
+        pairs[state as usize] = entry.pair;
+        advice[state as usize] = entry.advice;
     }
 }
 
@@ -53,7 +56,7 @@ pub(crate) fn fill_over(
     ensures count { count.new ≡ count.old + layer_backups model.now }
 {
     for vertex in 0..model.grid().vertices() {
-        let means = means_at(model, vertex, below);
-        fill_vertex(model, vertex, &means, pairs, advice, count);
+        let vertex_means = means_at(model, vertex, below);
+        fill_vertex(model, vertex, &vertex_means, pairs, advice, count);
     }
 }

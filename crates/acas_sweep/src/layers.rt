@@ -21,9 +21,15 @@ impl Model for Layers {
 
     ghost Value = { LayersData };
 
-    ghost view = { λ l. record { horizon = l.horizon; states = l.states; pairs = l.pairs.items; advice = l.advice.items } };
+    ghost view = { λ l. record {
+      horizon = l.horizon;
+      states = l.states;
+      pairs = l.pairs.items;
+      advice = l.advice.items;
+    } };
 
-    ghost invariant = { λ l. (length l.pairs.items ≡ (l.horizon + 1) * l.states) × (length l.advice.items ≡ (l.horizon + 1) * l.states) };
+    ghost invariant = { λ l. let entries = (l.horizon + 1) * l.states in
+        (length l.pairs.items ≡ entries) × (length l.advice.items ≡ entries) };
 }
 
 impl Layers {
@@ -31,7 +37,12 @@ impl Layers {
     pub(crate) fn new(horizon: u32, states: usize, pairs: Vec<Pair>, advice: Vec<u8>) -> Layers
         requires pairs { vec_len pairs ≡ (horizon + 1) * states }
         requires advice { vec_len advice ≡ (horizon + 1) * states }
-        ensures { result ≡ record { horizon = horizon; states = states; pairs = pairs.items; advice = advice.items } }
+        ensures { result ≡ record {
+          horizon = horizon;
+          states = states;
+          pairs = pairs.items;
+          advice = advice.items;
+        } }
     {
         Layers {
             horizon,

@@ -7,13 +7,9 @@ mod best;
 mod laws;
 mod layer;
 mod layers;
-mod means;
 mod sweep;
 mod vertex;
 
 pub use laws::{advices_are_advisories, backups_are_few};
 pub use layers::Layers;
 pub use sweep::sweep_list;
-
-#[cfg(test)]
-mod tests;

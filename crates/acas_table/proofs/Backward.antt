@@ -11,7 +11,7 @@ use Rattle.std.specs.Str.{bytes_eq}
 use Rattle.sha2.specs.Sha256.{sha256}
 use Rattle.acas_table.specs.Shape.{entry_count}
 use Rattle.acas_table.specs.Text.{header, entry_text, layer_text, part, length_1, entry_of, entry_at}
-use Rattle.acas_table.specs.Faults.{first_below, end_fault, field_fault, unless, magic_fault, version_fault, model_fault, shape_fault, advice_fault, front_fault, axes_fault, counts_fault, header_fault, entry_fault, kept_fault, digest_fault, rest_fault, tail_fault, first_fault}
+use Rattle.acas_table.specs.Faults.{first_below, end_fault, field_fault, unless, magic_fault, version_fault, other_model_fault, shape_fault, advice_fault, front_fault, axes_fault, counts_fault, header_fault, entry_fault, kept_fault, digest_fault, rest_fault, tail_fault, first_fault}
 use Rattle.acas_outside.specs.Bytes.{IsBytes}
 use Rattle.acas_table.specs.Tables.{flat_text, entries_below}
 use Rattle.acas_table.specs.declared.shape.TableShape.{TableShape}
@@ -78,9 +78,9 @@ header_good model s t small none =
     let a = first_none (front_fault model s t) (axes_fault s t ∷ counts_fault s t ∷ []) none in
     let b = first_none (axes_fault s t) (counts_fault s t ∷ []) a.1 in
     let c = first_none (counts_fault s t) [] b.1 in
-    let m = first_none (magic_fault e t) (version_fault e t ∷ model_fault e model t ∷ []) a.0 in
-    let v = first_none (version_fault e t) (model_fault e model t ∷ []) m.1 in
-    let d = first_none (model_fault e model t) [] v.1 in
+    let m = first_none (magic_fault e t) (version_fault e t ∷ other_model_fault e model t ∷ []) a.0 in
+    let v = first_none (version_fault e t) (other_model_fault e model t ∷ []) m.1 in
+    let d = first_none (other_model_fault e model t) [] v.1 in
     let x = first_none (shape_fault e 0 s.altitudes t) (shape_fault e 1 s.own_rates t ∷ shape_fault e 2 s.intruder_rates t ∷ []) b.0 in
     let y = first_none (shape_fault e 1 s.own_rates t) (shape_fault e 2 s.intruder_rates t ∷ []) x.1 in
     let z = first_none (shape_fault e 2 s.intruder_rates t) [] y.1 in

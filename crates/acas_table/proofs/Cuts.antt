@@ -8,7 +8,7 @@ use Rattle.byteorder.specs.Endian.{little_number}
 use Rattle.sha2.specs.Sha256.{sha256}
 use Rattle.acas_table.specs.Shape.{entry_count}
 use Rattle.acas_table.specs.Text.{part, length_1, entry_of}
-use Rattle.acas_table.specs.Faults.{first, first_below, end_fault, unless, magic_fault, version_fault, model_fault, shape_fault, advice_fault, field_fault, front_fault, axes_fault, counts_fault, header_fault, entry_fault, kept_fault, digest_fault, rest_fault, tail_fault, first_fault}
+use Rattle.acas_table.specs.Faults.{first, first_below, end_fault, unless, magic_fault, version_fault, other_model_fault, shape_fault, advice_fault, field_fault, front_fault, axes_fault, counts_fault, header_fault, entry_fault, kept_fault, digest_fault, rest_fault, tail_fault, first_fault}
 use Rattle.acas_table.specs.declared.shape.TableShape.{TableShape}
 use Rattle.acas_table.specs.declared.fault.TableFault.{TableFault}
 use Rattle.acas_table.specs.declared.fault.TableFault.TheVariants.{Magic, Version, OtherModel, Shape, Length, Digest}
@@ -76,7 +76,7 @@ cut_magic e bytes n within none = cut_field e bytes n 0 4 (λ found. unless (byt
 cut_version : (e : ℕ) (bytes : List ℕ) (n : ℕ) → n ≤ length bytes → version_fault e bytes ≡ None → Cut e n 8 (version_fault e (take n bytes))
 cut_version e bytes n within none = cut_field e bytes n 4 4 (λ found. unless (little_number 4 found == 1) (Version (little_number 4 found))) within none
 
-cut_model : (e : ℕ) (model bytes : List ℕ) (n : ℕ) → n ≤ length bytes → model_fault e model bytes ≡ None → Cut e n 40 (model_fault e model (take n bytes))
+cut_model : (e : ℕ) (model bytes : List ℕ) (n : ℕ) → n ≤ length bytes → other_model_fault e model bytes ≡ None → Cut e n 40 (other_model_fault e model (take n bytes))
 cut_model e model bytes n within none = cut_field e bytes n 8 32 (λ kept. unless (bytes_eq kept model) (OtherModel kept model)) within none
 
 cut_shape : (e place number : ℕ) (bytes : List ℕ) (n : ℕ) → n ≤ length bytes → shape_fault e place number bytes ≡ None → Cut e n (40 + 4 * place + 4) (shape_fault e place number (take n bytes))
@@ -86,7 +86,7 @@ cut_front : (model : List ℕ) (s : TableShape) (bytes : List ℕ) (n : ℕ) →
 unfolding front_fault
 cut_front model s bytes n within none =
     let e = length_1 s in
-    cut_three e n 4 8 40 (magic_fault e bytes) (version_fault e bytes) (model_fault e model bytes) (magic_fault e (take n bytes)) (version_fault e (take n bytes)) (model_fault e model (take n bytes)) (omega arith) (omega arith)
+    cut_three e n 4 8 40 (magic_fault e bytes) (version_fault e bytes) (other_model_fault e model bytes) (magic_fault e (take n bytes)) (version_fault e (take n bytes)) (other_model_fault e model (take n bytes)) (omega arith) (omega arith)
     (cut_magic e bytes n within) (λ _. cut_version e bytes n within) (λ _. cut_model e model bytes n within) none
 
 cut_axes : (s : TableShape) (bytes : List ℕ) (n : ℕ) → n ≤ length bytes → axes_fault s bytes ≡ None → Cut (length_1 s) n 52 (axes_fault s (take n bytes))

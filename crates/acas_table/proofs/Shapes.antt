@@ -1,7 +1,8 @@
 -- The shape of an accepted model's tables.
 use Rattle.std.proofs.Common.{◌≡◌, ℕ, zero, suc, ◌+◌, ◌*◌, ◌≤◌, length, sym, ◌∙◌, ap, subst, arith}
+use Rattle.acas_units.specs.declared.limits.TheConstants.{GREATEST_ENTRIES, LEAST_ADVISORIES, LEAST_VERTICES}
 use Rattle.acas_spec.specs.Model.{GridData, states}
-use Rattle.acas_spec.specs.Accepted.{IsGrid}
+use Rattle.acas_spec.specs.Limits.{IsGrid}
 use Rattle.acas_table.specs.Shape.{IsShape, shape_of}
 use Rattle.acas_table.specs.declared.shape.TableShape.{TableShape}
 
@@ -11,7 +12,7 @@ some_product (suc m) zero some_m some_n = absurd (omega (arith, some_n))
 some_product (suc m) (suc n) some_m some_n = omega arith
 
 -- there are states where there are advisories and numbers on each axis
-some_states : (advisories h v0 v1 : ℕ) → 2 ≤ advisories → 2 ≤ h → 2 ≤ v0 → 2 ≤ v1 → 1 ≤ advisories * (h * v0 * v1)
+some_states : (advisories h v0 v1 : ℕ) → LEAST_ADVISORIES ≤ advisories → LEAST_VERTICES ≤ h → LEAST_VERTICES ≤ v0 → LEAST_VERTICES ≤ v1 → 1 ≤ advisories * (h * v0 * v1)
 some_states advisories h v0 v1 some_advisories some_h some_v0 some_v1 =
     some_product advisories (h * v0 * v1) (omega (arith, some_advisories))
     (some_product (h * v0) v1 (some_product h v0 (omega (arith, some_h)) (omega (arith, some_v0))) (omega (arith, some_v1)))
@@ -37,5 +38,5 @@ limited_as g s grid h v0 v1 advisories horizon at_states = record {
   horizon = omega (arith, horizon, grid.horizon);
   some_states = subst (λ (n : ℕ). 1 ≤ n) (sym at_states) (limited g grid).some_states;
   few_entries =
-      subst (λ (n : ℕ). n ≤ 4000000) (sym (ap (λ (n : ℕ). (n + 1) * s.states) horizon ∙ ap (λ (n : ℕ). (g.horizon + 1) * n) at_states)) grid.entries;
+      subst (λ (n : ℕ). n ≤ GREATEST_ENTRIES) (sym (ap (λ (n : ℕ). (n + 1) * s.states) horizon ∙ ap (λ (n : ℕ). (g.horizon + 1) * n) at_states)) grid.entries;
 }

@@ -13,7 +13,7 @@ use Rattle.acas_units.specs.declared.pair.Entry.{Entry}
 use Rattle.acas_table.specs.Shape.{entry_count}
 use Rattle.acas_table.specs.Text.{header, entry_text, layer_text, part, length_1, entry_of}
 use Rattle.acas_table.specs.Tables.{IsTable, flat_text, no_entry}
-use Rattle.acas_table.specs.Faults.{first, first_below, field_fault, unless, magic_fault, version_fault, model_fault, shape_fault, advice_fault, front_fault, axes_fault, counts_fault, header_fault, entry_fault, kept_fault, rest_fault, tail_fault, first_fault}
+use Rattle.acas_table.specs.Faults.{first, first_below, field_fault, unless, magic_fault, version_fault, other_model_fault, shape_fault, advice_fault, front_fault, axes_fault, counts_fault, header_fault, entry_fault, kept_fault, rest_fault, tail_fault, first_fault}
 use Rattle.acas_table.specs.declared.shape.TableShape.{TableShape}
 use Rattle.acas_table.specs.declared.fault.TableFault.{TableFault}
 use Rattle.acas_table.specs.declared.fault.TableFault.TheVariants.{Magic, Version, OtherModel, Shape, Length, Digest}
@@ -106,11 +106,11 @@ good_header model s es rest table =
     good_field (length_1 s) t 0 4 (codes "ACXT") (λ found. unless (bytes_eq found (codes "ACXT")) Magic) (omega arith) (ap (λ (l : List ℕ). part l 0 4) (header_then model s rest)) refl in
     let version : version_fault (length_1 s) t ≡ None =
     good_field (length_1 s) t 4 4 (little_bytes 4 1) (λ found. unless (little_number 4 found == 1) (Version (little_number 4 found))) (omega arith) (ap (λ (l : List ℕ). part l 4 4) (header_then model s rest)) refl in
-    let kept : model_fault (length_1 s) model t ≡ None =
+    let kept : other_model_fault (length_1 s) model t ≡ None =
     good_field (length_1 s) t 8 32 model (λ kept. unless (bytes_eq kept model) (OtherModel kept model)) (omega arith)
     (ap (λ (l : List ℕ). part l 8 32) (header_then model s rest) ∙ part_here model (shape_text s rest) 32 table.digest_is) (good_if (bytes_eq model model) _ (same_bytes model)) in
-    let front = ap (λ (o : Option TableFault). first (o ∷ version_fault (length_1 s) t ∷ model_fault (length_1 s) model t ∷ [])) magic
-    ∙ ap (λ (o : Option TableFault). first (o ∷ model_fault (length_1 s) model t ∷ [])) version ∙ ap (λ (o : Option TableFault). first (o ∷ [])) kept in
+    let front = ap (λ (o : Option TableFault). first (o ∷ version_fault (length_1 s) t ∷ other_model_fault (length_1 s) model t ∷ [])) magic
+    ∙ ap (λ (o : Option TableFault). first (o ∷ other_model_fault (length_1 s) model t ∷ [])) version ∙ ap (λ (o : Option TableFault). first (o ∷ [])) kept in
     let axes = ap (λ (o : Option TableFault). first (o ∷ shape_fault (length_1 s) 1 s.own_rates t ∷ shape_fault (length_1 s) 2 s.intruder_rates t ∷ [])) (good_shape model s rest 0 s.altitudes table.digest_is (omega arith) (omega (arith, table.shape.altitudes)) refl)
     ∙ ap (λ (o : Option TableFault). first (o ∷ shape_fault (length_1 s) 2 s.intruder_rates t ∷ [])) (good_shape model s rest 1 s.own_rates table.digest_is (omega arith) (omega (arith, table.shape.own_rates)) refl)
     ∙ ap (λ (o : Option TableFault). first (o ∷ [])) (good_shape model s rest 2 s.intruder_rates table.digest_is (omega arith) (omega (arith, table.shape.intruder_rates)) refl) in

@@ -22,7 +22,8 @@ first_below fault (suc n) = first (first_below fault n ∷ fault n ∷ [])
 
 -- the file ends before the end of the n bytes at a place
 abbrev pub end_fault : ℕ → List ℕ → ℕ → ℕ → Option TableFault
-end_fault expected bytes at n = if nat_lt (length bytes) (at + n) then Some (Length expected (length bytes)) else None
+end_fault expected bytes at n =
+    if nat_lt (length bytes) (at + n) then Some (Length expected (length bytes)) else None
 
 abbrev pub unless : Bool → TableFault → Option TableFault
 unless good fault = if good then None else Some fault
@@ -32,50 +33,70 @@ abbrev pub field_fault : ℕ → List ℕ → ℕ → ℕ → (List ℕ → Opti
 field_fault expected bytes at n fault = first (end_fault expected bytes at n ∷ fault (part bytes at n) ∷ [])
 
 abbrev pub magic_fault : ℕ → List ℕ → Option TableFault
-magic_fault expected bytes = field_fault expected bytes 0 4 (λ found. unless (bytes_eq found (codes "ACXT")) Magic)
+magic_fault expected bytes =
+    field_fault expected bytes 0 4 (λ found. unless (bytes_eq found (codes "ACXT")) Magic)
 
 abbrev pub version_fault : ℕ → List ℕ → Option TableFault
-version_fault expected bytes = field_fault expected bytes 4 4 (λ found. unless (little_number 4 found == 1) (Version (little_number 4 found)))
+version_fault expected bytes =
+    field_fault expected bytes 4 4 (λ found. unless (little_number 4 found == 1) (Version (little_number 4 found)))
 
-abbrev pub model_fault : ℕ → List ℕ → List ℕ → Option TableFault
-model_fault expected digest bytes = field_fault expected bytes 8 32 (λ kept. unless (bytes_eq kept digest) (OtherModel kept digest))
+abbrev pub other_model_fault : ℕ → List ℕ → List ℕ → Option TableFault
+other_model_fault expected digest bytes =
+    field_fault expected bytes 8 32 (λ kept. unless (bytes_eq kept digest) (OtherModel kept digest))
 
 -- the number at one of the five places of the shape
 abbrev pub shape_fault : ℕ → ℕ → ℕ → List ℕ → Option TableFault
 shape_fault expected place number bytes =
-    field_fault expected bytes (40 + 4 * place) 4 (λ kept. unless (little_number 4 kept == number) (Shape place (little_number 4 kept) number))
+    field_fault expected bytes (40 + 4 * place) 4
+    (λ kept. unless (little_number 4 kept == number) (Shape place (little_number 4 kept) number))
 
 unfoldable pub front_fault : List ℕ → TableShape → List ℕ → Option TableFault
 front_fault digest s bytes =
-    first (magic_fault (length_1 s) bytes ∷ version_fault (length_1 s) bytes ∷ model_fault (length_1 s) digest bytes ∷ [])
+    first (
+    magic_fault (length_1 s) bytes
+    ∷ version_fault (length_1 s) bytes
+    ∷ other_model_fault (length_1 s) digest bytes
+    ∷ [])
 
 unfoldable pub axes_fault : TableShape → List ℕ → Option TableFault
 axes_fault s bytes =
-    first (shape_fault (length_1 s) 0 s.altitudes bytes ∷ shape_fault (length_1 s) 1 s.own_rates bytes ∷ shape_fault (length_1 s) 2 s.intruder_rates bytes ∷ [])
+    first (
+    shape_fault (length_1 s) 0 s.altitudes bytes
+    ∷ shape_fault (length_1 s) 1 s.own_rates bytes
+    ∷ shape_fault (length_1 s) 2 s.intruder_rates bytes
+    ∷ [])
 
 unfoldable pub counts_fault : TableShape → List ℕ → Option TableFault
-counts_fault s bytes = first (shape_fault (length_1 s) 3 s.advisories bytes ∷ shape_fault (length_1 s) 4 s.horizon bytes ∷ [])
+counts_fault s bytes =
+    first (shape_fault (length_1 s) 3 s.advisories bytes ∷ shape_fault (length_1 s) 4 s.horizon bytes ∷ [])
 
 abbrev pub header_fault : List ℕ → TableShape → List ℕ → Option TableFault
-header_fault digest s bytes = first (front_fault digest s bytes ∷ axes_fault s bytes ∷ counts_fault s bytes ∷ [])
+header_fault digest s bytes =
+    first (front_fault digest s bytes ∷ axes_fault s bytes ∷ counts_fault s bytes ∷ [])
 
 -- the advice of an entry, by its number: 255 in layer 0, and an advisory's number above it
 abbrev pub advice_fault : TableShape → ℕ → ℕ → Option TableFault
-advice_fault s i byte = unless (if nat_lt i s.states then byte == 255 else nat_lt byte s.advisories) (Advice (i / s.states) (i % s.states) byte)
+advice_fault s i byte =
+    unless (if nat_lt i s.states then byte == 255 else nat_lt byte s.advisories)
+    (Advice (i / s.states) (i % s.states) byte)
 
 unfoldable pub entry_fault : TableShape → List ℕ → ℕ → Option TableFault
-entry_fault s bytes i = field_fault (length_1 s) bytes (60 + 17 * i) 17 (λ field. advice_fault s i (entry_of field).advice)
+entry_fault s bytes i =
+    field_fault (length_1 s) bytes (60 + 17 * i) 17 (λ field. advice_fault s i (entry_of field).advice)
 
 -- the digest at the end, where the bytes before it have this one
 unfoldable pub kept_fault : TableShape → List ℕ → List ℕ → Option TableFault
-kept_fault s computed bytes = field_fault (length_1 s) bytes (60 + 17 * entry_count s) 32 (λ kept. unless (bytes_eq kept computed) (Digest kept computed))
+kept_fault s computed bytes =
+    field_fault (length_1 s) bytes (60 + 17 * entry_count s) 32
+    (λ kept. unless (bytes_eq kept computed) (Digest kept computed))
 
 abbrev pub digest_fault : TableShape → List ℕ → Option TableFault
 digest_fault s bytes = kept_fault s (sha256 (part bytes 0 (60 + 17 * entry_count s))) bytes
 
 -- one more byte follows the expected ones
 abbrev pub more_fault : ℕ → List ℕ → Option TableFault
-more_fault expected bytes = if nat_lt expected (length bytes) then Some (Length expected (expected + 1)) else None
+more_fault expected bytes =
+    if nat_lt expected (length bytes) then Some (Length expected (expected + 1)) else None
 
 unfoldable pub rest_fault : TableShape → List ℕ → Option TableFault
 rest_fault s bytes = more_fault (length_1 s) bytes
@@ -85,4 +106,9 @@ abbrev pub tail_fault : TableShape → List ℕ → Option TableFault
 tail_fault s bytes = first (digest_fault s bytes ∷ rest_fault s bytes ∷ [])
 
 unfoldable pub first_fault : List ℕ → TableShape → List ℕ → Option TableFault
-first_fault digest s bytes = first (header_fault digest s bytes ∷ first_below (entry_fault s bytes) (entry_count s) ∷ tail_fault s bytes ∷ [])
+first_fault digest s bytes =
+    first (
+    header_fault digest s bytes
+    ∷ first_below (entry_fault s bytes) (entry_count s)
+    ∷ tail_fault s bytes
+    ∷ [])

@@ -1,17 +1,21 @@
 -- The layers of a table that is given by present advisory and vertex.
-use Rattle.std.specs.Prelude.{ℕ, ◌+◌, List, map}
-use Rattle.std.specs.List.{range_with_len}
+use Rattle.std.specs.Prelude.{ℕ, ◌+◌, List, ◌++◌, map}
+use Rattle.std.specs.List.{flat_map, range_with_len}
+use Rattle.sha2.specs.Sha256.{sha256}
 use Rattle.acas_spec.specs.Model.{GridData, states}
-use Rattle.acas_process.specs.Bounds.{Table}
+use Rattle.acas_spec.specs.Table.{Table}
 use Rattle.acas_units.specs.declared.pair.Entry.{Entry}
-use Rattle.acas_step.specs.States.{state_present, state_vertex}
+use Rattle.acas_grid.specs.States.{state_present, state_vertex}
 use Rattle.acas_table.specs.Shape.{shape_of}
-use Rattle.acas_table.specs.Text.{table_text}
+use Rattle.acas_table.specs.Text.{header, layer_text}
 
 -- the entry of a state's number with n seconds to go
 abbrev pub state_entry : GridData → Table → ℕ → ℕ → Entry
 state_entry g t n state = record {
-  pair = record { upper = t.upper n (state_present g state) (state_vertex g state); lower = t.lower n (state_present g state) (state_vertex g state) };
+  pair = record {
+    upper = t.upper n (state_present g state) (state_vertex g state);
+    lower = t.lower n (state_present g state) (state_vertex g state);
+  };
   advice = t.advice n (state_present g state) (state_vertex g state);
 }
 
@@ -23,6 +27,10 @@ layer_entries g t n = map (state_entry g t n) (range_with_len 0 (states g))
 abbrev pub layers_of : GridData → Table → List (List Entry)
 layers_of g t = map (layer_entries g t) (range_with_len 0 (g.horizon + 1))
 
+-- bytes with their digest behind them
+abbrev pub with_digest : List ℕ → List ℕ
+with_digest bytes = bytes ++ sha256 bytes
+
 -- the text of a table, in version 1, for the model whose text has this digest
-abbrev pub text_of : List ℕ → GridData → Table → List ℕ
-text_of digest g t = table_text 1 digest (shape_of g) (layers_of g t)
+abbrev pub table_text : List ℕ → GridData → Table → List ℕ
+table_text digest g t = with_digest (header 1 digest (shape_of g) ++ flat_map layer_text (layers_of g t))

@@ -1,10 +1,11 @@
 -- A reader that has read the front of a file.
-use Rattle.std.specs.Prelude.{◌≡◌, ℕ, ◌+◌, ◌-◌, List, Bool, false, Option, Some, None, Result, Ok, Err, ⊤}
+use Rattle.std.specs.Prelude.{◌≡◌, ℕ, List, Bool, false, Option, Some, None, IfSome, Result, Ok, Err, IsErrOf, ⊤}
+use Rattle.acas_outside.specs.Files.{Files, Given}
 use Rattle.acas_units.specs.declared.pair.Entry.{Entry}
 use Rattle.acas_table.specs.Text.{entry_at}
 use Rattle.acas_table.specs.Faults.{header_fault, entry_fault, first_below, tail_fault, first_fault}
 use Rattle.acas_table.specs.Shape.{entry_count}
-use Rattle.acas_table.specs.Source.{IsAt}
+use Rattle.acas_table.specs.Source.{IsAt, bytes_taken}
 use Rattle.acas_table.specs.Tables.{entries_below, flat_text}
 use Rattle.acas_table.specs.declared.shape.TableShape.{TableShape}
 use Rattle.acas_table.specs.declared.reader.TableReader.{TableReader}
@@ -26,10 +27,17 @@ abbrev pub reader_state : TableReader → ReaderState
 reader_state r = record {
   shape = r.shape;
   given = r.given;
-  taken = r.source.place + (r.source.to - r.source.from);
+  taken = bytes_taken r.source;
   fault = r.fault;
   done = r.done;
 }
+
+-- a reader of tables of a shape that gave no entry yet and found no fault
+pub record IsNew (s : TableShape) (r : ReaderState) : Type 0 where
+  pub shape : r.shape ≡ s
+  pub given : r.given ≡ 0
+  pub no_fault : r.fault ≡ None
+  pub not_done : r.done ≡ false
 
 -- the reader stands in these bytes: it has read the header and the entries that it gave, which have no fault
 pub record HasRead (digest : List ℕ) (r : TableReader) (bytes : List ℕ) : Type 0 where
@@ -39,6 +47,10 @@ pub record HasRead (digest : List ℕ) (r : TableReader) (bytes : List ℕ) : Ty
   pub sound : r.fault ≡ None
   pub more : r.done ≡ false
 
+-- of the bytes under a name, where they are told and there are some
+abbrev pub Told : Option Files → List ℕ → (List ℕ → Type 0) → Type 0
+Told holds name P = Given holds name (λ file. IfSome file P)
+
 -- `start`, at the file under the name
 abbrev pub Starts : List ℕ → TableShape → Option (List ℕ) → Result TableReader TableFault → Type 0
 Starts digest s None (Ok r) = ⊥
@@ -47,24 +59,34 @@ Starts digest s file (Err Failed) = ⊤
 Starts digest s file (Err Memory) = ⊤
 Starts digest s file (Err Absent) = file ≡ None
 Starts digest s None (Err fault) = ⊥
-Starts digest s (Some bytes) (Err fault) = (header_fault digest s bytes ≡ Some fault) × (first_fault digest s bytes ≡ Some fault)
+Starts digest s (Some bytes) (Err fault) =
+    (header_fault digest s bytes ≡ Some fault) × (first_fault digest s bytes ≡ Some fault)
 
 -- `entry`, at the bytes in which the reader stands
 abbrev pub GivesEntry : List ℕ → ReaderState → List ℕ → Result Entry TableFault → Type 0
-GivesEntry digest old bytes (Ok entry) = (entry ≡ entry_at bytes old.given) × (entry_fault old.shape bytes old.given ≡ None)
+GivesEntry digest old bytes (Ok entry) =
+    (entry ≡ entry_at bytes old.given) × (entry_fault old.shape bytes old.given ≡ None)
 GivesEntry digest old bytes (Err Failed) = ⊤
 GivesEntry digest old bytes (Err Absent) = ⊥
 GivesEntry digest old bytes (Err Memory) = ⊥
-GivesEntry digest old bytes (Err fault) = (entry_fault old.shape bytes old.given ≡ Some fault) × (first_fault digest old.shape bytes ≡ Some fault)
+GivesEntry digest old bytes (Err fault) =
+    (entry_fault old.shape bytes old.given ≡ Some fault) × (first_fault digest old.shape bytes ≡ Some fault)
 
 -- `finish`, at the bytes in which the reader stands
 abbrev pub Finishes : {X : Type 0} → List ℕ → TableShape → List ℕ → Result X TableFault → Type 0
 Finishes digest s bytes (Ok x) =
-    (tail_fault s bytes ≡ None) × (first_fault digest s bytes ≡ None) × (bytes ≡ flat_text digest s (entries_below bytes (entry_count s)))
+    (tail_fault s bytes ≡ None)
+    × (first_fault digest s bytes ≡ None)
+    × (bytes ≡ flat_text digest s (entries_below bytes (entry_count s)))
 Finishes digest s bytes (Err Failed) = ⊤
 Finishes digest s bytes (Err Absent) = ⊥
 Finishes digest s bytes (Err Memory) = ⊥
-Finishes digest s bytes (Err fault) = (tail_fault s bytes ≡ Some fault) × (first_fault digest s bytes ≡ Some fault)
+Finishes digest s bytes (Err fault) =
+    (tail_fault s bytes ≡ Some fault) × (first_fault digest s bytes ≡ Some fault)
+
+-- a fault is answered where the reader had found none before
+abbrev pub FindsNow : {X : Type 0} → ReaderState → Result X TableFault → TableFault → Type 0
+FindsNow old result fault = (old.fault ≡ None) × IsErrOf result fault
 
 -- the fault that a reader keeps of an answer
 abbrev pub kept : {X : Type 0} → Result X TableFault → Option TableFault

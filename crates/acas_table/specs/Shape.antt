@@ -1,5 +1,6 @@
 -- The numbers of a table.
 use Rattle.std.specs.Prelude.{ℕ, ◌+◌, ◌*◌, ◌≤◌, length}
+use Rattle.acas_units.specs.declared.limits.TheConstants.{GREATEST_ADVISORIES, GREATEST_ENTRIES, GREATEST_HORIZON, GREATEST_VERTICES}
 use Rattle.acas_spec.specs.Model.{GridData, states}
 use Rattle.acas_table.specs.declared.shape.TableShape.{TableShape}
 
@@ -20,10 +21,10 @@ entry_count s = (s.horizon + 1) * s.states
 
 -- a shape is within the limits of an accepted model
 pub record IsShape (s : TableShape) : Type 0 where
-  pub altitudes : s.altitudes ≤ 129
-  pub own_rates : s.own_rates ≤ 129
-  pub intruder_rates : s.intruder_rates ≤ 129
-  pub advisories : s.advisories ≤ 16
-  pub horizon : s.horizon ≤ 120
+  pub altitudes : s.altitudes ≤ GREATEST_VERTICES
+  pub own_rates : s.own_rates ≤ GREATEST_VERTICES
+  pub intruder_rates : s.intruder_rates ≤ GREATEST_VERTICES
+  pub advisories : s.advisories ≤ GREATEST_ADVISORIES
+  pub horizon : s.horizon ≤ GREATEST_HORIZON
   pub some_states : 1 ≤ s.states
-  pub few_entries : entry_count s ≤ 4000000
+  pub few_entries : entry_count s ≤ GREATEST_ENTRIES

@@ -2,6 +2,8 @@
 use Rattle.std.specs.Prelude.{◌≡◌, ℕ, ◌+◌, ◌-◌, ◌<◌, ◌≤◌, List, length, take, Option, Some, None, Result, Ok, Err, ⊤}
 use Rattle.sha2.specs.Hashers.{Holds256}
 use Rattle.acas_outside.specs.Bytes.{IsBytes}
+use Rattle.acas_outside.specs.Counts.{raised}
+use Rattle.acas_outside.specs.declared.folder.Folder.{Ghosts as FolderMeanings}
 use Rattle.acas_table.specs.Text.{part}
 use Rattle.acas_table.specs.Faults.{end_fault}
 use Rattle.acas_table.specs.declared.fault.TableFault.{TableFault}
@@ -13,6 +15,22 @@ use Rattle.acas_table.specs.declared.source.Miss.TheVariants.{Ends, Absent, Fail
 -- the digest has taken in what was read since its mark
 abbrev pub IsHashed : Source → List ℕ → Type 0
 IsHashed s bytes = Holds256 s.hasher (part bytes s.mark (s.place - s.mark))
+
+-- how many bytes of its file the source took: those before its place, and those at hand
+abbrev pub bytes_taken : Source → ℕ
+bytes_taken s = s.place + (s.to - s.from)
+
+-- the folder's reads gave just as many bytes as this count rose by
+pub record Takes {F : Type 0} (d : FolderMeanings F) (old new : F) (before now : ℕ) : Type 0 where
+  pub later : before ≤ now
+  pub taken : d.taken new ≡ raised (d.taken old) (now - before)
+
+-- the folder's reads gave just as many bytes as the source took more, and what it knows of the file stays
+pub record TakesMore {F : Type 0} (d : FolderMeanings F) (old new : F) (before now : Source) : Type 0 where
+  pub limit : now.limit ≡ before.limit
+  pub expected : now.expected ≡ before.expected
+  pub later : bytes_taken before ≤ bytes_taken now
+  pub taken : d.taken new ≡ raised (d.taken old) (bytes_taken now - bytes_taken before)
 
 -- the source is at its place in these bytes, and has their next ones at hand
 pub record IsAt (s : Source) (bytes : List ℕ) : Type 0 where
@@ -39,7 +57,7 @@ abbrev pub GivesMore : {X : Type 0} → Source → Option (List ℕ) → Source 
 GivesMore old None new (Ok x) = ⊥
 GivesMore old (Some bytes) new (Ok x) = IsAt new bytes
 GivesMore old None new (Err (Ends found)) = ⊥
-GivesMore old (Some bytes) new (Err (Ends found)) = (found ≡ length bytes) × (found ≡ old.place + (old.to - old.from))
+GivesMore old (Some bytes) new (Err (Ends found)) = (found ≡ length bytes) × (found ≡ bytes_taken old)
 GivesMore old file new (Err Failed) = ⊤
 GivesMore old file new (Err Absent) = file ≡ None
 
@@ -55,14 +73,16 @@ Fills old n file new (Err Absent) = file ≡ None
 -- the n bytes at a place, or the file ends before
 abbrev pub GivesField : ℕ → ℕ → ℕ → Option (List ℕ) → Source → Result (List ℕ) TableFault → Type 0
 GivesField expected at n None new (Ok field) = ⊥
-GivesField expected at n (Some bytes) new (Ok field) = (end_fault expected bytes at n ≡ None) × (field ≡ part bytes at n) × IsAt new bytes
+GivesField expected at n (Some bytes) new (Ok field) =
+    (end_fault expected bytes at n ≡ None) × (field ≡ part bytes at n) × IsAt new bytes
 GivesField expected at n file new (Err faults.Failed) = ⊤
 GivesField expected at n file new (Err faults.Absent) = file ≡ None
 GivesField expected at n None new (Err fault) = ⊥
 GivesField expected at n (Some bytes) new (Err fault) = end_fault expected bytes at n ≡ Some fault
 
 -- what was read has no fault, or its fault is answered
-abbrev pub Checks : {X : Type 0} → (List ℕ → Option TableFault) → (X → List ℕ → Type 0) → Option (List ℕ) → Source → Result X TableFault → Type 0
+abbrev pub Checks : {X : Type 0} → (List ℕ → Option TableFault) → (X → List ℕ → Type 0)
+    → Option (List ℕ) → Source → Result X TableFault → Type 0
 Checks fault P None new (Ok x) = ⊥
 Checks fault P (Some bytes) new (Ok x) = (fault bytes ≡ None) × P x bytes × IsAt new bytes
 Checks fault P file new (Err faults.Failed) = ⊤
@@ -78,7 +98,8 @@ pub record Steps (old new : Source) (n : ℕ) : Type 0 where
   pub mark : new.mark ≡ old.mark
 
 -- there is no fault and all of the file was seen, or the fault is answered
-abbrev pub Finds : {X : Type 0} → (List ℕ → Option TableFault) → Option (List ℕ) → Result X TableFault → Type 0
+abbrev pub Finds : {X : Type 0} → (List ℕ → Option TableFault) → Option (List ℕ)
+    → Result X TableFault → Type 0
 Finds fault None (Ok x) = ⊥
 Finds fault (Some bytes) (Ok x) = (fault bytes ≡ None) × IsBytes bytes
 Finds fault file (Err faults.Failed) = ⊤

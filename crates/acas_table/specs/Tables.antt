@@ -16,7 +16,8 @@ no_entry = record { pair = record { upper = pos 0; lower = pos 0 }; advice = 0 }
 abbrev pub entry_number : List Entry → ℕ → Entry
 entry_number entries i = get_or entries i no_entry
 
--- there is an entry for each state of each layer, its values fit 64 bits, and its advice is 255 in layer 0 and an advisory above it
+-- there is an entry for each state of each layer, its values fit 64 bits, and its advice is 255 in layer 0 and an
+-- advisory above it
 pub record IsTable (digest : List ℕ) (s : TableShape) (es : List Entry) : Type 0 where
   pub digest_is : length digest ≡ 32
   pub shape : IsShape s

@@ -11,7 +11,8 @@ use Rattle.acas_table.specs.declared.shape.TableShape.{TableShape}
 
 -- an entry has 17 bytes: its upper value, its lower value and its advice
 unfoldable pub entry_text : Entry → List ℕ
-entry_text e = little_bytes 8 (cast_unsigned w64 e.pair.upper) ++ little_bytes 8 (cast_unsigned w64 e.pair.lower) ++ e.advice ∷ []
+entry_text e =
+    little_bytes 8 (cast_unsigned w64 e.pair.upper) ++ little_bytes 8 (cast_unsigned w64 e.pair.lower) ++ e.advice ∷ []
 
 -- the entries of a layer, from its values and its advices
 abbrev pub layer_of : List Pair → List ℕ → List Entry
@@ -22,8 +23,8 @@ layer_of pairs advice = []
 abbrev pub layer_text : List Entry → List ℕ
 layer_text entries = flat_map entry_text entries
 
--- the header: four letters, the version, the digest of the model's text, and the numbers of altitudes, own rates, intruder
--- rates and advisories, and the horizon
+-- the header: four letters, the version, the digest of the model's text, and the numbers of altitudes, own rates,
+-- intruder rates and advisories, and the horizon
 unfoldable pub header : ℕ → List ℕ → TableShape → List ℕ
 header version digest s =
     codes "ACXT" ++ little_bytes 4 version ++ digest
@@ -34,7 +35,9 @@ header version digest s =
 abbrev pub chain : List ℕ → List (List Entry) → List ℕ
 chain before [] = []
 chain before (layer ∷ layers) =
-    layer_text layer ++ sha256 (before ++ layer_text layer) ++ chain (sha256 (before ++ layer_text layer)) layers
+    layer_text layer
+    ++ sha256 (before ++ layer_text layer)
+    ++ chain (sha256 (before ++ layer_text layer)) layers
 
 -- the last digest of a chain
 abbrev pub last_digest : List ℕ → List (List Entry) → List ℕ
@@ -62,8 +65,8 @@ abbrev pub text_behind : ℕ → List ℕ → List (List Entry) → List ℕ
 text_behind version head layers = front version head layers ++ ending version (base version head layers)
 
 -- the text of a table, from the digest of its model's text, its shape and its layers
-abbrev pub table_text : ℕ → List ℕ → TableShape → List (List Entry) → List ℕ
-table_text version digest s layers = text_behind version (header version digest s) layers
+abbrev pub version_text : ℕ → List ℕ → TableShape → List (List Entry) → List ℕ
+version_text version digest s layers = text_behind version (header version digest s) layers
 
 -- the bytes of one more layer
 abbrev pub layer_bytes : ℕ → List ℕ → List Entry → List ℕ
@@ -94,7 +97,10 @@ part bytes at n = take n (drop at bytes)
 -- the entry that 17 bytes are
 unfoldable pub entry_of : List ℕ → Entry
 entry_of field = record {
-  pair = record { upper = cast_signed w64 (little_number 8 (part field 0 8)); lower = cast_signed w64 (little_number 8 (part field 8 8)) };
+  pair = record {
+    upper = cast_signed w64 (little_number 8 (part field 0 8));
+    lower = cast_signed w64 (little_number 8 (part field 8 8));
+  };
   advice = slice_index field 16;
 }
 

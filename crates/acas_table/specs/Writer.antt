@@ -19,11 +19,23 @@ pub record WriterState : Type 0 where
   pub phase : Phase
 
 abbrev pub writer_state : TableWriter → WriterState
-writer_state w = record { version = w.version; shape = w.shape; head = w.head.items; given = w.given; phase = w.phase }
+writer_state w = record {
+  version = w.version;
+  shape = w.shape;
+  head = w.head.items;
+  given = w.given;
+  phase = w.phase;
+}
 
 -- a new writer of tables of a shape, for the model whose text has this digest
 abbrev pub new_writer : ℕ → List ℕ → TableShape → WriterState
-new_writer version digest s = record { version = version; shape = s; head = header version digest s; given = 0; phase = New }
+new_writer version digest s = record {
+  version = version;
+  shape = s;
+  head = header version digest s;
+  given = 0;
+  phase = New;
+}
 
 -- the writer was given these layers, and its digest is over what it is to be over behind them
 pub record HasWritten (w : TableWriter) (layers : List (List Entry)) : Type 0 where

@@ -1,11 +1,11 @@
 //! The fields behind a table's header.
 ghost use Rattle.std.specs.Prelude.{◌≡◌, ◌≤◌, ◌<◌, ◌+◌, ◌*◌, ◌==◌, nat_lt, if◌then◌else◌, List, None, ⊤, IsTrue, IsErrOf, OnOk};
-ghost use Rattle.acas_outside.specs.Counts.{Rose};
 ghost use Rattle.acas_outside.specs.Files.{Given};
+ghost use Rattle.acas_outside.specs.Frame.{OnlyReads};
 ghost use Rattle.acas_table.specs.Shape.{IsShape, entry_count};
 ghost use Rattle.acas_table.specs.Text.{length_1, entry_of, entry_at};
 ghost use Rattle.acas_table.specs.Faults.{entry_fault, digest_fault, kept_fault, tail_fault};
-ghost use Rattle.acas_table.specs.Source.{IsAtFile, Checks, Finds, Steps};
+ghost use Rattle.acas_table.specs.Source.{IsAtFile, Checks, Finds, Steps, TakesMore, bytes_taken};
 
 use crate::fault::TableFault;
 use crate::shape::TableShape;
@@ -29,18 +29,16 @@ pub fn read_entry<F: Folder>(
     requires place { source.old.place ≡ 60 + 17 * index }
     requires limit { source.old.limit ≡ length_1 shape.now + 1 }
     requires expected { source.old.expected ≡ length_1 shape.now }
-    ensures given { Given (F.holds folder.old) name.now (λ file. IsAtFile source.old file → Checks (λ bytes. entry_fault shape.now bytes index) (λ entry bytes. entry ≡ entry_at bytes index) file source.new result) }
+    ensures given { Given (F.holds folder.old) name.now (λ file. IsAtFile source.old file →
+        Checks (λ bytes. entry_fault shape.now bytes index) (λ entry bytes. entry ≡ entry_at bytes index)
+        file source.new result) }
     ensures steps { OnOk result (Steps source.old source.new 17) }
-    ensures limit { source.new.limit ≡ source.old.limit }
-    ensures expected { source.new.expected ≡ source.old.expected }
     ensures memory { IsErrOf result TableFault.Memory → ⊥ }
-    ensures holds { F.holds folder.new ≡ F.holds folder.old }
-    ensures serves { F.serves folder.new ≡ F.serves folder.old }
-    ensures failed { IsErrOf result TableFault.Failed → Rose (F.faults folder.old) (F.faults folder.new) }
-    ensures absent { IsErrOf result TableFault.Absent → Rose (F.misses folder.old) (F.misses folder.new) }
-    ensures not_held { IsErrOf result TableFault.Absent → Given (F.holds folder.old) name.now (λ file. file ≡ None) }
-    ensures faults { F.faults folder.old ≤ F.faults folder.new }
-    ensures misses { F.misses folder.old ≤ F.misses folder.new }
+    ensures not_held { IsErrOf result TableFault.Absent →
+        Given (F.holds folder.old) name.now (λ file. file ≡ None) }
+    ensures taken { TakesMore F.Folder folder.old folder.new source.old source.new }
+    ensures frame { OnlyReads F.Folder folder.old folder.new
+        (IsErrOf result TableFault.Failed) (IsErrOf result TableFault.Absent) }
 {
     let field: [u8; 17] = source.field(folder, name)?;
     let entry = decode(&field);
@@ -56,7 +54,8 @@ pub fn read_entry<F: Folder>(
 
 // Whether an entry may have such an advice.
 fn is_advice(shape: &TableShape, index: u32, byte: u8) -> bool
-    ensures { result ≡ (if nat_lt index shape.now.states then byte == 255 else nat_lt byte shape.now.advisories) }
+    ensures { result ≡ (if nat_lt index shape.now.states
+        then byte == 255 else nat_lt byte shape.now.advisories) }
 {
     if index < shape.states {
         byte == 255
@@ -91,17 +90,15 @@ pub fn read_end<F: Folder>(
     requires mark { source.old.mark ≡ 0 }
     requires limit { source.old.limit ≡ length_1 shape.now + 1 }
     requires expected { source.old.expected ≡ length_1 shape.now }
-    ensures given { Given (F.holds folder.old) name.now (λ file. IsAtFile source.old file → Finds (tail_fault shape.now) file result) }
-    ensures limit { source.new.limit ≡ source.old.limit }
-    ensures expected { source.new.expected ≡ source.old.expected }
+    ensures given { Given (F.holds folder.old) name.now (λ file. IsAtFile source.old file →
+        Finds (tail_fault shape.now) file result) }
+    ensures all { OnOk result (bytes_taken source.new ≡ length_1 shape.now) }
     ensures memory { IsErrOf result TableFault.Memory → ⊥ }
-    ensures holds { F.holds folder.new ≡ F.holds folder.old }
-    ensures serves { F.serves folder.new ≡ F.serves folder.old }
-    ensures failed { IsErrOf result TableFault.Failed → Rose (F.faults folder.old) (F.faults folder.new) }
-    ensures absent { IsErrOf result TableFault.Absent → Rose (F.misses folder.old) (F.misses folder.new) }
-    ensures not_held { IsErrOf result TableFault.Absent → Given (F.holds folder.old) name.now (λ file. file ≡ None) }
-    ensures faults { F.faults folder.old ≤ F.faults folder.new }
-    ensures misses { F.misses folder.old ≤ F.misses folder.new }
+    ensures not_held { IsErrOf result TableFault.Absent →
+        Given (F.holds folder.old) name.now (λ file. file ≡ None) }
+    ensures taken { TakesMore F.Folder folder.old folder.new source.old source.new }
+    ensures frame { OnlyReads F.Folder folder.old folder.new
+        (IsErrOf result TableFault.Failed) (IsErrOf result TableFault.Absent) }
 {
     check_digest(source, shape, folder, name)?;
     source.ends(folder, name)
@@ -118,18 +115,15 @@ fn check_digest<F: Folder>(
     requires mark { source.old.mark ≡ 0 }
     requires limit { source.old.limit ≡ length_1 shape.now + 1 }
     requires expected { source.old.expected ≡ length_1 shape.now }
-    ensures given { Given (F.holds folder.old) name.now (λ file. IsAtFile source.old file → Checks (digest_fault shape.now) (λ _ _. ⊤) file source.new result) }
+    ensures given { Given (F.holds folder.old) name.now (λ file. IsAtFile source.old file →
+        Checks (digest_fault shape.now) (λ _ _. ⊤) file source.new result) }
     ensures steps { OnOk result (source.new.place ≡ source.old.place + 32) }
-    ensures limit { source.new.limit ≡ source.old.limit }
-    ensures expected { source.new.expected ≡ source.old.expected }
     ensures memory { IsErrOf result TableFault.Memory → ⊥ }
-    ensures holds { F.holds folder.new ≡ F.holds folder.old }
-    ensures serves { F.serves folder.new ≡ F.serves folder.old }
-    ensures failed { IsErrOf result TableFault.Failed → Rose (F.faults folder.old) (F.faults folder.new) }
-    ensures absent { IsErrOf result TableFault.Absent → Rose (F.misses folder.old) (F.misses folder.new) }
-    ensures not_held { IsErrOf result TableFault.Absent → Given (F.holds folder.old) name.now (λ file. file ≡ None) }
-    ensures faults { F.faults folder.old ≤ F.faults folder.new }
-    ensures misses { F.misses folder.old ≤ F.misses folder.new }
+    ensures not_held { IsErrOf result TableFault.Absent →
+        Given (F.holds folder.old) name.now (λ file. file ≡ None) }
+    ensures taken { TakesMore F.Folder folder.old folder.new source.old source.new }
+    ensures frame { OnlyReads F.Folder folder.old folder.new
+        (IsErrOf result TableFault.Failed) (IsErrOf result TableFault.Absent) }
 {
     let computed = source.digest();
     check_kept(source, shape, &computed, folder, name)
@@ -147,18 +141,15 @@ fn check_kept<F: Folder>(
     requires place { source.old.place ≡ 60 + 17 * entry_count shape.now }
     requires limit { source.old.limit ≡ length_1 shape.now + 1 }
     requires expected { source.old.expected ≡ length_1 shape.now }
-    ensures given { Given (F.holds folder.old) name.now (λ file. IsAtFile source.old file → Checks (kept_fault shape.now computed.now) (λ _ _. ⊤) file source.new result) }
+    ensures given { Given (F.holds folder.old) name.now (λ file. IsAtFile source.old file →
+        Checks (kept_fault shape.now computed.now) (λ _ _. ⊤) file source.new result) }
     ensures steps { OnOk result (source.new.place ≡ source.old.place + 32) }
-    ensures limit { source.new.limit ≡ source.old.limit }
-    ensures expected { source.new.expected ≡ source.old.expected }
     ensures memory { IsErrOf result TableFault.Memory → ⊥ }
-    ensures holds { F.holds folder.new ≡ F.holds folder.old }
-    ensures serves { F.serves folder.new ≡ F.serves folder.old }
-    ensures failed { IsErrOf result TableFault.Failed → Rose (F.faults folder.old) (F.faults folder.new) }
-    ensures absent { IsErrOf result TableFault.Absent → Rose (F.misses folder.old) (F.misses folder.new) }
-    ensures not_held { IsErrOf result TableFault.Absent → Given (F.holds folder.old) name.now (λ file. file ≡ None) }
-    ensures faults { F.faults folder.old ≤ F.faults folder.new }
-    ensures misses { F.misses folder.old ≤ F.misses folder.new }
+    ensures not_held { IsErrOf result TableFault.Absent →
+        Given (F.holds folder.old) name.now (λ file. file ≡ None) }
+    ensures taken { TakesMore F.Folder folder.old folder.new source.old source.new }
+    ensures frame { OnlyReads F.Folder folder.old folder.new
+        (IsErrOf result TableFault.Failed) (IsErrOf result TableFault.Absent) }
 {
     let kept: [u8; 32] = source.field(folder, name)?;
     if kept.as_slice() != computed.as_slice() {

@@ -20,8 +20,8 @@ pub enum TableFault {
         kept: u32,
         expected: u32,
     },
-    /// The file ends inside a field, and has `found` bytes, or it does not end behind the digest, and then `found` is one more
-    /// than `expected`, the length of the model's tables.
+    /// The file ends inside a field, and has `found` bytes, or it does not end behind the digest, and then `found` is one
+    /// more than `expected`, the length of the model's tables.
     Length {
         expected: u64,
         found: u64,

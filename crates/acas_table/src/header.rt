@@ -1,10 +1,10 @@
 //! The fields of a table's header.
-ghost use Rattle.std.specs.Prelude.{◌≡◌, ◌≤◌, ◌<◌, ◌+◌, ◌*◌, List, ℕ, IsTrue, IsErrOf, OnOk, ⊤};
-ghost use Rattle.acas_outside.specs.Counts.{Rose};
+ghost use Rattle.std.specs.Prelude.{◌≡◌, ◌≤◌, ◌<◌, ◌+◌, ◌*◌, IsTrue, IsErrOf, OnOk, ⊤};
 ghost use Rattle.acas_outside.specs.Files.{Given};
-ghost use Rattle.acas_table.specs.Faults.{magic_fault, version_fault, model_fault, shape_fault, front_fault, axes_fault, counts_fault, header_fault};
+ghost use Rattle.acas_outside.specs.Frame.{OnlyReads};
+ghost use Rattle.acas_table.specs.Faults.{magic_fault, version_fault, other_model_fault, shape_fault, front_fault, axes_fault, counts_fault, header_fault};
 ghost use Rattle.acas_table.specs.Text.{length_1};
-ghost use Rattle.acas_table.specs.Source.{IsAtFile, Checks, Steps};
+ghost use Rattle.acas_table.specs.Source.{IsAtFile, Checks, Steps, TakesMore};
 
 use crate::fault::TableFault;
 use crate::shape::TableShape;
@@ -24,15 +24,13 @@ pub fn check_header<F: Folder>(
     requires place { source.old.place ≡ 0 }
     requires limit { 60 ≤ source.old.limit }
     requires expected { source.old.expected ≡ length_1 shape.now }
-    ensures given { Given (F.holds folder.old) name.now (λ file. IsAtFile source.old file → Checks (header_fault digest.now shape.now) (λ _ _. ⊤) file source.new result) }
+    ensures given { Given (F.holds folder.old) name.now (λ file. IsAtFile source.old file →
+        Checks (header_fault digest.now shape.now) (λ _ _. ⊤) file source.new result) }
     ensures steps { OnOk result (Steps source.old source.new 60) }
     ensures memory { IsErrOf result TableFault.Memory → ⊥ }
-    ensures holds { F.holds folder.new ≡ F.holds folder.old }
-    ensures serves { F.serves folder.new ≡ F.serves folder.old }
-    ensures failed { IsErrOf result TableFault.Failed → Rose (F.faults folder.old) (F.faults folder.new) }
-    ensures absent { IsErrOf result TableFault.Absent → Rose (F.misses folder.old) (F.misses folder.new) }
-    ensures faults { F.faults folder.old ≤ F.faults folder.new }
-    ensures misses { F.misses folder.old ≤ F.misses folder.new }
+    ensures taken { TakesMore F.Folder folder.old folder.new source.old source.new }
+    ensures frame { OnlyReads F.Folder folder.old folder.new
+        (IsErrOf result TableFault.Failed) (IsErrOf result TableFault.Absent) }
 {
     check_front(source, shape, digest, folder, name)?;
     check_axes(source, shape, folder, name)?;
@@ -52,15 +50,13 @@ fn check_front<F: Folder>(
     requires place { source.old.place ≡ 0 }
     requires limit { 60 ≤ source.old.limit }
     requires expected { source.old.expected ≡ length_1 shape.now }
-    ensures given { Given (F.holds folder.old) name.now (λ file. IsAtFile source.old file → Checks (front_fault digest.now shape.now) (λ _ _. ⊤) file source.new result) }
+    ensures given { Given (F.holds folder.old) name.now (λ file. IsAtFile source.old file →
+        Checks (front_fault digest.now shape.now) (λ _ _. ⊤) file source.new result) }
     ensures steps { OnOk result (Steps source.old source.new 40) }
     ensures memory { IsErrOf result TableFault.Memory → ⊥ }
-    ensures holds { F.holds folder.new ≡ F.holds folder.old }
-    ensures serves { F.serves folder.new ≡ F.serves folder.old }
-    ensures failed { IsErrOf result TableFault.Failed → Rose (F.faults folder.old) (F.faults folder.new) }
-    ensures absent { IsErrOf result TableFault.Absent → Rose (F.misses folder.old) (F.misses folder.new) }
-    ensures faults { F.faults folder.old ≤ F.faults folder.new }
-    ensures misses { F.misses folder.old ≤ F.misses folder.new }
+    ensures taken { TakesMore F.Folder folder.old folder.new source.old source.new }
+    ensures frame { OnlyReads F.Folder folder.old folder.new
+        (IsErrOf result TableFault.Failed) (IsErrOf result TableFault.Absent) }
 {
     check_magic(source, folder, name)?;
     check_version(source, folder, name)?;
@@ -79,15 +75,13 @@ fn check_axes<F: Folder>(
     requires place { source.old.place ≡ 40 }
     requires limit { 60 ≤ source.old.limit }
     requires expected { source.old.expected ≡ length_1 shape.now }
-    ensures given { Given (F.holds folder.old) name.now (λ file. IsAtFile source.old file → Checks (axes_fault shape.now) (λ _ _. ⊤) file source.new result) }
+    ensures given { Given (F.holds folder.old) name.now (λ file. IsAtFile source.old file →
+        Checks (axes_fault shape.now) (λ _ _. ⊤) file source.new result) }
     ensures steps { OnOk result (Steps source.old source.new 12) }
     ensures memory { IsErrOf result TableFault.Memory → ⊥ }
-    ensures holds { F.holds folder.new ≡ F.holds folder.old }
-    ensures serves { F.serves folder.new ≡ F.serves folder.old }
-    ensures failed { IsErrOf result TableFault.Failed → Rose (F.faults folder.old) (F.faults folder.new) }
-    ensures absent { IsErrOf result TableFault.Absent → Rose (F.misses folder.old) (F.misses folder.new) }
-    ensures faults { F.faults folder.old ≤ F.faults folder.new }
-    ensures misses { F.misses folder.old ≤ F.misses folder.new }
+    ensures taken { TakesMore F.Folder folder.old folder.new source.old source.new }
+    ensures frame { OnlyReads F.Folder folder.old folder.new
+        (IsErrOf result TableFault.Failed) (IsErrOf result TableFault.Absent) }
 {
     check_number(source, 0, shape.altitudes, folder, name)?;
     check_number(source, 1, shape.own_rates, folder, name)?;
@@ -106,15 +100,13 @@ fn check_counts<F: Folder>(
     requires place { source.old.place ≡ 52 }
     requires limit { 60 ≤ source.old.limit }
     requires expected { source.old.expected ≡ length_1 shape.now }
-    ensures given { Given (F.holds folder.old) name.now (λ file. IsAtFile source.old file → Checks (counts_fault shape.now) (λ _ _. ⊤) file source.new result) }
+    ensures given { Given (F.holds folder.old) name.now (λ file. IsAtFile source.old file →
+        Checks (counts_fault shape.now) (λ _ _. ⊤) file source.new result) }
     ensures steps { OnOk result (Steps source.old source.new 8) }
     ensures memory { IsErrOf result TableFault.Memory → ⊥ }
-    ensures holds { F.holds folder.new ≡ F.holds folder.old }
-    ensures serves { F.serves folder.new ≡ F.serves folder.old }
-    ensures failed { IsErrOf result TableFault.Failed → Rose (F.faults folder.old) (F.faults folder.new) }
-    ensures absent { IsErrOf result TableFault.Absent → Rose (F.misses folder.old) (F.misses folder.new) }
-    ensures faults { F.faults folder.old ≤ F.faults folder.new }
-    ensures misses { F.misses folder.old ≤ F.misses folder.new }
+    ensures taken { TakesMore F.Folder folder.old folder.new source.old source.new }
+    ensures frame { OnlyReads F.Folder folder.old folder.new
+        (IsErrOf result TableFault.Failed) (IsErrOf result TableFault.Absent) }
 {
     check_number(source, 3, shape.advisories, folder, name)?;
     check_number(source, 4, shape.horizon, folder, name)?;
@@ -125,15 +117,13 @@ fn check_magic<F: Folder>(source: &mut Source, folder: &mut F, name: &str) -> Re
     requires served { IsTrue (F.serves folder.old name.now) }
     requires place { source.old.place ≡ 0 }
     requires limit { 60 ≤ source.old.limit }
-    ensures given { Given (F.holds folder.old) name.now (λ file. IsAtFile source.old file → Checks (magic_fault source.old.expected) (λ _ _. ⊤) file source.new result) }
+    ensures given { Given (F.holds folder.old) name.now (λ file. IsAtFile source.old file →
+        Checks (magic_fault source.old.expected) (λ _ _. ⊤) file source.new result) }
     ensures steps { OnOk result (Steps source.old source.new 4) }
     ensures memory { IsErrOf result TableFault.Memory → ⊥ }
-    ensures holds { F.holds folder.new ≡ F.holds folder.old }
-    ensures serves { F.serves folder.new ≡ F.serves folder.old }
-    ensures failed { IsErrOf result TableFault.Failed → Rose (F.faults folder.old) (F.faults folder.new) }
-    ensures absent { IsErrOf result TableFault.Absent → Rose (F.misses folder.old) (F.misses folder.new) }
-    ensures faults { F.faults folder.old ≤ F.faults folder.new }
-    ensures misses { F.misses folder.old ≤ F.misses folder.new }
+    ensures taken { TakesMore F.Folder folder.old folder.new source.old source.new }
+    ensures frame { OnlyReads F.Folder folder.old folder.new
+        (IsErrOf result TableFault.Failed) (IsErrOf result TableFault.Absent) }
 {
     let magic: [u8; 4] = source.field(folder, name)?;
     if magic.as_slice() != b"ACXT".as_slice() {
@@ -150,15 +140,13 @@ fn check_version<F: Folder>(
     requires served { IsTrue (F.serves folder.old name.now) }
     requires place { source.old.place ≡ 4 }
     requires limit { 60 ≤ source.old.limit }
-    ensures given { Given (F.holds folder.old) name.now (λ file. IsAtFile source.old file → Checks (version_fault source.old.expected) (λ _ _. ⊤) file source.new result) }
+    ensures given { Given (F.holds folder.old) name.now (λ file. IsAtFile source.old file →
+        Checks (version_fault source.old.expected) (λ _ _. ⊤) file source.new result) }
     ensures steps { OnOk result (Steps source.old source.new 4) }
     ensures memory { IsErrOf result TableFault.Memory → ⊥ }
-    ensures holds { F.holds folder.new ≡ F.holds folder.old }
-    ensures serves { F.serves folder.new ≡ F.serves folder.old }
-    ensures failed { IsErrOf result TableFault.Failed → Rose (F.faults folder.old) (F.faults folder.new) }
-    ensures absent { IsErrOf result TableFault.Absent → Rose (F.misses folder.old) (F.misses folder.new) }
-    ensures faults { F.faults folder.old ≤ F.faults folder.new }
-    ensures misses { F.misses folder.old ≤ F.misses folder.new }
+    ensures taken { TakesMore F.Folder folder.old folder.new source.old source.new }
+    ensures frame { OnlyReads F.Folder folder.old folder.new
+        (IsErrOf result TableFault.Failed) (IsErrOf result TableFault.Absent) }
 {
     let field: [u8; 4] = source.field(folder, name)?;
     let found = LittleEndian::read_u32(&field);
@@ -177,15 +165,13 @@ fn check_model<F: Folder>(
     requires served { IsTrue (F.serves folder.old name.now) }
     requires place { source.old.place ≡ 8 }
     requires limit { 60 ≤ source.old.limit }
-    ensures given { Given (F.holds folder.old) name.now (λ file. IsAtFile source.old file → Checks (model_fault source.old.expected digest.now) (λ _ _. ⊤) file source.new result) }
+    ensures given { Given (F.holds folder.old) name.now (λ file. IsAtFile source.old file →
+        Checks (other_model_fault source.old.expected digest.now) (λ _ _. ⊤) file source.new result) }
     ensures steps { OnOk result (Steps source.old source.new 32) }
     ensures memory { IsErrOf result TableFault.Memory → ⊥ }
-    ensures holds { F.holds folder.new ≡ F.holds folder.old }
-    ensures serves { F.serves folder.new ≡ F.serves folder.old }
-    ensures failed { IsErrOf result TableFault.Failed → Rose (F.faults folder.old) (F.faults folder.new) }
-    ensures absent { IsErrOf result TableFault.Absent → Rose (F.misses folder.old) (F.misses folder.new) }
-    ensures faults { F.faults folder.old ≤ F.faults folder.new }
-    ensures misses { F.misses folder.old ≤ F.misses folder.new }
+    ensures taken { TakesMore F.Folder folder.old folder.new source.old source.new }
+    ensures frame { OnlyReads F.Folder folder.old folder.new
+        (IsErrOf result TableFault.Failed) (IsErrOf result TableFault.Absent) }
 {
     let kept: [u8; 32] = source.field(folder, name)?;
     if kept.as_slice() != digest.as_slice() {
@@ -208,15 +194,13 @@ fn check_number<F: Folder>(
     requires five { place < 5 }
     requires place { source.old.place ≡ 40 + 4 * place }
     requires limit { 60 ≤ source.old.limit }
-    ensures given { Given (F.holds folder.old) name.now (λ file. IsAtFile source.old file → Checks (shape_fault source.old.expected place expected) (λ _ _. ⊤) file source.new result) }
+    ensures given { Given (F.holds folder.old) name.now (λ file. IsAtFile source.old file →
+        Checks (shape_fault source.old.expected place expected) (λ _ _. ⊤) file source.new result) }
     ensures steps { OnOk result (Steps source.old source.new 4) }
     ensures memory { IsErrOf result TableFault.Memory → ⊥ }
-    ensures holds { F.holds folder.new ≡ F.holds folder.old }
-    ensures serves { F.serves folder.new ≡ F.serves folder.old }
-    ensures failed { IsErrOf result TableFault.Failed → Rose (F.faults folder.old) (F.faults folder.new) }
-    ensures absent { IsErrOf result TableFault.Absent → Rose (F.misses folder.old) (F.misses folder.new) }
-    ensures faults { F.faults folder.old ≤ F.faults folder.new }
-    ensures misses { F.misses folder.old ≤ F.misses folder.new }
+    ensures taken { TakesMore F.Folder folder.old folder.new source.old source.new }
+    ensures frame { OnlyReads F.Folder folder.old folder.new
+        (IsErrOf result TableFault.Failed) (IsErrOf result TableFault.Absent) }
 {
     let field: [u8; 4] = source.field(folder, name)?;
     let kept = LittleEndian::read_u32(&field);

@@ -11,8 +11,6 @@ mod pieces;
 mod reader;
 mod shape;
 mod source;
-#[cfg(test)]
-mod tests;
 mod writer;
 
 pub use fault::TableFault;

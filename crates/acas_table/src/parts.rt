@@ -1,13 +1,13 @@
 //! The parts of a table behind its header, in either version.
-ghost use Rattle.std.specs.Prelude.{◌≡◌, ◌≤◌, List, ℕ, OnOk, OnErr, IsSome, IsTrue, length};
-ghost use Rattle.acas_outside.specs.Counts.{Rose};
+ghost use Rattle.std.specs.Prelude.{◌≡◌, ◌≤◌, List, ℕ, OnOk, OnErr, IsErr, IsSome, IsTrue, length};
 ghost use Rattle.acas_outside.specs.Files.{Given, Grows, GrowsPart};
+ghost use Rattle.acas_outside.specs.Frame.{OnlyWrites};
 ghost use Rattle.acas_table.specs.Text.{layer_of, layer_bytes, next_base, ending};
 ghost use Rattle.acas_table.specs.Pieces.{Holds};
 
 use crate::pieces::Pieces;
 use acas_outside::{Failed, Folder};
-use acas_units::Pair;
+use acas_units::{GREATEST_ENTRIES, Pair};
 
 /// Appends a layer, and in version 2 its digest.
 pub fn append_layer<F: Folder>(
@@ -21,14 +21,16 @@ pub fn append_layer<F: Folder>(
     requires served { IsTrue (F.serves folder.old name.now) }
     requires held { Given (F.holds folder.old) name.now (λ file. IsSome file) }
     requires long { length advice.now ≡ length pairs.now }
-    requires bound { length pairs.now ≤ 4000000 }
-    ensures ok { (m : List ℕ) → Holds pieces.old m → OnOk result (Grows (F.holds folder.old) (F.holds folder.new) name.now (layer_bytes version m (layer_of pairs.now advice.now))) }
-    ensures err { (m : List ℕ) → Holds pieces.old m → OnErr result (GrowsPart (F.holds folder.old) (F.holds folder.new) name.now (layer_bytes version m (layer_of pairs.now advice.now))) }
-    ensures hashed { (m : List ℕ) → Holds pieces.old m → OnOk result (Holds pieces.new (next_base version m (layer_of pairs.now advice.now))) }
-    ensures failed { OnErr result (Rose (F.faults folder.old) (F.faults folder.new)) }
-    ensures serves { F.serves folder.new ≡ F.serves folder.old }
-    ensures faults { F.faults folder.old ≤ F.faults folder.new }
-    ensures misses { F.misses folder.old ≤ F.misses folder.new }
+    requires bound { length pairs.now ≤ GREATEST_ENTRIES }
+    ensures ok { (m : List ℕ) → Holds pieces.old m → OnOk result
+        (Grows (F.holds folder.old) (F.holds folder.new) name.now
+        (layer_bytes version m (layer_of pairs.now advice.now))) }
+    ensures err { (m : List ℕ) → Holds pieces.old m → OnErr result
+        (GrowsPart (F.holds folder.old) (F.holds folder.new) name.now
+        (layer_bytes version m (layer_of pairs.now advice.now))) }
+    ensures hashed { (m : List ℕ) → Holds pieces.old m →
+        OnOk result (Holds pieces.new (next_base version m (layer_of pairs.now advice.now))) }
+    ensures frame { OnlyWrites F.Folder folder.old folder.new (IsErr result) }
 {
     pieces.layer(folder, name, pairs, advice)?;
     if version == 1 {
@@ -46,12 +48,11 @@ pub fn append_ending<F: Folder>(
 ) -> Result<(), Failed>
     requires served { IsTrue (F.serves folder.old name.now) }
     requires held { Given (F.holds folder.old) name.now (λ file. IsSome file) }
-    ensures ok { (m : List ℕ) → Holds pieces.old m → OnOk result (Grows (F.holds folder.old) (F.holds folder.new) name.now (ending version m)) }
-    ensures err { (m : List ℕ) → Holds pieces.old m → OnErr result (GrowsPart (F.holds folder.old) (F.holds folder.new) name.now (ending version m)) }
-    ensures failed { OnErr result (Rose (F.faults folder.old) (F.faults folder.new)) }
-    ensures serves { F.serves folder.new ≡ F.serves folder.old }
-    ensures faults { F.faults folder.old ≤ F.faults folder.new }
-    ensures misses { F.misses folder.old ≤ F.misses folder.new }
+    ensures ok { (m : List ℕ) → Holds pieces.old m →
+        OnOk result (Grows (F.holds folder.old) (F.holds folder.new) name.now (ending version m)) }
+    ensures err { (m : List ℕ) → Holds pieces.old m →
+        OnErr result (GrowsPart (F.holds folder.old) (F.holds folder.new) name.now (ending version m)) }
+    ensures frame { OnlyWrites F.Folder folder.old folder.new (IsErr result) }
 {
     if version == 1 {
         return pieces.digest(folder, name);

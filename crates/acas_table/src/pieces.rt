@@ -3,7 +3,7 @@ ghost use Rattle.std.specs.Prelude.{◌≡◌, length, IfOk};
 
 use crate::encoding::encode_entries;
 use acas_outside::{Failed, Folder, write_piece};
-use acas_units::Pair;
+use acas_units::{GREATEST_ENTRIES, Pair};
 use sha2::{Digest, Sha256};
 use std::alloc::{AllocError, Global};
 
@@ -22,10 +22,10 @@ pub struct Pieces {
 }
 
 impl Pieces {
-    ghost use Rattle.std.specs.Prelude.{◌≡◌, ◌≤◌, ◌++◌, List, ℕ, IfOk, OnOk, OnErr, IsSome, IsTrue, length};
+    ghost use Rattle.std.specs.Prelude.{◌≡◌, ◌≤◌, ◌++◌, List, ℕ, IfOk, OnOk, OnErr, IsErr, IsSome, IsTrue, length};
     ghost use Rattle.sha2.specs.Sha256.{sha256};
-    ghost use Rattle.acas_outside.specs.Counts.{Rose};
     ghost use Rattle.acas_outside.specs.Files.{Given, Grows, GrowsPart};
+    ghost use Rattle.acas_outside.specs.Frame.{OnlyWrites};
     ghost use Rattle.acas_table.specs.Pieces.{Holds};
     ghost use Rattle.acas_table.specs.Text.{layer_text, layer_of};
 
@@ -48,10 +48,7 @@ impl Pieces {
         ensures hashed { (m : List ℕ) → Holds self.old m → OnOk result (Holds self.new (m ++ bytes.now)) }
         ensures ok { OnOk result (Grows (F.holds folder.old) (F.holds folder.new) name.now bytes.now) }
         ensures err { OnErr result (GrowsPart (F.holds folder.old) (F.holds folder.new) name.now bytes.now) }
-        ensures failed { OnErr result (Rose (F.faults folder.old) (F.faults folder.new)) }
-        ensures serves { F.serves folder.new ≡ F.serves folder.old }
-        ensures faults { F.faults folder.old ≤ F.faults folder.new }
-        ensures misses { F.misses folder.old ≤ F.misses folder.new }
+        ensures frame { OnlyWrites F.Folder folder.old folder.new (IsErr result) }
     {
         self.hasher.update(bytes);
         write_piece(folder, name, bytes)
@@ -62,12 +59,11 @@ impl Pieces {
         requires served { IsTrue (F.serves folder.old name.now) }
         requires held { Given (F.holds folder.old) name.now (λ file. IsSome file) }
         ensures hashed { (m : List ℕ) → Holds self.old m → OnOk result (Holds self.new (sha256 m)) }
-        ensures ok { (m : List ℕ) → Holds self.old m → OnOk result (Grows (F.holds folder.old) (F.holds folder.new) name.now (sha256 m)) }
-        ensures err { (m : List ℕ) → Holds self.old m → OnErr result (GrowsPart (F.holds folder.old) (F.holds folder.new) name.now (sha256 m)) }
-        ensures failed { OnErr result (Rose (F.faults folder.old) (F.faults folder.new)) }
-        ensures serves { F.serves folder.new ≡ F.serves folder.old }
-        ensures faults { F.faults folder.old ≤ F.faults folder.new }
-        ensures misses { F.misses folder.old ≤ F.misses folder.new }
+        ensures ok { (m : List ℕ) → Holds self.old m →
+            OnOk result (Grows (F.holds folder.old) (F.holds folder.new) name.now (sha256 m)) }
+        ensures err { (m : List ℕ) → Holds self.old m →
+            OnErr result (GrowsPart (F.holds folder.old) (F.holds folder.new) name.now (sha256 m)) }
+        ensures frame { OnlyWrites F.Folder folder.old folder.new (IsErr result) }
     {
         let digest = self.hasher.finalize_reset();
         self.bytes(folder, name, &digest)
@@ -84,14 +80,14 @@ impl Pieces {
         requires served { IsTrue (F.serves folder.old name.now) }
         requires held { Given (F.holds folder.old) name.now (λ file. IsSome file) }
         requires long { length advice.now ≡ length pairs.now }
-        requires bound { length pairs.now ≤ 4000000 }
-        ensures hashed { (m : List ℕ) → Holds self.old m → OnOk result (Holds self.new (m ++ layer_text (layer_of pairs.now advice.now))) }
-        ensures ok { OnOk result (Grows (F.holds folder.old) (F.holds folder.new) name.now (layer_text (layer_of pairs.now advice.now))) }
-        ensures err { OnErr result (GrowsPart (F.holds folder.old) (F.holds folder.new) name.now (layer_text (layer_of pairs.now advice.now))) }
-        ensures failed { OnErr result (Rose (F.faults folder.old) (F.faults folder.new)) }
-        ensures serves { F.serves folder.new ≡ F.serves folder.old }
-        ensures faults { F.faults folder.old ≤ F.faults folder.new }
-        ensures misses { F.misses folder.old ≤ F.misses folder.new }
+        requires bound { length pairs.now ≤ GREATEST_ENTRIES }
+        ensures hashed { (m : List ℕ) → Holds self.old m →
+            OnOk result (Holds self.new (m ++ layer_text (layer_of pairs.now advice.now))) }
+        ensures ok { OnOk result (Grows (F.holds folder.old) (F.holds folder.new) name.now
+            (layer_text (layer_of pairs.now advice.now))) }
+        ensures err { OnErr result (GrowsPart (F.holds folder.old) (F.holds folder.new) name.now
+            (layer_text (layer_of pairs.now advice.now))) }
+        ensures frame { OnlyWrites F.Folder folder.old folder.new (IsErr result) }
     {
         let mut at = 0;
         while at < pairs.len() {
@@ -119,13 +115,13 @@ impl Pieces {
         requires held { Given (F.holds folder.old) name.now (λ file. IsSome file) }
         requires long { length advice.now ≡ length pairs.now }
         requires bound { length pairs.now ≤ 3855 }
-        ensures hashed { (m : List ℕ) → Holds self.old m → OnOk result (Holds self.new (m ++ layer_text (layer_of pairs.now advice.now))) }
-        ensures ok { OnOk result (Grows (F.holds folder.old) (F.holds folder.new) name.now (layer_text (layer_of pairs.now advice.now))) }
-        ensures err { OnErr result (GrowsPart (F.holds folder.old) (F.holds folder.new) name.now (layer_text (layer_of pairs.now advice.now))) }
-        ensures failed { OnErr result (Rose (F.faults folder.old) (F.faults folder.new)) }
-        ensures serves { F.serves folder.new ≡ F.serves folder.old }
-        ensures faults { F.faults folder.old ≤ F.faults folder.new }
-        ensures misses { F.misses folder.old ≤ F.misses folder.new }
+        ensures hashed { (m : List ℕ) → Holds self.old m →
+            OnOk result (Holds self.new (m ++ layer_text (layer_of pairs.now advice.now))) }
+        ensures ok { OnOk result (Grows (F.holds folder.old) (F.holds folder.new) name.now
+            (layer_text (layer_of pairs.now advice.now))) }
+        ensures err { OnErr result (GrowsPart (F.holds folder.old) (F.holds folder.new) name.now
+            (layer_text (layer_of pairs.now advice.now))) }
+        ensures frame { OnlyWrites F.Folder folder.old folder.new (IsErr result) }
     {
         encode_entries(&mut self.buffer, pairs, advice);
         let bytes = &self.buffer[..17 * pairs.len()];

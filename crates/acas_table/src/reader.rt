@@ -9,12 +9,16 @@ use crate::fault::TableFault;
 use crate::header::check_header;
 use crate::shape::TableShape;
 use crate::source::Source;
-use acas_model::Model;
+use acas_base::Model;
 use acas_outside::Folder;
 use acas_units::Entry;
 use std::alloc::Global;
 
 /// A table of version 1, as it is read entry by entry.
+///
+/// It counts the bytes that it takes of its file, from 0 on. Over every folder each call raises the folder's count by
+/// just as much as its own. Its own is at most one more than the table's length, and just that length where `finish`
+/// answers `Ok`: no byte is read twice.
 #[derive(Drop)]
 pub struct TableReader {
     shape: TableShape,
@@ -31,12 +35,14 @@ pub struct TableReader {
 }
 
 impl TableReader {
-    ghost use Rattle.std.specs.Prelude.{◌≡◌, ◌≤◌, ◌<◌, ◌+◌, List, ℕ, None, Err, false, is_ok, IsTrue, IsErrOf, IfOk, OnOk, OnErr, IfSome, Option};
-    ghost use Rattle.acas_outside.specs.Counts.{Rose};
+    ghost use Rattle.std.specs.Prelude.{◌≡◌, ◌≤◌, ◌<◌, ◌+◌, List, ℕ, None, Err, false, is_ok, IsTrue, IsErrOf, IfOk, OnOk, OnErr, IfSome};
+    ghost use Rattle.acas_outside.specs.Counts.{raised};
     ghost use Rattle.acas_outside.specs.Files.{Given};
+    ghost use Rattle.acas_outside.specs.Frame.{OnlyReads};
     ghost use Rattle.acas_table.specs.Shape.{entry_count, shape_of};
     ghost use Rattle.acas_table.specs.Text.{length_1};
-    ghost use Rattle.acas_table.specs.Reader.{reader_state, HasRead, Starts, GivesEntry, Finishes, kept};
+    ghost use Rattle.acas_table.specs.Source.{Takes};
+    ghost use Rattle.acas_table.specs.Reader.{reader_state, IsNew, HasRead, Told, Starts, GivesEntry, Finishes, FindsNow, kept};
 
     /// Reads the header of a table for a model, whose text has this digest.
     pub fn start<F: Folder>(
@@ -47,15 +53,15 @@ impl TableReader {
         name: &str,
     ) -> Result<TableReader, TableFault>
         requires served { IsTrue (F.serves folder.old name.now) }
-        ensures given { Given (F.holds folder.old) name.now (λ file. Starts digest.now (shape_of model.now.grid) file result) }
-        ensures state { IfOk result (λ r. ((reader_state r).shape ≡ shape_of model.now.grid) × ((reader_state r).given ≡ 0) × ((reader_state r).fault ≡ None) × ((reader_state r).done ≡ false)) }
-        ensures taken { IfOk result (λ r. (reader_state r).taken ≤ length_1 (shape_of model.now.grid) + 1) }
-        ensures holds { F.holds folder.new ≡ F.holds folder.old }
-        ensures serves { F.serves folder.new ≡ F.serves folder.old }
-        ensures failed { IsErrOf result TableFault.Failed → Rose (F.faults folder.old) (F.faults folder.new) }
-        ensures absent { IsErrOf result TableFault.Absent → Rose (F.misses folder.old) (F.misses folder.new) }
-        ensures faults { F.faults folder.old ≤ F.faults folder.new }
-        ensures misses { F.misses folder.old ≤ F.misses folder.new }
+        ensures given { Given (F.holds folder.old) name.now (λ file.
+            Starts digest.now (shape_of model.now.grid) file result) }
+        ensures state { IfOk result (λ r. IsNew (shape_of model.now.grid) (reader_state r)) }
+        ensures taken { IfOk result (λ r. Takes F.Folder folder.old folder.new 0 (reader_state r).taken) }
+        ensures most { IfOk result (λ r. (reader_state r).taken ≤ length_1 (shape_of model.now.grid) + 1) }
+        ensures most_taken { let most = length_1 (shape_of model.now.grid) + 1 in
+            F.taken folder.new ≤ raised (F.taken folder.old) most }
+        ensures frame { OnlyReads F.Folder folder.old folder.new
+            (IsErrOf result TableFault.Failed) (IsErrOf result TableFault.Absent) }
     {
         TableReader::of_shape(alloc, TableShape::of(model), digest, folder, name)
     }
@@ -71,14 +77,12 @@ impl TableReader {
         requires limited { IsShape shape }
         requires served { IsTrue (F.serves folder.old name.now) }
         ensures given { Given (F.holds folder.old) name.now (λ file. Starts digest.now shape file result) }
-        ensures state { IfOk result (λ r. ((reader_state r).shape ≡ shape) × ((reader_state r).given ≡ 0) × ((reader_state r).fault ≡ None) × ((reader_state r).done ≡ false)) }
-        ensures taken { IfOk result (λ r. (reader_state r).taken ≤ length_1 shape + 1) }
-        ensures holds { F.holds folder.new ≡ F.holds folder.old }
-        ensures serves { F.serves folder.new ≡ F.serves folder.old }
-        ensures failed { IsErrOf result TableFault.Failed → Rose (F.faults folder.old) (F.faults folder.new) }
-        ensures absent { IsErrOf result TableFault.Absent → Rose (F.misses folder.old) (F.misses folder.new) }
-        ensures faults { F.faults folder.old ≤ F.faults folder.new }
-        ensures misses { F.misses folder.old ≤ F.misses folder.new }
+        ensures state { IfOk result (λ r. IsNew shape (reader_state r)) }
+        ensures taken { IfOk result (λ r. Takes F.Folder folder.old folder.new 0 (reader_state r).taken) }
+        ensures most { IfOk result (λ r. (reader_state r).taken ≤ length_1 shape + 1) }
+        ensures most_taken { F.taken folder.new ≤ raised (F.taken folder.old) (length_1 shape + 1) }
+        ensures frame { OnlyReads F.Folder folder.old folder.new
+            (IsErrOf result TableFault.Failed) (IsErrOf result TableFault.Absent) }
     {
         let Ok(mut source) = Source::new(alloc, shape.length()) else {
             return Err(TableFault::Memory);
@@ -100,23 +104,25 @@ impl TableReader {
         requires served { IsTrue (F.serves folder.old name.now) }
         requires more { (reader_state self.old).given < entry_count (reader_state self.old).shape }
         requires not_done { (reader_state self.old).done ≡ false }
-        ensures given { (digest : List ℕ) → Given (F.holds folder.old) name.now (λ file. IfSome file (λ bytes. HasRead digest self.old bytes → GivesEntry digest (reader_state self.old) bytes result)) }
-        ensures stands { (digest : List ℕ) → Given (F.holds folder.old) name.now (λ file. IfSome file (λ bytes. HasRead digest self.old bytes → OnOk result (HasRead digest self.new bytes))) }
+        ensures given { (digest : List ℕ) → Told (F.holds folder.old) name.now (λ bytes.
+            HasRead digest self.old bytes → GivesEntry digest (reader_state self.old) bytes result) }
+        ensures stands { (digest : List ℕ) → Told (F.holds folder.old) name.now (λ bytes.
+            HasRead digest self.old bytes → OnOk result (HasRead digest self.new bytes)) }
         ensures count { IfOk result (λ _. (reader_state self.new).given ≡ (reader_state self.old).given + 1) }
         ensures same_count { OnErr result ((reader_state self.new).given ≡ (reader_state self.old).given) }
         ensures done { (reader_state self.new).done ≡ false }
         ensures fault { (reader_state self.new).fault ≡ kept result }
         ensures again { IfSome (reader_state self.old).fault (λ fault. result ≡ Err fault) }
         ensures shape { (reader_state self.new).shape ≡ (reader_state self.old).shape }
-        ensures taken { (reader_state self.new).taken ≤ length_1 (reader_state self.new).shape + 1 }
-        ensures memory { (reader_state self.old).fault ≡ None → IsErrOf result TableFault.Memory → ⊥ }
-        ensures holds { F.holds folder.new ≡ F.holds folder.old }
-        ensures serves { F.serves folder.new ≡ F.serves folder.old }
-        ensures failed { (reader_state self.old).fault ≡ None → IsErrOf result TableFault.Failed → Rose (F.faults folder.old) (F.faults folder.new) }
-        ensures absent { (reader_state self.old).fault ≡ None → IsErrOf result TableFault.Absent → Rose (F.misses folder.old) (F.misses folder.new) }
-        ensures not_held { (reader_state self.old).fault ≡ None → IsErrOf result TableFault.Absent → Given (F.holds folder.old) name.now (λ file. file ≡ None) }
-        ensures faults { F.faults folder.old ≤ F.faults folder.new }
-        ensures misses { F.misses folder.old ≤ F.misses folder.new }
+        ensures taken { Takes F.Folder folder.old folder.new
+            (reader_state self.old).taken (reader_state self.new).taken }
+        ensures most { (reader_state self.new).taken ≤ length_1 (reader_state self.new).shape + 1 }
+        ensures memory { FindsNow (reader_state self.old) result TableFault.Memory → ⊥ }
+        ensures not_held { FindsNow (reader_state self.old) result TableFault.Absent →
+            Given (F.holds folder.old) name.now (λ file. file ≡ None) }
+        ensures frame { OnlyReads F.Folder folder.old folder.new
+            (FindsNow (reader_state self.old) result TableFault.Failed)
+            (FindsNow (reader_state self.old) result TableFault.Absent) }
     {
         if let Some(fault) = self.fault {
             return Err(fault);
@@ -138,21 +144,24 @@ impl TableReader {
         requires served { IsTrue (F.serves folder.old name.now) }
         requires all { (reader_state self.old).given ≡ entry_count (reader_state self.old).shape }
         requires not_done { (reader_state self.old).done ≡ false }
-        ensures given { (digest : List ℕ) → Given (F.holds folder.old) name.now (λ file. IfSome file (λ bytes. HasRead digest self.old bytes → Finishes digest (reader_state self.old).shape bytes result)) }
+        ensures given { (digest : List ℕ) → Told (F.holds folder.old) name.now (λ bytes.
+            HasRead digest self.old bytes → Finishes digest (reader_state self.old).shape bytes result) }
         ensures count { (reader_state self.new).given ≡ (reader_state self.old).given }
         ensures done { (reader_state self.new).done ≡ is_ok result }
         ensures fault { (reader_state self.new).fault ≡ kept result }
         ensures again { IfSome (reader_state self.old).fault (λ fault. result ≡ Err fault) }
         ensures shape { (reader_state self.new).shape ≡ (reader_state self.old).shape }
-        ensures taken { (reader_state self.new).taken ≤ length_1 (reader_state self.new).shape + 1 }
-        ensures memory { (reader_state self.old).fault ≡ None → IsErrOf result TableFault.Memory → ⊥ }
-        ensures holds { F.holds folder.new ≡ F.holds folder.old }
-        ensures serves { F.serves folder.new ≡ F.serves folder.old }
-        ensures failed { (reader_state self.old).fault ≡ None → IsErrOf result TableFault.Failed → Rose (F.faults folder.old) (F.faults folder.new) }
-        ensures absent { (reader_state self.old).fault ≡ None → IsErrOf result TableFault.Absent → Rose (F.misses folder.old) (F.misses folder.new) }
-        ensures not_held { (reader_state self.old).fault ≡ None → IsErrOf result TableFault.Absent → Given (F.holds folder.old) name.now (λ file. file ≡ None) }
-        ensures faults { F.faults folder.old ≤ F.faults folder.new }
-        ensures misses { F.misses folder.old ≤ F.misses folder.new }
+        ensures taken { Takes F.Folder folder.old folder.new
+            (reader_state self.old).taken (reader_state self.new).taken }
+        ensures all_taken { OnOk result
+            ((reader_state self.new).taken ≡ length_1 (reader_state self.new).shape) }
+        ensures most { (reader_state self.new).taken ≤ length_1 (reader_state self.new).shape + 1 }
+        ensures memory { FindsNow (reader_state self.old) result TableFault.Memory → ⊥ }
+        ensures not_held { FindsNow (reader_state self.old) result TableFault.Absent →
+            Given (F.holds folder.old) name.now (λ file. file ≡ None) }
+        ensures frame { OnlyReads F.Folder folder.old folder.new
+            (FindsNow (reader_state self.old) result TableFault.Failed)
+            (FindsNow (reader_state self.old) result TableFault.Absent) }
     {
         if let Some(fault) = self.fault {
             return Err(fault);

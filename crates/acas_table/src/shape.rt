@@ -1,6 +1,6 @@
 //! What a table takes from the grid of its model.
 
-use acas_model::Model;
+use acas_base::Model;
 
 /// The five numbers that a table's header names, and how many states a layer has.
 #[derive(Clone, Copy, Debug, PartialEq, Eq)]

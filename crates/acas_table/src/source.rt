@@ -37,13 +37,13 @@ pub struct Source {
 }
 
 impl Source {
-    ghost use Rattle.std.specs.Prelude.{◌≡◌, ◌≤◌, ◌<◌, ◌+◌, ◌-◌, ◌^◌, List, ℕ, None, IsTrue, IsErrOf, OnOk, IfOk, Option, length};
+    ghost use Rattle.std.specs.Prelude.{◌≡◌, ◌≤◌, ◌<◌, ◌+◌, ◌-◌, ◌^◌, List, ℕ, None, IsTrue, IsErrOf, OnErr, OnOk, IfOk, Option, length};
     ghost use Rattle.sha2.specs.Sha256.{sha256};
     ghost use Rattle.acas_table.specs.Text.{part};
     ghost use Rattle.acas_table.specs.Faults.{more_fault};
-    ghost use Rattle.acas_outside.specs.Counts.{Rose};
     ghost use Rattle.acas_outside.specs.Files.{Given};
-    ghost use Rattle.acas_table.specs.Source.{IsAt, IsAtFile, Moves, GivesMore, Fills, GivesField, Finds};
+    ghost use Rattle.acas_outside.specs.Frame.{OnlyReads};
+    ghost use Rattle.acas_table.specs.Source.{IsAt, IsAtFile, Moves, GivesMore, Fills, GivesField, Finds, Takes, TakesMore, bytes_taken};
 
     /// A source at the front of a file that is to have so many bytes.
     pub fn new(alloc: Global, expected: u64) -> Result<Source, AllocError>
@@ -52,6 +52,7 @@ impl Source {
         ensures expected { IfOk result (λ s. s.expected ≡ expected) }
         ensures limit { IfOk result (λ s. s.limit ≡ expected + 1) }
         ensures mark { IfOk result (λ s. s.mark ≡ 0) }
+        ensures taken { IfOk result (λ s. bytes_taken s ≡ 0) }
         ensures at { IfOk result (λ s. (file : Option (List ℕ)) → IsAtFile s file) }
     {
         Ok(Source {
@@ -70,18 +71,18 @@ impl Source {
     fn more<F: Folder>(&mut self, folder: &mut F, name: &str) -> Result<(), Miss>
         requires served { IsTrue (F.serves folder.old name.now) }
         requires room { self.old.to < length self.old.buffer.items }
-        requires limit { self.old.place + (self.old.to - self.old.from) < self.old.limit }
-        ensures given { Given (F.holds folder.old) name.now (λ file. IsAtFile self.old file → GivesMore self.old file self.new result) }
+        requires limit { bytes_taken self.old < self.old.limit }
+        ensures given { Given (F.holds folder.old) name.now (λ file. IsAtFile self.old file →
+            GivesMore self.old file self.new result) }
         ensures grows { OnOk result (self.old.to < self.new.to) }
+        ensures none { OnErr result (self.new.to ≡ self.old.to) }
         ensures same { Moves self.old self.new }
         ensures from { self.new.from ≡ self.old.from }
-        ensures holds { F.holds folder.new ≡ F.holds folder.old }
-        ensures serves { F.serves folder.new ≡ F.serves folder.old }
-        ensures failed { IsErrOf result Miss.Failed → Rose (F.faults folder.old) (F.faults folder.new) }
-        ensures absent { IsErrOf result Miss.Absent → Rose (F.misses folder.old) (F.misses folder.new) }
-        ensures not_held { IsErrOf result Miss.Absent → Given (F.holds folder.old) name.now (λ file. file ≡ None) }
-        ensures faults { F.faults folder.old ≤ F.faults folder.new }
-        ensures misses { F.misses folder.old ≤ F.misses folder.new }
+        ensures not_held { IsErrOf result Miss.Absent →
+            Given (F.holds folder.old) name.now (λ file. file ≡ None) }
+        ensures taken { Takes F.Folder folder.old folder.new (bytes_taken self.old) (bytes_taken self.new) }
+        ensures frame { OnlyReads F.Folder folder.old folder.new
+            (IsErrOf result Miss.Failed) (IsErrOf result Miss.Absent) }
     {
         let at = self.place + (self.to - self.from) as u64;
         let room = (self.buffer.len() - self.to).min((self.limit - at) as usize);
@@ -103,16 +104,16 @@ impl Source {
         requires some { 0 < wanted }
         requires small { wanted ≤ 64 }
         requires limit { self.old.place + wanted ≤ self.old.limit }
-        ensures given { Given (F.holds folder.old) name.now (λ file. IsAtFile self.old file → Fills self.old wanted file self.new result) }
+        ensures given { Given (F.holds folder.old) name.now (λ file. IsAtFile self.old file →
+            Fills self.old wanted file self.new result) }
         ensures filled { OnOk result (wanted ≤ self.new.to - self.new.from) }
+        ensures short { OnErr result (self.new.to - self.new.from < wanted) }
         ensures same { Moves self.old self.new }
-        ensures holds { F.holds folder.new ≡ F.holds folder.old }
-        ensures serves { F.serves folder.new ≡ F.serves folder.old }
-        ensures failed { IsErrOf result Miss.Failed → Rose (F.faults folder.old) (F.faults folder.new) }
-        ensures absent { IsErrOf result Miss.Absent → Rose (F.misses folder.old) (F.misses folder.new) }
-        ensures not_held { IsErrOf result Miss.Absent → Given (F.holds folder.old) name.now (λ file. file ≡ None) }
-        ensures faults { F.faults folder.old ≤ F.faults folder.new }
-        ensures misses { F.misses folder.old ≤ F.misses folder.new }
+        ensures not_held { IsErrOf result Miss.Absent →
+            Given (F.holds folder.old) name.now (λ file. file ≡ None) }
+        ensures taken { Takes F.Folder folder.old folder.new (bytes_taken self.old) (bytes_taken self.new) }
+        ensures frame { OnlyReads F.Folder folder.old folder.new
+            (IsErrOf result Miss.Failed) (IsErrOf result Miss.Absent) }
     {
         if self.to - self.from >= wanted {
             return Ok(());
@@ -130,6 +131,7 @@ impl Source {
         ensures from { self.new.from ≡ 0 }
         ensures to { self.new.to ≡ self.old.to - self.old.from }
         ensures same { Moves self.old self.new }
+        ensures taken { bytes_taken self.new ≡ bytes_taken self.old }
     {
         self.buffer.copy_within(self.from..self.to, 0);
         self.to -= self.from;
@@ -146,19 +148,16 @@ impl Source {
         requires some { 0 < N }
         requires small { N ≤ 64 }
         requires limit { self.old.place + N ≤ self.old.limit }
-        ensures given { Given (F.holds folder.old) name.now (λ file. IsAtFile self.old file → GivesField self.old.expected self.old.place N file self.new result) }
+        ensures given { Given (F.holds folder.old) name.now (λ file. IsAtFile self.old file →
+            GivesField self.old.expected self.old.place N file self.new result) }
         ensures place { IfOk result (λ field. self.new.place ≡ self.old.place + N) }
-        ensures limit { self.new.limit ≡ self.old.limit }
-        ensures expected { self.new.expected ≡ self.old.expected }
         ensures mark { self.new.mark ≡ self.old.mark }
         ensures memory { IsErrOf result TableFault.Memory → ⊥ }
-        ensures holds { F.holds folder.new ≡ F.holds folder.old }
-        ensures serves { F.serves folder.new ≡ F.serves folder.old }
-        ensures failed { IsErrOf result TableFault.Failed → Rose (F.faults folder.old) (F.faults folder.new) }
-        ensures absent { IsErrOf result TableFault.Absent → Rose (F.misses folder.old) (F.misses folder.new) }
-        ensures not_held { IsErrOf result TableFault.Absent → Given (F.holds folder.old) name.now (λ file. file ≡ None) }
-        ensures faults { F.faults folder.old ≤ F.faults folder.new }
-        ensures misses { F.misses folder.old ≤ F.misses folder.new }
+        ensures not_held { IsErrOf result TableFault.Absent →
+            Given (F.holds folder.old) name.now (λ file. file ≡ None) }
+        ensures taken { TakesMore F.Folder folder.old folder.new self.old self.new }
+        ensures frame { OnlyReads F.Folder folder.old folder.new
+            (IsErrOf result TableFault.Failed) (IsErrOf result TableFault.Absent) }
     {
         match self.fill(folder, name, N) {
             Ok(()) => Ok(self.pass()),
@@ -176,17 +175,15 @@ impl Source {
         requires served { IsTrue (F.serves folder.old name.now) }
         requires place { self.old.place ≡ self.old.expected }
         requires limit { self.old.limit ≡ self.old.expected + 1 }
-        ensures given { Given (F.holds folder.old) name.now (λ file. IsAtFile self.old file → Finds (more_fault self.old.expected) file result) }
-        ensures limit { self.new.limit ≡ self.old.limit }
-        ensures expected { self.new.expected ≡ self.old.expected }
+        ensures given { Given (F.holds folder.old) name.now (λ file. IsAtFile self.old file →
+            Finds (more_fault self.old.expected) file result) }
+        ensures all { OnOk result (bytes_taken self.new ≡ self.old.expected) }
         ensures memory { IsErrOf result TableFault.Memory → ⊥ }
-        ensures holds { F.holds folder.new ≡ F.holds folder.old }
-        ensures serves { F.serves folder.new ≡ F.serves folder.old }
-        ensures failed { IsErrOf result TableFault.Failed → Rose (F.faults folder.old) (F.faults folder.new) }
-        ensures absent { IsErrOf result TableFault.Absent → Rose (F.misses folder.old) (F.misses folder.new) }
-        ensures not_held { IsErrOf result TableFault.Absent → Given (F.holds folder.old) name.now (λ file. file ≡ None) }
-        ensures faults { F.faults folder.old ≤ F.faults folder.new }
-        ensures misses { F.misses folder.old ≤ F.misses folder.new }
+        ensures not_held { IsErrOf result TableFault.Absent →
+            Given (F.holds folder.old) name.now (λ file. file ≡ None) }
+        ensures taken { TakesMore F.Folder folder.old folder.new self.old self.new }
+        ensures frame { OnlyReads F.Folder folder.old folder.new
+            (IsErrOf result TableFault.Failed) (IsErrOf result TableFault.Absent) }
     {
         match self.fill(folder, name, 1) {
             Ok(()) => Err(TableFault::Length {
@@ -202,7 +199,9 @@ impl Source {
     // Passes over bytes that are at hand.
     fn pass<const N: usize>(&mut self) -> [u8; N]
         requires { N ≤ self.old.to - self.old.from }
-        ensures given { (bytes : List ℕ) → IsAt self.old bytes → (result ≡ part bytes self.old.place N) × IsAt self.new bytes }
+        ensures given { (bytes : List ℕ) → IsAt self.old bytes →
+            (result ≡ part bytes self.old.place N) × IsAt self.new bytes }
+        ensures taken { bytes_taken self.new ≡ bytes_taken self.old }
         ensures place { self.new.place ≡ self.old.place + N }
         ensures limit { self.new.limit ≡ self.old.limit }
         ensures expected { self.new.expected ≡ self.old.expected }
@@ -217,7 +216,9 @@ impl Source {
 
     /// The digest of what was read since the mark, which moves up to here.
     pub fn digest(&mut self) -> [u8; 32]
-        ensures digest { (bytes : List ℕ) → IsAt self.old bytes → result ≡ sha256 (part bytes self.old.mark (self.old.place - self.old.mark)) }
+        ensures digest { (bytes : List ℕ) → IsAt self.old bytes →
+            result ≡ sha256 (part bytes self.old.mark (self.old.place - self.old.mark)) }
+        ensures taken { bytes_taken self.new ≡ bytes_taken self.old }
         ensures at { (file : Option (List ℕ)) → IsAtFile self.old file → IsAtFile self.new file }
         ensures place { self.new.place ≡ self.old.place }
         ensures limit { self.new.limit ≡ self.old.limit }

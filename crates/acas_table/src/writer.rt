@@ -6,7 +6,7 @@ use crate::encoding::header_bytes;
 use crate::parts::{append_ending, append_layer};
 use crate::pieces::Pieces;
 use crate::shape::TableShape;
-use acas_model::Model;
+use acas_base::Model;
 use acas_outside::{Failed, Folder, store_file};
 use acas_units::Pair;
 use std::alloc::{AllocError, Global};
@@ -38,17 +38,18 @@ pub struct TableWriter {
 }
 
 impl TableWriter {
-    ghost use Rattle.std.specs.Prelude.{◌≡◌, ◌⊎◌, ◌≤◌, ◌<◌, ◌+◌, ◌++◌, ◌∷◌, [], List, IfOk, OnOk, OnErr, IsSome, IsTrue, length, is_ok, if◌then◌else◌};
+    ghost use Rattle.std.specs.Prelude.{◌≡◌, ◌⊎◌, ◌≤◌, ◌<◌, ◌+◌, ◌++◌, ◌∷◌, [], List, IfOk, OnOk, OnErr, IsErr, IsSome, IsTrue, length, is_ok, if◌then◌else◌};
     ghost use Rattle.acas_units.specs.declared.pair.Entry.{Entry as TableEntry};
-    ghost use Rattle.acas_outside.specs.Counts.{Rose};
     ghost use Rattle.acas_outside.specs.Files.{Given, Grows, GrowsPart, Stores, StoresPart};
+    ghost use Rattle.acas_outside.specs.Frame.{OnlyWrites};
     ghost use Rattle.acas_table.specs.Shape.{shape_of};
     ghost use Rattle.acas_table.specs.Text.{layer_of, length_of};
     ghost use Rattle.acas_table.specs.Writer.{writer_state, new_writer, HasWritten, next_bytes, last_bytes};
 
     /// A writer of tables of version 1 for a model, whose text has this digest.
     pub fn new(alloc: Global, model: &Model, digest: &[u8; 32]) -> Result<TableWriter, AllocError>
-        ensures state { IfOk result (λ w. writer_state w ≡ new_writer 1 digest.now (shape_of model.now.grid)) }
+        ensures state { IfOk result (λ w.
+            writer_state w ≡ new_writer 1 digest.now (shape_of model.now.grid)) }
         ensures written { IfOk result (λ w. HasWritten w []) }
     {
         TableWriter::of_version(alloc, model, digest, 1)
@@ -62,7 +63,8 @@ impl TableWriter {
         version: u32,
     ) -> Result<TableWriter, AllocError>
         requires { (version ≡ 1) ⊎ (version ≡ 2) }
-        ensures state { IfOk result (λ w. writer_state w ≡ new_writer version digest.now (shape_of model.now.grid)) }
+        ensures state { IfOk result (λ w.
+            writer_state w ≡ new_writer version digest.now (shape_of model.now.grid)) }
         ensures written { IfOk result (λ w. HasWritten w []) }
     {
         TableWriter::of_shape(alloc, TableShape::of(model), digest, version)
@@ -96,15 +98,15 @@ impl TableWriter {
     pub fn start<F: Folder>(&mut self, folder: &mut F, name: &str) -> Result<(), Failed>
         requires served { IsTrue (F.serves folder.old name.now) }
         requires new { (writer_state self.old).phase ≡ Phase.New }
-        ensures ok { OnOk result (Stores (F.holds folder.old) (F.holds folder.new) name.now (writer_state self.old).head) }
+        ensures ok { OnOk result
+            (Stores (F.holds folder.old) (F.holds folder.new) name.now (writer_state self.old).head) }
         ensures err { OnErr result ((F.holds folder.new ≡ F.holds folder.old)
             ⊎ StoresPart (F.holds folder.old) (F.holds folder.new) name.now (writer_state self.old).head) }
-        ensures written { (layers : List (List TableEntry)) → HasWritten self.old layers → HasWritten self.new layers }
-        ensures state { writer_state self.new ≡ record (writer_state self.old) { phase = if is_ok result then Phase.Started else Phase.Failed } }
-        ensures failed { OnErr result (Rose (F.faults folder.old) (F.faults folder.new)) }
-        ensures serves { F.serves folder.new ≡ F.serves folder.old }
-        ensures faults { F.faults folder.old ≤ F.faults folder.new }
-        ensures misses { F.misses folder.old ≤ F.misses folder.new }
+        ensures written { (layers : List (List TableEntry)) →
+            HasWritten self.old layers → HasWritten self.new layers }
+        ensures state { let phase = if is_ok result then Phase.Started else Phase.Failed in
+            writer_state self.new ≡ record (writer_state self.old) { phase = phase } }
+        ensures frame { OnlyWrites F.Folder folder.old folder.new (IsErr result) }
     {
         self.phase = Phase::Failed;
         store_file(folder, name, &self.head)?;
@@ -126,14 +128,18 @@ impl TableWriter {
         requires more { (writer_state self.old).given < (writer_state self.old).shape.horizon + 1 }
         requires pairs { length pairs.now ≡ (writer_state self.old).shape.states }
         requires advice { length advice.now ≡ (writer_state self.old).shape.states }
-        ensures ok { (layers : List (List TableEntry)) → HasWritten self.old layers → OnOk result (Grows (F.holds folder.old) (F.holds folder.new) name.now (next_bytes (writer_state self.old) layers (layer_of pairs.now advice.now))) }
-        ensures err { (layers : List (List TableEntry)) → HasWritten self.old layers → OnErr result (GrowsPart (F.holds folder.old) (F.holds folder.new) name.now (next_bytes (writer_state self.old) layers (layer_of pairs.now advice.now))) }
-        ensures written { (layers : List (List TableEntry)) → HasWritten self.old layers → OnOk result (HasWritten self.new (layers ++ layer_of pairs.now advice.now ∷ [])) }
-        ensures state { writer_state self.new ≡ (if is_ok result then record (writer_state self.old) { given = (writer_state self.old).given + 1 } else record (writer_state self.old) { phase = Phase.Failed }) }
-        ensures failed { OnErr result (Rose (F.faults folder.old) (F.faults folder.new)) }
-        ensures serves { F.serves folder.new ≡ F.serves folder.old }
-        ensures faults { F.faults folder.old ≤ F.faults folder.new }
-        ensures misses { F.misses folder.old ≤ F.misses folder.new }
+        ensures ok { (layers : List (List TableEntry)) → HasWritten self.old layers → OnOk result
+            (Grows (F.holds folder.old) (F.holds folder.new) name.now
+            (next_bytes (writer_state self.old) layers (layer_of pairs.now advice.now))) }
+        ensures err { (layers : List (List TableEntry)) → HasWritten self.old layers → OnErr result
+            (GrowsPart (F.holds folder.old) (F.holds folder.new) name.now
+            (next_bytes (writer_state self.old) layers (layer_of pairs.now advice.now))) }
+        ensures written { (layers : List (List TableEntry)) → HasWritten self.old layers →
+            OnOk result (HasWritten self.new (layers ++ layer_of pairs.now advice.now ∷ [])) }
+        ensures state { let old = writer_state self.old in writer_state self.new ≡ (if is_ok result
+            then record old { given = old.given + 1 }
+            else record old { phase = Phase.Failed }) }
+        ensures frame { OnlyWrites F.Folder folder.old folder.new (IsErr result) }
     {
         self.phase = Phase::Failed;
         append_layer(&mut self.pieces, self.version, folder, name, pairs, advice)?;
@@ -148,14 +154,17 @@ impl TableWriter {
         requires held { Given (F.holds folder.old) name.now (λ file. IsSome file) }
         requires started { (writer_state self.old).phase ≡ Phase.Started }
         requires all { (writer_state self.old).given ≡ (writer_state self.old).shape.horizon + 1 }
-        ensures ok { (layers : List (List TableEntry)) → HasWritten self.old layers → OnOk result (Grows (F.holds folder.old) (F.holds folder.new) name.now (last_bytes (writer_state self.old) layers)) }
-        ensures err { (layers : List (List TableEntry)) → HasWritten self.old layers → OnErr result (GrowsPart (F.holds folder.old) (F.holds folder.new) name.now (last_bytes (writer_state self.old) layers)) }
-        ensures length { IfOk result (λ n. n ≡ length_of (writer_state self.old).version (writer_state self.old).shape) }
-        ensures state { writer_state self.new ≡ record (writer_state self.old) { phase = if is_ok result then Phase.Finished else Phase.Failed } }
-        ensures failed { OnErr result (Rose (F.faults folder.old) (F.faults folder.new)) }
-        ensures serves { F.serves folder.new ≡ F.serves folder.old }
-        ensures faults { F.faults folder.old ≤ F.faults folder.new }
-        ensures misses { F.misses folder.old ≤ F.misses folder.new }
+        ensures ok { (layers : List (List TableEntry)) → HasWritten self.old layers → OnOk result
+            (Grows (F.holds folder.old) (F.holds folder.new) name.now
+            (last_bytes (writer_state self.old) layers)) }
+        ensures err { (layers : List (List TableEntry)) → HasWritten self.old layers → OnErr result
+            (GrowsPart (F.holds folder.old) (F.holds folder.new) name.now
+            (last_bytes (writer_state self.old) layers)) }
+        ensures length { let old = writer_state self.old in
+            IfOk result (λ n. n ≡ length_of old.version old.shape) }
+        ensures state { let phase = if is_ok result then Phase.Finished else Phase.Failed in
+            writer_state self.new ≡ record (writer_state self.old) { phase = phase } }
+        ensures frame { OnlyWrites F.Folder folder.old folder.new (IsErr result) }
     {
         self.phase = Phase::Failed;
         append_ending(&mut self.pieces, self.version, folder, name)?;

@@ -1,5 +1,8 @@
 //! The limits of models, tables, boxes, encounters and words. Each limit is itself allowed.
 
+/// The version of a model's text.
+pub const MODEL_VERSION: u32 = 1;
+
 /// The least number of vertices on an axis of a grid.
 pub const LEAST_VERTICES: u32 = 2;
 
@@ -19,10 +22,10 @@ pub const LEAST_RATE: i64 = -10_000;
 pub const GREATEST_RATE: i64 = 10_000;
 
 /// The least number of seconds that a table goes back.
-pub const LEAST_HORIZON: i64 = 0;
+pub const LEAST_HORIZON: u32 = 0;
 
 /// The greatest number of seconds that a table goes back.
-pub const GREATEST_HORIZON: i64 = 120;
+pub const GREATEST_HORIZON: u32 = 120;
 
 /// The least number of advisories of a model.
 pub const LEAST_ADVISORIES: u32 = 2;
@@ -30,14 +33,17 @@ pub const LEAST_ADVISORIES: u32 = 2;
 /// The greatest number of advisories of a model.
 pub const GREATEST_ADVISORIES: u32 = 16;
 
-/// The greatest number of bytes of an advisory's name. The least is 1.
-pub const ADVISORY_NAME_BYTES: usize = 32;
+/// The least number of bytes of an advisory's name.
+pub const LEAST_NAME_BYTES: usize = 1;
+
+/// The greatest number of bytes of an advisory's name.
+pub const GREATEST_NAME_BYTES: usize = 32;
 
 /// The least number of sigma points of a model.
-pub const LEAST_SIGMA_POINTS: u32 = 1;
+pub const LEAST_SIGMAS: u32 = 1;
 
 /// The greatest number of sigma points of a model.
-pub const GREATEST_SIGMA_POINTS: u32 = 25;
+pub const GREATEST_SIGMAS: u32 = 25;
 
 /// The least weight of a sigma point.
 pub const LEAST_WEIGHT: i64 = 1;
@@ -46,7 +52,7 @@ pub const LEAST_WEIGHT: i64 = 1;
 pub const GREATEST_WEIGHT: i64 = 1_000;
 
 /// The greatest sum of the weights of all sigma points.
-pub const GREATEST_TOTAL_WEIGHT: i64 = 1_000;
+pub const GREATEST_TOTAL_WEIGHT: u32 = 1_000;
 
 /// The least change of a vertical rate by a sigma point, in ft/min.
 pub const LEAST_NOISE: i64 = -5_000;
@@ -55,31 +61,34 @@ pub const LEAST_NOISE: i64 = -5_000;
 pub const GREATEST_NOISE: i64 = 5_000;
 
 /// The least acceleration by which a pilot follows an advisory, in ft/min per second.
-pub const LEAST_PULL: i64 = 1;
+pub const LEAST_PULL: u32 = 1;
 
 /// The greatest acceleration of any pilot response, in ft/min per second. No pull is above its model's limit.
-pub const GREATEST_LIMIT: i64 = 2_000;
+pub const GREATEST_LIMIT: u32 = 2_000;
+
+/// The greatest number of seconds that a pilot may hold the rate before following an advisory.
+pub const GREATEST_DELAY: u32 = 10;
 
 /// The least radius of the puck, in ft.
-pub const LEAST_RADIUS: i64 = 1;
+pub const LEAST_RADIUS: u32 = 1;
 
 /// The greatest radius of the puck, in ft.
-pub const GREATEST_RADIUS: i64 = 5_000;
+pub const GREATEST_RADIUS: u32 = 5_000;
 
 /// The least half height of the puck, in ft.
-pub const LEAST_HALF_HEIGHT: i64 = 1;
+pub const LEAST_HALF_HEIGHT: u32 = 1;
 
 /// The greatest half height of the puck, in ft.
-pub const GREATEST_HALF_HEIGHT: i64 = 1_000;
+pub const GREATEST_HALF_HEIGHT: u32 = 1_000;
 
 /// The least closing speed, in ft/s.
-pub const LEAST_CLOSING: i64 = 1;
+pub const LEAST_CLOSING: u32 = 1;
 
 /// The greatest closing speed, in ft/s.
-pub const GREATEST_CLOSING: i64 = 5_000;
+pub const GREATEST_CLOSING: u32 = 5_000;
 
 /// The greatest number of seconds in which a horizon's range and twice the radius are closed at the least closing speed.
-pub const WINDOW_SECONDS: i64 = 600;
+pub const WINDOW_SECONDS: u32 = 600;
 
 /// The least cost, in units.
 pub const LEAST_COST: i64 = -1_000_000_000;

@@ -1,7 +1,7 @@
 //! Lines that are built without taking memory.
 ghost use Rattle.std.specs.Prelude.{◌≡◌, ◌+◌, ◌-◌, ◌/◌, ◌^◌, ◌≤◌, [], ◌∷◌, ◌++◌, length, unsigned_abs, IfOk};
 ghost use Rattle.std.specs.Fmt.{signed_decimal};
-ghost use Rattle.acas_units.specs.Printed.{millionths, sign_text, six_digits};
+ghost use Rattle.acas_units.specs.Printed.{millionths_text, sign_text, six_digits};
 
 use crate::limits::LINE_BYTES;
 use crate::printed::last_six;
@@ -9,7 +9,8 @@ use itoa::Buffer;
 use std::alloc::{AllocError, Global};
 use std::marker::Model;
 
-/// A line of at most 1,024 bytes, which contracts see as the list of its bytes. All its memory is taken when it is made.
+/// A line of at most [`LINE_BYTES`] bytes, which contracts see as the list of its bytes. All its memory is taken
+/// when it is made.
 #[derive(Drop)]
 pub struct Line {
     text: Vec<u8>,
@@ -17,12 +18,13 @@ pub struct Line {
 
 impl Model for Line {
     ghost use Rattle.std.specs.Prelude.{List, ℕ, ◌≤◌, vec_len, vec_capacity};
+    ghost use Rattle.acas_units.specs.declared.limits.TheConstants.{LINE_BYTES};
 
     ghost Value = { List ℕ };
 
     ghost view = { λ line. line.text.items };
 
-    ghost invariant = { λ line. (vec_len line.text ≤ 1024) × (1024 ≤ vec_capacity line.text) };
+    ghost invariant = { λ line. (vec_len line.text ≤ LINE_BYTES) × (LINE_BYTES ≤ vec_capacity line.text) };
 }
 
 impl Line {
@@ -62,8 +64,8 @@ impl Line {
     /// Appends the text of a number of millionths: a `-` where it is below 0, the whole units without leading zeros, a
     /// point and six digits.
     pub fn millionths(&mut self, value: i128)
-        requires { length self.old + length (millionths value) ≤ LINE_BYTES }
-        ensures { self.new ≡ self.old ++ millionths value }
+        requires { length self.old + length (millionths_text value) ≤ LINE_BYTES }
+        ensures { self.new ≡ self.old ++ millionths_text value }
     {
         let mut buffer = Buffer::new();
         let magnitude = value.unsigned_abs();

@@ -2,7 +2,7 @@
 ghost use Rattle.std.specs.Prelude.{◌≡◌, ◌≤◌, ◌^◌, ◌+◌, ◌-◌, ◌%◌, ◌++◌, ◌∷◌, unsigned_abs, OnOk, OnErr};
 ghost use Rattle.std.specs.Io.{StartsWith};
 ghost use Rattle.std.specs.Fmt.{decimal};
-ghost use Rattle.acas_units.specs.Printed.{millionths, sign_text, six_digits};
+ghost use Rattle.acas_units.specs.Printed.{millionths_text, sign_text, six_digits};
 
 use itoa::Buffer;
 use std::alloc::AllocError;
@@ -11,7 +11,7 @@ use std::alloc::AllocError;
 /// and six digits. After a refusal of memory `out` is as before.
 pub fn print_millionths(out: &mut Vec<u8>, value: i128) -> Result<(), AllocError>
     requires { unsigned_abs value ≤ 10 ^ 30 }
-    ensures ok { OnOk result (out.new.items ≡ out.old.items ++ millionths value) }
+    ensures ok { OnOk result (out.new.items ≡ out.old.items ++ millionths_text value) }
     ensures err { OnErr result (out.new.items ≡ out.old.items) }
 {
     let start = out.len();
@@ -23,7 +23,7 @@ pub fn print_millionths(out: &mut Vec<u8>, value: i128) -> Result<(), AllocError
 }
 
 fn append_millionths(out: &mut Vec<u8>, value: i128) -> Result<(), AllocError>
-    ensures ok { OnOk result (out.new.items ≡ out.old.items ++ millionths value) }
+    ensures ok { OnOk result (out.new.items ≡ out.old.items ++ millionths_text value) }
     ensures err { OnErr result (StartsWith out.new.items out.old.items) }
 {
     append_sign(out, value)?;

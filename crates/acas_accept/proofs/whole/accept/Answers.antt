@@ -1,7 +1,7 @@
 use Rattle.std.proofs.Common.{◌≡◌, Err, sym, ◌∙◌, ap, subst}
 use Rattle.std.specs.Prelude.{MatchResult}
 use Rattle.std.proofs.lemmas.Result.{IfOk-weaker, err_from_is_err_and}
-use Rattle.acas_model.specs.Advices.{AdvicesData}
+use Rattle.acas_base.specs.Advices.{AdvicesData}
 use Rattle.acas_spec.specs.Model.{entries}
 use Rattle.acas_outside.specs.Bytes.{IsBytes}
 use Rattle.acas_table.specs.Shape.{entry_count}
@@ -21,7 +21,7 @@ returns-in_err-layers-clause-given g c =
     (reads_given _ c.args.name.now m digest c.in_ok-check.check (Err e) c.in_ok-check.ensures.given
     (told_map _ c.args.name.now (λ bytes. HasAccepted c.args.model.now c.args.digest.now c.in_ok-check.check 0 bytes → IsAnswer c.args.model.now c.args.digest.now bytes c.in_err-layers.field-0.0) _
     (λ bytes answers accepted. fault_accepts m digest bytes e (answers accepted))
-    (told_at _ _ c.args.name.now _ c.start.ensures.holds (c.in_err-layers.ensures.given digest))))
+    (told_at _ _ c.args.name.now _ c.start.ensures.frame.holds (c.in_err-layers.ensures.given digest))))
 
 pub returns-clause-allowed : goal.returns-clause-allowed
 returns-clause-allowed g c =
@@ -43,8 +43,8 @@ returns-clause-given g c =
     → MatchResult c.finish.result (λ _. HasNoRefusal c.args.model.now c.args.digest.now bytes) (IsAnswer c.args.model.now c.args.digest.now bytes))) _
     (λ bytes both accepted. no_refusal_accepts m digest bytes read c.finish.result c.in_ok-layers.ensures.check.valid small c.finish.ensures.advices (both.0 accepted) (both.1 (both.0 accepted)))
     (told_both _ c.args.name.now _ _
-    (told_at _ _ c.args.name.now _ c.start.ensures.holds (c.in_ok-layers.ensures.given digest))
-    (told_at _ _ c.args.name.now _ (c.layers.ensures.holds ∙ c.start.ensures.holds) (c.finish.ensures.given m digest c.in_ok-layers.ensures.check))))
+    (told_at _ _ c.args.name.now _ c.start.ensures.frame.holds (c.in_ok-layers.ensures.given digest))
+    (told_at _ _ c.args.name.now _ (c.layers.ensures.frame.holds ∙ c.start.ensures.frame.holds) (c.finish.ensures.given m digest c.in_ok-layers.ensures.check))))
 
 pub finish-requires-clause-all : goal.finish-requires-clause-all
 finish-requires-clause-all g c =

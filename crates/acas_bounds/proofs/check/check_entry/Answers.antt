@@ -1,14 +1,13 @@
 use Rattle.std.proofs.Common.{ap, ◌∙◌}
 use Rattle.acas_frac.specs.Rounding.{down, up}
+use Rattle.acas_grid.specs.States.{state_present, state_vertex}
+use Rattle.acas_grid.proofs.StateNumbers.{state_present-below}
 use Rattle.acas_process.specs.Bounds.{mean_value}
-use Rattle.acas_step.specs.Layer.{layer_values}
-use Rattle.acas_step.specs.States.{state_present, state_vertex}
+use Rattle.acas_step.specs.Layer.{AreValuesOf, layer_values}
 use Rattle.acas_step.specs.declared.layer.Side.TheVariants.{Lower, Upper}
-use Rattle.acas_step.proofs.StateNumbers.{state_present-below}
-use Rattle.acas_bounds.specs.Layers.{AreValuesOf}
+use Rattle.acas_bounds.specs.Checks.{state_fault}
 use Rattle.acas_bounds.specs.Means.{answer_of}
-use Rattle.acas_bounds.specs.Sound.{bound_fault}
-use Rattle.acas_bounds.proofs.Faults.{AreOfLayer, OfBelow-map, entry_fault-is, means_by_values, says_fault}
+use Rattle.acas_bounds.proofs.Faults.{AreOfLayer, OfBelow-map, fault_by_means-is, means_by_values, reports_fault}
 use Rattle.acas_bounds.proofs.check.check_entry.Goals as goal
 
 pub returns-clause-value : goal.returns-clause-value
@@ -19,5 +18,5 @@ returns-clause-value c = λ t entry layer.
     let high = mean_value up m (layer_values Upper m.grid c.args.below.now) x in
     let low = mean_value down m (layer_values Lower m.grid c.args.below.now) x in
     let means = OfBelow-map (λ k. AreValuesOf m t k c.args.below.now) (λ k. AreOfLayer m t k x high low) c.args.n (λ k. means_by_values m t k x c.args.below.now) layer in
-    says_fault c.check.result (bound_fault m t c.args.n p x)
-    (c.check.ensures.answer ∙ ap answer_of (entry_fault-is m t c.args.n p x c.args.entry.now high low c.check.ensures.valid (state_present-below m.grid c.args.state c.requires.state) entry means))
+    reports_fault c.check.result (state_fault m t c.args.n c.args.state)
+    (c.check.ensures.answer ∙ ap answer_of (fault_by_means-is m t c.args.n p x c.args.entry.now high low c.check.ensures.valid (state_present-below m.grid c.args.state c.requires.state) entry means))

@@ -1,7 +1,7 @@
 use Rattle.std.proofs.Common.{rules, tests}
 use Rattle.std.proofs.lemmas.Iterator.{YieldsList-from_slice}
 use Rattle.std.proofs.lemmas.Iterator.Search.{all_from_yields_List}
-use Rattle.acas_spec.specs.Accepted.{is_name_byte}
+use Rattle.acas_spec.specs.Limits.{is_name_byte}
 use Rattle.acas_model.proofs.advisories.are_name_bytes.Goals as goal
 
 pub returns : goal.returns

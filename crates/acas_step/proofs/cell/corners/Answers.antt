@@ -1,6 +1,6 @@
 use Rattle.std.proofs.Common.{ℤ, List, [], ◌∷◌, to_z, of_z, sym, subst, ◌∙◌, rules}
 use Rattle.std.proofs.lemmas.Int.{to_z-of_z}
-use Rattle.acas_spec.specs.Accepted.{IsGrid}
+use Rattle.acas_spec.specs.Limits.{IsGrid}
 use Rattle.acas_spec.specs.Model.{GridData}
 use Rattle.acas_step.specs.Corners.{AreCorners, IsInterpolation, IsWeighting}
 use Rattle.acas_step.specs.declared.cell.Corner.{Corner}

@@ -1,9 +1,9 @@
-use Rattle.std.proofs.Common.{◌+ℤ◌, get_or, ap, sym}
-use Rattle.acas_spec.specs.Model.{choices_at}
+use Rattle.std.proofs.Common.{◌+ℤ◌, ap, sym}
 use Rattle.acas_process.specs.Bounds.{mean_value, millionths}
 use Rattle.acas_process.proofs.AcceptedLaws.{cost_is_own}
+use Rattle.acas_step.specs.Choices.{listed_choice, no_choice}
 use Rattle.acas_step.proofs.laws.choices_have_their_values.Goals as goal
 
 pub returns : goal.returns
-returns c = λ round m below x p place d valid known within.
-    ap (λ z. mean_value round m below x (get_or (choices_at m p) place d).advisory +ℤ millionths z) (sym (cost_is_own m p place d valid known within))
+returns c = λ round m below x p place valid known within.
+    ap (λ z. mean_value round m below x (listed_choice m p place).advisory +ℤ millionths z) (sym (cost_is_own m p place no_choice valid known within))

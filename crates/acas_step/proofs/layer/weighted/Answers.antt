@@ -11,7 +11,7 @@ returns-clause-high c =
     let v : SFits w64 c.args.value = c.ranges.value in
     let u : SFits w128 c.args.value = omega (arith, ints) in
     let p : SFits w128 (c.args.weight *ℤ c.args.value) = weighted_fits c.args.weight c.args.value c.requires.positive c.requires.light v in
-    simp to_z-of_z (weight_high c.args.weight c.args.value (pos 9223372036854775808) c.requires.positive (omega (arith, ints)))
+    simp to_z-of_z (weight_high c.args.weight c.args.value (pos 9223372036854775807) c.requires.positive (omega (arith, ints)))
 
 pub returns-clause-low : goal.returns-clause-low
 returns-clause-low c =

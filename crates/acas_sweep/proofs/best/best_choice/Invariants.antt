@@ -1,12 +1,12 @@
 use Rattle.std.proofs.Common.{◌≡◌, ◌+◌, ◌<◌, length, drop}
 use Rattle.acas_spec.specs.Model.{choices_at}
-use Rattle.acas_sweep.specs.Means.{IsBest}
+use Rattle.acas_sweep.specs.Best.{IsBest}
 use Rattle.acas_sweep.proofs.best.best_choice.Given as goal
 
 abbrev pub invariant-loop-place : goal.invariant-loop-place
 invariant-loop-place l = record {
   inside : l.place < length (choices_at l.model l.present);
-  best : IsBest l.model l.means l.present (drop l.place (choices_at l.model l.present)) l.best;
+  best : IsBest l.model l.vertex_means l.present (drop l.place (choices_at l.model l.present)) l.best;
   counted : l.count + l.place ≡ l.fn.count + length (choices_at l.model l.present);
 }
 

@@ -1,27 +1,25 @@
-use Rattle.std.proofs.Common.{◌≡◌, ℤ, ◌+ℤ◌, ap, arith, subst, sym, w64, ◌∙◌}
-use Rattle.std.proofs.lemmas.Int.{ints, to_z-of_z}
+use Rattle.std.proofs.Common.{◌≡◌, ℕ, ℤ, ◌+ℤ◌, ap, subst, sym, ◌∙◌}
 use Rattle.acas_spec.specs.declared.parts.Choice.{Choice}
+use Rattle.acas_units.specs.declared.pair.Entry.{Entry}
 use Rattle.acas_process.specs.Bounds.{millionths}
-use Rattle.acas_sweep.specs.Means.{IsValued}
+use Rattle.acas_step.specs.Layer.{value_at}
+use Rattle.acas_step.specs.declared.layer.Side.TheVariants.{Lower, Upper}
+use Rattle.acas_sweep.specs.Best.{IsValued}
 use Rattle.acas_sweep.proofs.best.valued_choice.Goals as goal
-use mir.Val.{SFits}
 
-pub with_cost-requires-clause-means : goal.with_cost-requires-clause-means
-with_cost-requires-clause-means c = rw c.from.ensures (c.requires.means.each c.choice_at-choice.result.advisory c.choice_at-choice.ensures.known.inside)
+-- the same value at the number of an advisory, by the cost that it has
+priced : (value cost own : ℤ) (mean : ℕ → ℤ) (place advisory : ℕ) → value ≡ mean place +ℤ millionths cost → place ≡ advisory → own ≡ cost → value ≡ mean advisory +ℤ millionths own
+priced value cost own mean place advisory is at same = is ∙ ap (λ (k : ℕ). mean k +ℤ millionths cost) at ∙ ap (λ z. mean advisory +ℤ millionths z) (sym same)
 
--- the same with a cost that is equal
-priced : (value mean cost own : ℤ) → value ≡ mean +ℤ millionths cost → own ≡ cost → value ≡ mean +ℤ millionths own
-priced value mean cost own is same = is ∙ ap (λ z. mean +ℤ millionths z) (sym same)
-
-pub returns : goal.returns
-returns c =
-    let fits : SFits w64 c.choice_at-choice.result.cost = omega (arith, ints, c.choice_at-choice.ensures.known.small) in
-    let upper = simp (to_z-of_z, c.from.ensures) at c.with_cost.ensures.upper in
-    let lower = simp (to_z-of_z, c.from.ensures) at c.with_cost.ensures.lower in
+pub returns-clause-value : goal.returns-clause-value
+returns-clause-value c =
+    let means = c.args.vertex_means.now in
+    let choice = c.choice_at-choice.result in
     let own = c.choice_at-choice.ensures.known.cost in
-    subst (λ (x : Choice). IsValued c.args.model.now c.args.means.now c.args.present x (record { pair = c.with_cost.result; advice = c.choice_at-choice.result.advisory })) c.choice_at-choice.ensures.value
+    let e : Entry = record { pair = c.pair_of_choice.result; advice = c.choice_at-choice.result.advisory } in
+    subst (λ (d : Choice). IsValued c.args.model.now c.args.vertex_means.now c.args.present d e) c.choice_at-choice.ensures.value
     (record {
-      upper = priced _ _ _ _ upper own;
-      lower = priced _ _ _ _ lower own;
+      upper = priced c.pair_of_choice.result.upper choice.cost _ (value_at Upper means) c.from.result choice.advisory c.pair_of_choice.ensures.upper c.from.ensures own;
+      lower = priced c.pair_of_choice.result.lower choice.cost _ (value_at Lower means) c.from.result choice.advisory c.pair_of_choice.ensures.lower c.from.ensures own;
       advice = λ i. c.choice_at-choice.result.advisory;
     })

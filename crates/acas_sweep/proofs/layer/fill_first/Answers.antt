@@ -2,8 +2,7 @@ use Rattle.std.proofs.Common.{◌≡◌, ℕ, ◌<◌, ap, ◌∙◌, arith}
 use Rattle.acas_spec.specs.Model.{GridData, states, vertices}
 use Rattle.acas_units.specs.declared.pair.Entry.{Entry}
 use Rattle.acas_process.specs.Compiled.{compiled}
-use Rattle.acas_step.specs.States.{state_present, state_vertex}
-use Rattle.acas_sweep.specs.Entries.{IsEntryOf}
+use Rattle.acas_step.specs.Entries.{IsStateEntry}
 use Rattle.acas_sweep.proofs.Below.{below_one}
 use Rattle.acas_sweep.proofs.Written.{entries_written}
 use Rattle.acas_sweep.proofs.layer.fill_first.Goals as goal
@@ -13,12 +12,10 @@ loop-state-preserved c =
     let m = c.args.model.now in
     let s = c.loop-state.state in
     let width : c.vertices.result ≡ vertices m.grid = c.vertices.ensures.value ∙ ap (λ (g : GridData). vertices g) c.grid-in-loop-state.ensures.value in
-    let upper = rw width at c.terminal_pair.ensures.upper in
-    let lower = rw width at c.terminal_pair.ensures.lower in
+    let entry = rw width at c.terminal_entry-entry.ensures in
     let here : s < states m.grid = omega (arith, c.states-state-end.ensures.value, ap (λ (g : GridData). states g) c.grid.ensures.value) in
-    let e : Entry = record { pair = c.terminal_pair.result; advice = 255 } in
-    let P = λ (k : ℕ) (x : Entry). IsEntryOf (compiled m) 0 (state_present m.grid k) (state_vertex m.grid k) x in
-    entries_written P c.loop-state.pairs c.loop-state.advice s e (omega arith) (omega arith) c.loop-state.invariant (record { upper = upper; lower = lower; advice = λ i. 255 })
+    let P = λ (k : ℕ) (x : Entry). IsStateEntry m (compiled m) 0 k x in
+    entries_written P c.loop-state.pairs c.loop-state.advice s c.terminal_entry-entry.result (omega arith) (omega arith) c.loop-state.invariant (record { upper = entry.upper; lower = entry.lower; advice = entry.advice })
 
 pub returns : goal.returns
 returns c =

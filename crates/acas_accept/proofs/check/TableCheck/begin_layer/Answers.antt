@@ -4,8 +4,9 @@ use Rattle.std.specs.Prelude.{Vec}
 use Rattle.std.specs.declared.alloc.Global.{Global}
 use Rattle.std.specs.Vec.{with_items}
 use Rattle.acas_units.specs.declared.pair.Pair.{Pair}
-use Rattle.acas_process.specs.Bounds.{Table}
-use Rattle.acas_bounds.specs.Layers.{AreMeansOf, AreValuesOf}
+use Rattle.acas_spec.specs.Table.{Table}
+use Rattle.acas_step.specs.Layer.{AreValuesOf}
+use Rattle.acas_step.specs.Means.{AreMeansOf}
 use Rattle.acas_accept.specs.declared.check.TableCheck.{TableCheck}
 use Rattle.acas_accept.proofs.Steps.{in_layer_first}
 use Rattle.acas_accept.proofs.check.TableCheck.begin_layer.Goals as goal

@@ -2,9 +2,8 @@ use Rattle.std.proofs.Common.{◌<◌, ℕ, List, None, Some, Ok, Err, sym, subs
 use Rattle.acas_spec.specs.Model.{entries}
 use Rattle.acas_units.specs.declared.pair.Pair.{Pair}
 use Rattle.acas_process.proofs.AcceptedLaws.{is_chosen}
-use Rattle.acas_bounds.proofs.Allowed.{is_allowed-is}
-use Rattle.acas_step.specs.States.{state_present}
-use Rattle.acas_step.proofs.StateNumbers.{state_present-below}
+use Rattle.acas_grid.specs.States.{state_present}
+use Rattle.acas_grid.proofs.StateNumbers.{state_present-below}
 use Rattle.acas_table.specs.Reader.{reader_state, GivesEntry, HasRead}
 use Rattle.acas_table.specs.Shape.{entry_count}
 use Rattle.acas_table.specs.declared.shape.TableShape.{TableShape}
@@ -24,7 +23,7 @@ pub returns-in-Err-clause-given : goal.returns-in-Err-clause-given
 returns-in-Err-clause-given g c = λ digest.
     let t = c.args.self.now in
     told_map _ c.args.name.now (λ bytes. HasRead digest c.args.self.now.reader bytes → GivesEntry digest (reader_state c.args.self.now.reader) bytes (Err c.in-Err.fault)) _
-    (λ bytes gives within. fault_answered c.args.model.now digest t c.args.n c.args.state bytes c.in-Err.fault c.refused.result c.refused.ensures c.requires.check c.requires.n c.requires.state within (gives within.accepted.stands))
+    (λ bytes gives within. fault_answered c.args.model.now digest t c.args.n c.args.state bytes c.in-Err.fault c.refused.result c.refused.ensures.answered c.requires.check c.requires.n c.requires.state within (gives within.accepted.stands))
     (c.in-Err.ensures.given digest)
 
 pub keep-requires-clause-advice : goal.keep-requires-clause-advice
@@ -32,7 +31,7 @@ keep-requires-clause-advice g c = λ some.
     let m = c.args.model.now in
     let p : ℕ = state_present c.args.model.now.grid c.args.state in
     let advice : ℕ = c.in-Ok.entry.advice in
-    let chosen = (is_allowed-is m p advice).0 (c.in-Ok-check_by_means.ensures.allowed some) in
+    let chosen = c.in-Ok-check_by_means.ensures.allowed some in
     omega (arith, (is_chosen m p advice c.requires.check.valid (state_present-below m.grid c.args.state c.requires.state) chosen).inside, c.requires.check.advices.advisories)
 
 pub returns-in-Ok-check_by_means-clause-check : goal.returns-in-Ok-check_by_means-clause-check
@@ -42,7 +41,7 @@ returns-in-Ok-check_by_means-clause-check g c =
     let keeps : Keeps c.args.self.now c.entry.new.self c.keep.new.self c.args.n c.args.state c.in-Ok.entry =
     record { reader = c.keep.ensures.reader; means = c.keep.ensures.means; pairs = c.keep.ensures.pairs; advices = c.keep.ensures.advices } in
     check_next m c.args.self.now c.entry.new.self c.keep.new.self c.args.n c.args.state c.in-Ok.entry c.requires.check c.requires.n c.requires.state on keeps
-    (λ some. (is_allowed-is m (state_present m.grid c.args.state) c.in-Ok.entry.advice).0 (c.in-Ok-check_by_means.ensures.allowed (omega arith)))
+    (λ some. c.in-Ok-check_by_means.ensures.allowed (omega arith))
 
 pub returns-in-Ok-check_by_means-clause-given : goal.returns-in-Ok-check_by_means-clause-given
 returns-in-Ok-check_by_means-clause-given g c = λ digest.

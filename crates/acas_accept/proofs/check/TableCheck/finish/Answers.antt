@@ -13,5 +13,5 @@ returns-in-Ok-clause-given g c = λ m digest check.
 pub returns-in-Err-clause-given : goal.returns-in-Err-clause-given
 returns-in-Err-clause-given g c = λ m digest check.
     told_map _ c.args.name.now (λ bytes. HasRead digest c.args.self.reader bytes → Finishes {X = Unit {0}} digest c.args.self.reader.shape bytes (Err c.in-Err.fault)) _
-    (λ bytes ends accepted. end_answered (Unit {0}) m digest c.args.self bytes c.in-Err.fault c.refused.result c.refused.ensures check accepted (ends accepted.stands))
+    (λ bytes ends accepted. end_answered (Unit {0}) m digest c.args.self bytes c.in-Err.fault c.refused.result c.refused.ensures.answered check accepted (ends accepted.stands))
     (c.in-Err.ensures.given digest)

@@ -11,18 +11,17 @@ returns-in_err-entry-clause-given g c =
     let p = err_from_is_err_and c.from_residual.result c.from_residual.ensures.1 in
     rw (p.1, p.2) (λ digest.
     told_then _ c.args.name.now (λ bytes. IsBeforeLayer c.args.model.now digest c.args.self.now c.args.n bytes) (λ bytes. IsInLayer c.args.model.now digest c.loop-state.self c.args.n c.loop-state.state bytes) _
-    (c.loop-state.invariant.given digest) (told_at _ _ c.args.name.now _ c.loop-state.invariant.holds (c.in_err-entry.ensures.given digest)))
+    (c.loop-state.invariant.given digest) (told_at _ _ c.args.name.now _ c.loop-state.invariant.frame.holds (c.in_err-entry.ensures.given digest)))
 
 pub loop-state-preserved : goal.loop-state-preserved
 loop-state-preserved g c = record {
   check = c.in_ok-entry.ensures.check;
   given = λ digest.
       told_then _ c.args.name.now (λ bytes. IsBeforeLayer c.args.model.now digest c.args.self.now c.args.n bytes) (λ bytes. IsInLayer c.args.model.now digest c.loop-state.self c.args.n c.loop-state.state bytes) _
-      (c.loop-state.invariant.given digest) (told_at _ _ c.args.name.now _ c.loop-state.invariant.holds (c.in_ok-entry.ensures.given digest));
-  holds = c.entry.ensures.holds ∙ c.loop-state.invariant.holds;
-  serves = c.entry.ensures.serves ∙ c.loop-state.invariant.serves;
-  faults = omega arith;
-  misses = omega arith;
+      (c.loop-state.invariant.given digest) (told_at _ _ c.args.name.now _ c.loop-state.invariant.frame.holds (c.in_ok-entry.ensures.given digest));
+  shape = c.entry.ensures.shape ∙ c.loop-state.invariant.shape;
+  taken = grind arith;
+  frame = grind arith;
 }
 
 pub returns-clause-given : goal.returns-clause-given

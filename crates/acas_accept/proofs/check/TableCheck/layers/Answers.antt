@@ -11,18 +11,17 @@ returns-in_err-layer-clause-given g c =
     let p = err_from_is_err_and c.from_residual.result c.from_residual.ensures.1 in
     rw (p.1, p.2) (λ digest.
     told_then _ c.args.name.now (λ bytes. HasAccepted c.args.model.now digest c.args.self.now 0 bytes) (λ bytes. IsBeforeLayer c.args.model.now digest c.loop-n.self c.loop-n.n bytes) _
-    (c.loop-n.invariant.given digest) (told_at _ _ c.args.name.now _ c.loop-n.invariant.holds (c.in_err-layer.ensures.given digest)))
+    (c.loop-n.invariant.given digest) (told_at _ _ c.args.name.now _ c.loop-n.invariant.frame.holds (c.in_err-layer.ensures.given digest)))
 
 pub loop-n-preserved : goal.loop-n-preserved
 loop-n-preserved g c = record {
   check = c.in_ok-layer.ensures.check;
   given = λ digest.
       told_then _ c.args.name.now (λ bytes. HasAccepted c.args.model.now digest c.args.self.now 0 bytes) (λ bytes. IsBeforeLayer c.args.model.now digest c.loop-n.self c.loop-n.n bytes) _
-      (c.loop-n.invariant.given digest) (told_at _ _ c.args.name.now _ c.loop-n.invariant.holds (c.in_ok-layer.ensures.given digest));
-  holds = c.layer.ensures.holds ∙ c.loop-n.invariant.holds;
-  serves = c.layer.ensures.serves ∙ c.loop-n.invariant.serves;
-  faults = omega arith;
-  misses = omega arith;
+      (c.loop-n.invariant.given digest) (told_at _ _ c.args.name.now _ c.loop-n.invariant.frame.holds (c.in_ok-layer.ensures.given digest));
+  shape = c.layer.ensures.shape ∙ c.loop-n.invariant.shape;
+  taken = grind arith;
+  frame = grind arith;
 }
 
 pub returns-clause-given : goal.returns-clause-given

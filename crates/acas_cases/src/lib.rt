@@ -1,0 +1,88 @@
+//! Cases: whole runs of the top call over files and outputs in memory, as data.
+//!
+//! A text of cases is TOML, a list `[[cases]]`. Each item stands for one case, or for several that differ in a few values:
+//!
+//! - `name`: what is shown where a case fails.
+//! - `rows`: lists of values, a case for each list. In every text below, `$1` stands for the first value, and so on.
+//! - `numbers`: a case for each number from 0 up to but not this one, and each row. The number is `$1`, the row's values follow.
+//!
+//! What there is at the start:
+//!
+//! - `files`: lists, each the name of a file and the steps that make its bytes.
+//! - `most`: the most bytes that a call takes or gives, 65536 where it is left out.
+//! - `failing`: the calls that fail, each a kind and a number counted from 0, as `read 0`. The kinds are `read`, `create`,
+//!   `append`, `write` (of the output) and `error` (a write of the error output).
+//! - `runs`: the commands, one after the other over the same folder and outputs, as in a shell: `acas values 'a b'`.
+//!
+//! What is to be there at the end. What is left out is to be empty, or as before:
+//!
+//! - `ends`: the exit code and the cause of each run, as `5 table`. Or `codes`: the code of the last run of each case, a digit
+//!   for each.
+//! - `output`: all that is printed. Or some of `output_has`: texts that stand in it; `output_length`: its length in bytes;
+//!   `output_sha256`: its digest.
+//! - `error`: all of the error output.
+//! - `lines_sha256`: in the place of both, the digest of the outputs of all cases of the item, one after the other.
+//! - `after`: the files that are not as before, made as at the start. `after_sha256`: files with the digests of their bytes.
+//!   `absent`: the names of no file.
+//! - `each_call`: the numbers of calls of each kind. Then each of them is made to fail in turn: the code is to say whose call it
+//!   was, what is printed is to be a part of what is printed else, and a file that the run changes is to be as before where a
+//!   read or the create fails, and a part of what it becomes else where an append fails.
+//!
+//! The steps, each on the bytes that the earlier ones made:
+//!
+//! - `model NAME`, `text TEXT`, `hex DIGITS`, `compiled FILE`: puts behind them the text of a model, a text, bytes, or the table
+//!   that is compiled of a file that stands before this one. `pad BYTE LENGTH`: the byte until they are so long.
+//! - `replace OLD => NEW`: the first such text, which has to stand there. `cut LENGTH`: the first bytes alone.
+//! - `put PLACE DIGITS`: bytes in the place of others. `spread PLACE STRIDE DIGITS`: the same, each byte so far after the last.
+//!   `flip PLACE NUMBER`: the bits of a byte that the number has.
+//! - Of a table: `upper LAYER STATE VALUE`, `lower LAYER STATE VALUE`, `advice LAYER STATE BYTE`: a part of an entry. `values
+//!   UPPER LOWER`: the values of each entry. `seal`: its digest, made anew.
+//!
+//! The values that cases compare with are from an implementation of the definitions apart from the program, `bench/reference`
+//! and `bench/rows`, or worked out by hand. None is from the program.
+#![tactic(auto)]
+
+#[cfg(test)]
+mod advisories;
+#[cfg(test)]
+mod bounds;
+#[cfg(test)]
+mod cases;
+#[cfg(test)]
+mod changed_bits;
+#[cfg(test)]
+mod documents;
+#[cfg(test)]
+mod each_call;
+#[cfg(test)]
+mod entries;
+#[cfg(test)]
+mod failing;
+#[cfg(test)]
+mod fault;
+#[cfg(test)]
+mod headers;
+#[cfg(test)]
+mod judge;
+#[cfg(test)]
+mod models;
+#[cfg(test)]
+mod numbers;
+#[cfg(test)]
+mod outside;
+#[cfg(test)]
+mod report;
+#[cfg(test)]
+mod runner;
+#[cfg(test)]
+mod sees;
+#[cfg(test)]
+mod steps;
+#[cfg(test)]
+mod stored;
+#[cfg(test)]
+mod texts;
+#[cfg(test)]
+mod values;
+#[cfg(test)]
+mod words;

@@ -1,0 +1,119 @@
+//! A case over a folder and two outputs in memory.
+use crate::fault::Fault;
+use crate::texts::words_of;
+use acas_cli::{Cause, FileRole, Status, Work, run};
+use acas_outside::{MemoryFolder, MemorySink};
+use std::alloc::{AllocError, Global};
+
+/// A file of a folder.
+#[derive(Drop)]
+pub struct File {
+    pub name: String,
+    pub bytes: Vec<u8>,
+}
+
+/// What is there at the start of a case: the files, the most bytes that a call takes or gives, and the commands.
+#[derive(Drop)]
+pub struct Start {
+    pub files: Vec<File>,
+    pub most: u32,
+    pub runs: Vec<String>,
+}
+
+/// How the runs of a case ended, and what is there afterwards.
+#[derive(Drop)]
+pub struct End {
+    pub ends: Vec<String>,
+    pub folder: MemoryFolder,
+    pub out: MemorySink,
+    pub err: MemorySink,
+}
+
+/// The kinds of calls that may fail.
+pub const KINDS: [&str; 5] = ["read", "create", "append", "write", "error"];
+
+/// The bytes of the file of this name.
+pub fn held<'f>(files: &'f [File], name: &str) -> Result<&'f [u8], Fault> {
+    for file in files {
+        if file.name.as_str() == name {
+            return Ok(&file.bytes);
+        }
+    }
+    Err(Fault::Text("no file of this name"))
+}
+
+/// Runs the commands of a case, while the listed calls fail, each given by its kind and its number, as `read 0`.
+pub fn perform(alloc: Global, start: &Start, failing: &[String]) -> Result<End, Fault> {
+    let mut end = beginning(alloc, start, failing)?;
+    for command in &start.runs {
+        let words = words_of(alloc, command)?;
+        let mut work = Work::new();
+        let status = run(
+            alloc,
+            &words,
+            &mut end.folder,
+            &mut end.out,
+            &mut end.err,
+            &mut work,
+        );
+        end.ends.push(end_text(alloc, &status)?)?;
+    }
+    Ok(end)
+}
+
+// The folder with the files, and outputs to which nothing was written.
+fn beginning(alloc: Global, start: &Start, failing: &[String]) -> Result<End, Fault> {
+    let most = start.most.max(1);
+    let mut folder = MemoryFolder::new(
+        alloc,
+        numbers_of(alloc, failing, "read")?,
+        numbers_of(alloc, failing, "create")?,
+        numbers_of(alloc, failing, "append")?,
+        most,
+    )?;
+    for file in &start.files {
+        folder.put(&file.name, file.bytes.clone()?)?;
+    }
+    Ok(End {
+        ends: Vec::new(alloc),
+        folder,
+        out: MemorySink::new(alloc, numbers_of(alloc, failing, "write")?, most)?,
+        err: MemorySink::new(alloc, numbers_of(alloc, failing, "error")?, most)?,
+    })
+}
+
+// The numbers of the failing calls of a kind.
+fn numbers_of(alloc: Global, failing: &[String], kind: &str) -> Result<Vec<u64>, Fault> {
+    let mut numbers = Vec::new(alloc);
+    for call in failing {
+        let (word, number) = call
+            .split_once(' ')
+            .ok_or(Fault::Text("a failing call is a kind and a number"))?;
+        if !KINDS.contains(&word) {
+            return Err(Fault::Text("no kind of call"));
+        }
+        if word == kind {
+            let number = number.parse::<u64>();
+            numbers.push(number.map_err(|_| Fault::Text("no number of a call"))?)?;
+        }
+    }
+    Ok(numbers)
+}
+
+// The exit code and the cause of a run.
+fn end_text(alloc: Global, status: &Status) -> Result<String, AllocError> {
+    let cause = match &status.cause {
+        Cause::Done => "done",
+        Cause::Words => "words",
+        Cause::Absent(FileRole::Model) => "absent model",
+        Cause::Absent(FileRole::Table) => "absent table",
+        Cause::Model(_) => "model",
+        Cause::Table(_) => "table",
+        Cause::Folder => "folder",
+        Cause::Output => "output",
+        Cause::TooLong(FileRole::Model) => "too long model",
+        Cause::TooLong(FileRole::Table) => "too long table",
+        Cause::Memory => "memory",
+    };
+    format!(in alloc; "{} {cause}", status.code)
+}

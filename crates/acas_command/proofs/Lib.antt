@@ -1,0 +1,5 @@
+mod Digits
+mod Lines
+pub mod Behind
+pub mod Files
+pub mod Refused

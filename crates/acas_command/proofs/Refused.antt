@@ -1,0 +1,116 @@
+-- What the files hold where a command was not to be refused by them, and a command that was to be refused by nothing.
+use Rattle.std.proofs.Common.{◌≡◌, ℕ, ◌≤◌, List, length, Bool, true, false, cond, nat_lt, Option, None, Some, Result, Ok, Err, refl, sym, ap, subst, ◌∙◌}
+use Rattle.std.proofs.lemmas.Bool.{le-ltb, ltb-false}
+use Rattle.sha2.specs.Sha256.{sha256}
+use Rattle.acas_units.specs.declared.limits.TheConstants.{TEXT_BYTES}
+use Rattle.acas_spec.specs.Model.{ModelData}
+use Rattle.acas_model.specs.Whole.{model_of}
+use Rattle.acas_model.specs.declared.fault.ModelFault.{ModelFault}
+use Rattle.acas_accept.specs.Refusals.{first_refusal}
+use Rattle.acas_accept.specs.declared.refusal.TableRefusal.{TableRefusal}
+use Rattle.acas_outside.specs.Files.{Files}
+use Rattle.acas_outside.specs.Outside.{Outside}
+use Rattle.acas_command.specs.Answers.{Agrees, HasCause, MayPrint}
+use Rattle.acas_command.specs.Calls.{with_acceptance, with_model, with_reading, with_table}
+use Rattle.acas_command.specs.Outcome.{Outcome, refuses}
+use Rattle.acas_command.specs.Worth.{IsNotRefused}
+use Rattle.acas_command.specs.declared.status.Cause.{Cause}
+use Rattle.acas_command.specs.declared.status.Cause.TheVariants.{Done, Words, Absent, Model, Table, Folder, Output, TooLong, Memory}
+use Rattle.acas_command.specs.declared.status.FileRole.TheVariants.{Model as ModelFile}
+
+-- a cause that no file's absence, length or text gives
+abbrev pub IsNoFileCause : Cause → Type 0
+IsNoFileCause Done = Unit {0}
+IsNoFileCause Words = Unit {0}
+IsNoFileCause (Absent role) = ⊥
+IsNoFileCause (Model fault) = ⊥
+IsNoFileCause (Table refusal) = Unit {0}
+IsNoFileCause Folder = Unit {0}
+IsNoFileCause Output = Unit {0}
+IsNoFileCause (TooLong role) = ⊥
+IsNoFileCause Memory = Unit {0}
+
+pub no_file_cause-may_print : (cause : Cause) → MayPrint cause → IsNoFileCause cause
+no_file_cause-may_print Done h = tt
+no_file_cause-may_print Words h = tt
+no_file_cause-may_print (Absent role) h = h
+no_file_cause-may_print (Model fault) h = h
+no_file_cause-may_print (Table refusal) h = tt
+no_file_cause-may_print Folder h = tt
+no_file_cause-may_print Output h = tt
+no_file_cause-may_print (TooLong role) h = h
+no_file_cause-may_print Memory h = tt
+
+-- a file is a model's text, and the rest goes on behind it
+pub record IsBehindModel (file : Option (List ℕ)) (rest : List ℕ → ModelData → Outcome) : Type 0 where
+  pub bytes : List ℕ
+  pub m : ModelData
+  pub there : file ≡ Some bytes
+  pub short : length bytes ≤ TEXT_BYTES
+  pub read : model_of bytes ≡ Ok m
+  pub is : with_model file rest ≡ rest (sha256 bytes) m
+
+short-enough : (b : Bool) (rest : Outcome) → IsNoFileCause (cond b (refuses (TooLong ModelFile)) rest).cause → b ≡ false
+short-enough true rest h = absurd h
+short-enough false rest h = refl
+
+read-whole : (r : Result ModelData ModelFault) (rest : ModelData → Outcome) → IsNoFileCause (with_reading r rest).cause → (m : ModelData) × (r ≡ Ok m)
+read-whole (Ok m) rest h = (m, refl)
+read-whole (Err fault) rest h = absurd h
+
+pub behind-model : (file : Option (List ℕ)) (rest : List ℕ → ModelData → Outcome) → IsNoFileCause (with_model file rest).cause → IsBehindModel file rest
+behind-model None rest h = absurd h
+behind-model (Some bytes) rest h =
+    let tail : Outcome = with_reading (model_of bytes) (rest (sha256 bytes)) in
+    let short : nat_lt TEXT_BYTES (length bytes) ≡ false = short-enough (nat_lt TEXT_BYTES (length bytes)) tail h in
+    let same : with_model (Some bytes) rest ≡ tail = ap (λ (b : Bool). cond b (refuses (TooLong ModelFile)) tail) short in
+    let read = read-whole (model_of bytes) (rest (sha256 bytes)) (subst (λ (o : Outcome). IsNoFileCause o.cause) same h) in
+    record {
+      bytes = bytes;
+      m = read.0;
+      there = refl;
+      short = ltb-false TEXT_BYTES (length bytes) short;
+      read = read.1;
+      is = same ∙ ap (λ (r : Result ModelData ModelFault). with_reading r (rest (sha256 bytes))) read.1;
+    }
+
+-- the other way: what a model's text goes on with
+pub with_model-read : (bytes : List ℕ) (m : ModelData) (rest : List ℕ → ModelData → Outcome) → length bytes ≤ TEXT_BYTES → model_of bytes ≡ Ok m
+    → with_model (Some bytes) rest ≡ rest (sha256 bytes) m
+with_model-read bytes m rest short read = rw (le-ltb TEXT_BYTES (length bytes) short, read) refl
+
+-- a table that is not refused, and one that is
+pub behind-table : (m : ModelData) (digest : List ℕ) (file : Option (List ℕ)) (rest : List ℕ → Outcome) → MayPrint (with_table m digest file rest).cause
+    → (bytes : List ℕ) × (file ≡ Some bytes) × (first_refusal m digest bytes ≡ None)
+behind-table m digest None rest h = absurd h
+behind-table m digest (Some bytes) rest h = (bytes, refl, not_refused (first_refusal m digest bytes) (rest bytes) h)
+  where
+    not_refused : (o : Option TableRefusal) (rest : Outcome) → MayPrint (with_acceptance o rest).cause → o ≡ None
+    not_refused None rest h = refl
+    not_refused (Some refusal) rest h = absurd h
+
+pub rejected-table : (m : ModelData) (digest : List ℕ) (file : Option (List ℕ)) (rest : List ℕ → Outcome) (refusal : TableRefusal)
+    → ((bytes : List ℕ) → MayPrint (rest bytes).cause) → (with_table m digest file rest).cause ≡ Table refusal
+    → (bytes : List ℕ) × (file ≡ Some bytes) × (first_refusal m digest bytes ≡ Some refusal)
+rejected-table m digest None rest refusal prints h = absurd (cc h)
+rejected-table m digest (Some bytes) rest refusal prints h = (bytes, refl, refused (first_refusal m digest bytes) (rest bytes) (prints bytes) h)
+  where
+    refused : (o : Option TableRefusal) (rest : Outcome) → MayPrint rest.cause → (with_acceptance o rest).cause ≡ Table refusal → o ≡ Some refusal
+    refused None rest prints h = absurd (subst MayPrint h prints)
+    refused (Some other) rest prints h = cc h
+
+pub with_table-accepted : (m : ModelData) (digest bytes : List ℕ) (rest : List ℕ → Outcome) → first_refusal m digest bytes ≡ None → with_table m digest (Some bytes) rest ≡ rest bytes
+with_table-accepted m digest bytes rest none = rw none refl
+
+-- a command that is to be refused by nothing is not refused
+pub not_refused : (Called : Outcome → Type 0) (files : Files) (cause : Cause) (before after : Outside) → ((o : Outcome) → Called o → MayPrint o.cause)
+    → HasCause cause before after → Agrees Called files cause before after → IsNotRefused cause before after
+not_refused Called files Done before after prints h a = tt
+not_refused Called files Words before after prints h a = h
+not_refused Called files (Absent role) before after prints h a = subst MayPrint a.refused (prints a.outcome a.called)
+not_refused Called files (Model fault) before after prints h a = subst MayPrint a.refused (prints a.outcome a.called)
+not_refused Called files (Table refusal) before after prints h a = subst MayPrint a.refused (prints a.outcome a.called)
+not_refused Called files Folder before after prints h a = h
+not_refused Called files Output before after prints h a = h
+not_refused Called files (TooLong role) before after prints h a = subst MayPrint a.refused (prints a.outcome a.called)
+not_refused Called files Memory before after prints h a = tt

@@ -1,0 +1,24 @@
+use Rattle.std.proofs.Common.{◌≡◌, ◌≤◌, ◌^◌, length, arith, length-append, unsigned_abs, ap, rules, w64, ℤ, to_z, of_z}
+use Rattle.std.proofs.lemmas.Int.{ints, to_z-of_z}
+use mir.Val.{SFits}
+use mir.Syntax.{w128}
+use Rattle.acas_units.specs.Printed.{millionths_text}
+use Rattle.acas_command.proofs.Digits.{length-millionths_text}
+use Rattle.acas_command.proofs.line_fields.put_millionths.Goals as goal
+
+pub millionths-requires : goal.millionths-requires
+millionths-requires c =
+    let v : SFits w64 c.args.value = c.ranges.value in
+    let is : c.from.result ≡ c.args.value = simp to_z-of_z at c.from.ensures in
+    let r : SFits w128 c.args.value = search rules in
+    let small : unsigned_abs c.args.value ≤ 2 ^ 63 = omega (arith, ints) in
+    rw is (rw (to_z-of_z w128 c.args.value r) (omega (arith, length-millionths_text c.args.value small)))
+
+pub returns-clause-room : goal.returns-clause-room
+returns-clause-room c =
+    let v : SFits w64 c.args.value = c.ranges.value in
+    let is : c.from.result ≡ c.args.value = simp to_z-of_z at c.from.ensures in
+    let r : SFits w128 c.args.value = search rules in
+    let small : unsigned_abs c.args.value ≤ 2 ^ 63 = omega (arith, ints) in
+    let text : to_z w128 (of_z w128 c.from.result) ≡ c.args.value = rw is (to_z-of_z w128 c.args.value r) in
+    omega (arith, ap length c.millionths.ensures, length-append c.args.line.now (millionths_text (to_z w128 (of_z w128 c.from.result))), ap (λ (z : ℤ). length (millionths_text z)) text, length-millionths_text c.args.value small)

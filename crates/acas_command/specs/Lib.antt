@@ -1,0 +1,12 @@
+pub mod Codes
+pub mod Outcome
+pub mod Calls
+pub mod Answers
+pub mod Worth
+pub mod Outside
+pub mod ModelFile
+pub mod AcceptedFile
+pub mod FaultText
+pub mod RefusalText
+pub mod ErrorLine
+pub mod LineParts

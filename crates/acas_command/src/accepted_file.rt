@@ -1,0 +1,41 @@
+//! The file of a table that is read.
+ghost use Rattle.std.specs.Prelude.{◌≡◌, ◌≢◌, IsTrue, IfOk, IfErr, IsErrOf, IsSomeAnd, OnOk};
+ghost use Rattle.acas_base.specs.Advices.{AreAdvicesOf};
+ghost use Rattle.acas_outside.specs.Bytes.{IsBytes};
+ghost use Rattle.acas_outside.specs.Files.{Given};
+ghost use Rattle.acas_outside.specs.Frame.{OnlyReads};
+ghost use Rattle.acas_command.specs.AcceptedFile.{IsTableFile, RefusesTable};
+ghost use Rattle.acas_command.specs.Outside.{beside};
+
+use crate::model_file::ModelFile;
+use crate::status::{Cause, FileRole};
+use acas_accept::{AcceptFault, accept};
+use acas_base::Advices;
+use acas_outside::Folder;
+use std::alloc::Global;
+
+/// Reads and checks the file of a table and gives its advices, or gives the cause that ends every command that reads one.
+pub fn read_table_file<F: Folder>(
+    alloc: Global,
+    found: &ModelFile,
+    name: &str,
+    folder: &mut F,
+) -> Result<Advices, Cause>
+    requires { IsTrue (F.serves folder.old name.now) }
+    ensures ok { OnOk result (Given (F.holds folder.old) name.now (λ file. IsTableFile found.now.model found.now.digest file)) }
+    ensures advices { IfOk result (λ advices. AreAdvicesOf found.now.model advices) }
+    ensures bytes { OnOk result (Given (F.holds folder.old) name.now (λ file. IsSomeAnd file IsBytes)) }
+    ensures err { IfErr result (λ cause. RefusesTable found.now.model found.now.digest name.now cause
+        (beside F.Folder folder.old) (beside F.Folder folder.new)) }
+    ensures refused { IfErr result (λ cause. cause ≢ Cause.Done) }
+    ensures frame { OnlyReads F.Folder folder.old folder.new
+        (IsErrOf result Cause.Folder) (IsErrOf result (Cause.Absent FileRole.Table)) }
+{
+    match accept(alloc, &found.model, &found.digest, folder, name) {
+        Ok(advices) => Ok(advices),
+        Err(AcceptFault::Refused(refusal)) => Err(Cause::Table(refusal)),
+        Err(AcceptFault::Absent) => Err(Cause::Absent(FileRole::Table)),
+        Err(AcceptFault::Failed) => Err(Cause::Folder),
+        Err(AcceptFault::Memory) => Err(Cause::Memory),
+    }
+}

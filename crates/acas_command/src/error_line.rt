@@ -1,0 +1,135 @@
+//! The line on the error output. Writing it takes no memory.
+ghost use Rattle.std.specs.Prelude.{◌≡◌, ◌≤◌, ◌++◌, ◌∷◌, [], IsErr, OnOk, OnErr, map, string_bytes, slice_index_or};
+ghost use Rattle.acas_outside.specs.Bytes.{Appends, AppendsPart};
+ghost use Rattle.acas_outside.specs.Frame.{Emits};
+ghost use Rattle.acas_command.specs.ErrorLine.{Reports, name_of};
+ghost use Rattle.acas_command.specs.declared.status.Cause.TheVariants.{Memory, Words};
+ghost use Rattle.acas_command.specs.LineParts.{fault_head, fault_subject, line_head, line_of_parts, line_subject, line_tail};
+
+use crate::fault_text::write_tail;
+use crate::status::{Cause, FileRole};
+use acas_model::ModelFault;
+use acas_outside::{Failed, Sink, emit_parts};
+use acas_units::Line;
+
+/// Writes the line of a run that is not done, with a buffer for its numbers.
+pub fn report<E: Sink>(words: &[String], cause: &Cause, line: &mut Line, err: &mut E)
+    ensures line { Reports cause.now (map string_bytes words.now)
+        (E.written err.old) (E.written err.new) (E.faults err.old) (E.faults err.new) }
+    ensures faults { E.faults err.old ≤ E.faults err.new }
+{
+    if let Cause::Done = cause {
+        return;
+    }
+    write_tail(line, cause);
+    let written = emit_line(
+        err,
+        line_head(cause).as_bytes(),
+        line_subject(cause, words),
+        line.bytes(),
+    );
+    match written {
+        Ok(()) => {}
+        Err(_) => {}
+    }
+}
+
+/// Writes the line of words that are refused.
+pub fn report_words<E: Sink>(words: &[String], err: &mut E)
+    ensures line { Reports Words (map string_bytes words.now)
+        (E.written err.old) (E.written err.new) (E.faults err.old) (E.faults err.new) }
+    ensures faults { E.faults err.old ≤ E.faults err.new }
+{
+    match emit_line(err, b"words refused", b"", b"") {
+        Ok(()) => {}
+        Err(_) => {}
+    }
+}
+
+/// Writes the line of a run that found no memory for a buffer.
+pub fn report_memory<E: Sink>(words: &[String], err: &mut E)
+    ensures line { Reports Memory (map string_bytes words.now)
+        (E.written err.old) (E.written err.new) (E.faults err.old) (E.faults err.new) }
+    ensures faults { E.faults err.old ≤ E.faults err.new }
+{
+    match emit_line(err, b"out of memory", b"", b"") {
+        Ok(()) => {}
+        Err(_) => {}
+    }
+}
+
+// Writes a line of three parts, which stand at one lifetime here.
+fn emit_line<'p, E: Sink>(
+    err: &mut E,
+    head: &'p [u8],
+    subject: &'p [u8],
+    tail: &'p [u8],
+) -> Result<(), Failed>
+    ensures ok { OnOk result (Appends (E.written err.old) (E.written err.new) (line_of_parts head.now subject.now tail.now)) }
+    ensures err { OnErr result (AppendsPart (E.written err.old) (E.written err.new) (line_of_parts head.now subject.now tail.now)) }
+    ensures frame { Emits E.Sink err.old err.new (IsErr result) }
+{
+    emit_parts(err, &[b"acas: ", head, subject, tail, b"\n"])
+}
+
+fn line_head(cause: &Cause) -> &'static str
+    ensures { result.now ≡ line_head cause.now }
+{
+    match cause {
+        Cause::Done => "",
+        Cause::Words => "words refused",
+        Cause::Absent(_) => "absent: ",
+        Cause::Model(fault) => fault_head(fault),
+        Cause::Table(_) => "table refused: ",
+        Cause::Folder => "folder failed",
+        Cause::Output => "output failed",
+        Cause::TooLong(_) => "too long: ",
+        Cause::Memory => "out of memory",
+    }
+}
+
+fn fault_head(fault: &ModelFault) -> &'static str
+    ensures { result.now ≡ fault_head fault.now }
+{
+    match fault {
+        ModelFault::Doc(_) => "model refused: key ",
+        _ => "model refused: ",
+    }
+}
+
+fn line_subject<'c>(cause: &'c Cause, words: &'c [String]) -> &'c [u8]
+    ensures { result.now ≡ line_subject cause.now (map string_bytes words.now) }
+{
+    match cause {
+        Cause::Absent(role) | Cause::TooLong(role) => name_of(*role, words),
+        Cause::Model(fault) => fault_subject(fault),
+        _ => b"",
+    }
+}
+
+fn fault_subject(fault: &ModelFault) -> &[u8]
+    ensures { result.now ≡ fault_subject fault.now }
+{
+    match fault {
+        ModelFault::Doc(at) => at.key.bytes(),
+        _ => b"",
+    }
+}
+
+fn name_of(role: FileRole, words: &[String]) -> &[u8]
+    ensures { result.now ≡ name_of role (map string_bytes words.now) }
+{
+    match role {
+        FileRole::Model => word_at(words, 1),
+        FileRole::Table => word_at(words, 2),
+    }
+}
+
+fn word_at(words: &[String], place: usize) -> &[u8]
+    ensures { result.now ≡ slice_index_or (map string_bytes words.now) place [] }
+{
+    match words.get(place) {
+        Some(word) => word.as_bytes(),
+        None => b"",
+    }
+}

@@ -1,0 +1,51 @@
+//! Fields of a line, with room for several of them.
+ghost use Rattle.std.specs.Prelude.{◌≡◌, ◌+◌, ◌≤◌, ◌++◌, ◌∷◌, [], length};
+ghost use Rattle.std.specs.Fmt.{decimal, signed_decimal};
+ghost use Rattle.acas_units.specs.Printed.{millionths_text};
+
+use acas_units::{LINE_BYTES, Line};
+
+/// Appends a text.
+pub fn put_text(line: &mut Line, text: &str)
+    requires { length line.old + length text.now ≤ LINE_BYTES }
+    ensures value { line.new ≡ line.old ++ text.now }
+    ensures room { length line.new ≡ length line.old + length text.now }
+{
+    line.push(text.as_bytes());
+}
+
+/// Appends a number that is not negative.
+pub fn put_count(line: &mut Line, value: u64)
+    requires { length line.old + 20 ≤ LINE_BYTES }
+    ensures value { line.new ≡ line.old ++ decimal value }
+    ensures room { length line.new ≤ length line.old + 20 }
+{
+    line.number(i128::from(value));
+}
+
+/// Appends a number.
+pub fn put_number(line: &mut Line, value: i64)
+    requires { length line.old + 20 ≤ LINE_BYTES }
+    ensures value { line.new ≡ line.old ++ signed_decimal value }
+    ensures room { length line.new ≤ length line.old + 20 }
+{
+    line.number(i128::from(value));
+}
+
+/// Appends a number of millionths.
+pub fn put_millionths(line: &mut Line, value: i64)
+    requires { length line.old + 23 ≤ LINE_BYTES }
+    ensures value { line.new ≡ line.old ++ millionths_text value }
+    ensures room { length line.new ≤ length line.old + 23 }
+{
+    line.millionths(i128::from(value));
+}
+
+/// Appends a number of millionths that may be wider than 64 bits.
+pub fn put_wide_millionths(line: &mut Line, value: i128)
+    requires { length line.old + 41 ≤ LINE_BYTES }
+    ensures value { line.new ≡ line.old ++ millionths_text value }
+    ensures room { length line.new ≤ length line.old + 41 }
+{
+    line.millionths(value);
+}

@@ -1,0 +1,96 @@
+//! How a run ends.
+ghost use Rattle.std.specs.Prelude.{◌≡◌};
+ghost use Rattle.acas_command.specs.Answers.{ended};
+ghost use Rattle.acas_command.specs.Codes.{code_of};
+
+use acas_accept::TableRefusal;
+use acas_model::ModelFault;
+use std::alloc::AllocError;
+
+/// A file that a command reads, by what the command reads it as.
+#[derive(Clone, Copy, Debug, PartialEq, Eq)]
+pub enum FileRole {
+    Model,
+    Table,
+}
+
+/// Why a run ended.
+#[derive(Debug, Drop)]
+pub enum Cause {
+    /// The whole output is out.
+    Done,
+    /// The words are no form of a command.
+    Words,
+    /// A file that the command reads is not there.
+    Absent(FileRole),
+    /// The model's file is no model: the first rule that it fails.
+    Model(ModelFault),
+    /// The table's file is no accepted table of the model: the first field or entry that is not as it is to be.
+    Table(TableRefusal),
+    /// A call on the folder failed.
+    Folder,
+    /// A call on the output failed.
+    Output,
+    /// A text file has more than 1,000,000 bytes.
+    TooLong(FileRole),
+    /// Memory was refused.
+    Memory,
+}
+
+/// The end of a run: its cause, and the exit code that goes with it.
+#[derive(Debug, Drop)]
+pub struct Status {
+    pub code: u8,
+    pub cause: Cause,
+}
+
+impl From<AllocError> for Cause {
+    ghost use Rattle.std.specs.Prelude.{◌≡◌};
+    ghost use Rattle.acas_command.specs.declared.status.Cause.TheVariants.{Memory};
+
+    ghost from_gives = { λ _ e. e ≡ Memory };
+
+    fn from(_: AllocError) -> Cause {
+        Cause::Memory
+    }
+}
+
+/// The cause that a command ended with.
+pub fn cause_of(answer: Result<(), Cause>) -> Cause
+    ensures { result ≡ ended answer }
+{
+    match answer {
+        Ok(()) => Cause::Done,
+        Err(cause) => cause,
+    }
+}
+
+/// The counters of one run. There are none yet.
+#[derive(Debug, Drop)]
+pub struct Work {}
+
+impl Work {
+    /// The counters at the start of a run.
+    pub fn new() -> Work {
+        Work {}
+    }
+}
+
+impl Cause {
+    /// The exit code.
+    pub fn code(&self) -> u8
+        ensures { result ≡ code_of self.now }
+    {
+        match self {
+            Cause::Done => 0,
+            Cause::Words => 2,
+            Cause::Absent(_) => 3,
+            Cause::Model(_) => 4,
+            Cause::Table(_) => 5,
+            Cause::Folder => 7,
+            Cause::Output => 8,
+            Cause::TooLong(_) => 9,
+            Cause::Memory => 12,
+        }
+    }
+}

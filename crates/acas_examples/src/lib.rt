@@ -1,0 +1,23 @@
+//! The definitions of the decision process at small models, by numbers that were worked out by hand. The models stand in specs/.
+//! The functions here do nothing: each clause is an example.
+#![tactic(auto)]
+
+mod cells;
+mod costs;
+mod limits;
+mod models;
+mod seconds;
+mod soundness;
+mod values;
+
+pub use cells::{axes_rise, cells_begin_at_their_numbers};
+pub use costs::{evading_costs_are_exact, noisy_costs_are_exact, switching_costs_are_exact};
+pub use limits::{
+    advisories_have_limits, choices_have_limits, models_have_limits, sigma_points_have_limits,
+};
+pub use models::{entries_end_at_the_horizon, examples_are_models};
+pub use seconds::{a_second_leads_a_third_up, commands_are_worked_out};
+pub use soundness::{ends_are_sound_or_not, entries_are_sound_or_not};
+pub use values::{
+    contact_ends_at_the_edge, entries_are_worked_out, noisy_values_are_rounded_twice,
+};

@@ -1,9 +1,0 @@
-use Rattle.std.proofs.Common.{◌^◌, arith}
-use Rattle.acas_frac.proofs.Bounds.{HasSize, difference_stays}
-use Rattle.acas_frac.proofs.tests.difference.Goals as goal
-
-pub sub-requires : goal.sub-requires
-sub-requires c =
-    let a : HasSize (10 ^ 12) (10 ^ 6) c.args.a.now = record { some = omega arith; num = omega arith; den = omega arith } in
-    let b : HasSize (10 ^ 12) (10 ^ 6) c.args.b.now = record { some = omega arith; num = omega arith; den = omega arith } in
-    difference_stays c.args.a.now c.args.b.now (10 ^ 12) (10 ^ 6) (10 ^ 12) (10 ^ 6) a b (omega arith) (omega arith)

@@ -1,9 +1,0 @@
-use Rattle.std.proofs.Common.{length, map}
-use Rattle.toml.specs.View.{view}
-use Rattle.acas_model.specs.Axes as rules
-use Rattle.acas_spec.proofs.Each.{Goes}
-use Rattle.acas_model.proofs.axes.scaled_items.Given as goal
-
-abbrev pub invariant-loop-place : goal.invariant-loop-place
-invariant-loop-place l =
-    Goes (λ before d. rules.scaled_item l.path l.scale (length before) d) l.values.items l.place (map view l.items) (rules.scaled_items l.path l.scale (map view l.items))

@@ -1,0 +1,53 @@
+//! Bytes that are appended to a sink, over short writes.
+ghost use Rattle.std.specs.Prelude.{◌++◌, IsErr, OnOk, OnErr};
+ghost use Rattle.acas_outside.specs.Bytes.{Appends, AppendsPart, joined};
+ghost use Rattle.acas_outside.specs.Frame.{Emits};
+
+use crate::sink::{Failed, Sink};
+
+/// Appends all bytes to a sink, over short writes. Where it fails, it has appended a proper prefix of them.
+pub fn emit<S: Sink>(sink: &mut S, bytes: &[u8]) -> Result<(), Failed>
+    ensures ok { OnOk result (Appends (S.written sink.old) (S.written sink.new) bytes.now) }
+    ensures err { OnErr result (AppendsPart (S.written sink.old) (S.written sink.new) bytes.now) }
+    ensures frame { Emits S.Sink sink.old sink.new (IsErr result) }
+{
+    let mut at = 0;
+    while at < bytes.len() {
+        let count = sink.write(&bytes[at..])?;
+        if count == 0 {
+            return Err(Failed);
+        }
+        at += count;
+    }
+    Ok(())
+}
+
+/// Appends all bytes of several parts, one part after another. Where it fails, it has appended a proper prefix of
+/// them.
+pub fn emit_parts<S: Sink>(sink: &mut S, parts: &[&[u8]]) -> Result<(), Failed>
+    ensures ok { OnOk result (Appends (S.written sink.old) (S.written sink.new) (joined parts.now)) }
+    ensures err { OnErr result (AppendsPart (S.written sink.old) (S.written sink.new) (joined parts.now)) }
+    ensures frame { Emits S.Sink sink.old sink.new (IsErr result) }
+{
+    for part in parts {
+        emit(sink, part)?;
+    }
+    Ok(())
+}
+
+/// Appends all bytes of four parts, which may be borrowed from four places.
+pub fn emit_four<'p, S: Sink>(
+    sink: &mut S,
+    first: &'p [u8],
+    second: &'p [u8],
+    third: &'p [u8],
+    fourth: &'p [u8],
+) -> Result<(), Failed>
+    ensures ok { let all = first.now ++ second.now ++ third.now ++ fourth.now in
+        OnOk result (Appends (S.written sink.old) (S.written sink.new) all) }
+    ensures err { let all = first.now ++ second.now ++ third.now ++ fourth.now in
+        OnErr result (AppendsPart (S.written sink.old) (S.written sink.new) all) }
+    ensures frame { Emits S.Sink sink.old sink.new (IsErr result) }
+{
+    emit_parts(sink, &[first, second, third, fourth])
+}

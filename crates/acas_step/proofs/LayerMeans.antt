@@ -1,0 +1,32 @@
+-- Means of a layer that is a table's, by number and by vertex, and lists of pairs of which one more is written.
+use Rattle.std.proofs.Common.{◌≡◌, ℕ, ◌<◌, List, ◌∙◌}
+use Rattle.acas_spec.specs.Model.{ModelData, states}
+use Rattle.acas_spec.specs.Table.{Table}
+use Rattle.acas_spec.specs.declared.place.Vertex.{Vertex}
+use Rattle.acas_frac.specs.Rounding.{down, up}
+use Rattle.acas_grid.specs.States.{state_present, state_vertex}
+use Rattle.acas_grid.proofs.StateNumbers.{state_present-below}
+use Rattle.acas_units.specs.declared.pair.Pair.{Pair}
+use Rattle.acas_process.specs.Bounds.{mean_value}
+use Rattle.acas_process.proofs.SameLaws.{mean_same}
+use Rattle.acas_step.specs.Layer.{AreValuesOf, layer_values, pair_at}
+use Rattle.acas_step.specs.Means.{AreMeansAt, AreMeansOf}
+use Rattle.acas_step.specs.declared.layer.Side.TheVariants.{Lower, Upper}
+use Rattle.acas_step.proofs.NumberedStates.{layer_values-is}
+
+-- a mean of the values of a table's layer is that of the layer
+pub upper_mean-is : (m : ModelData) (t : Table) (n : ℕ) (pairs : List Pair) (x : Vertex) (a : ℕ) → a < m.grid.advisories → AreValuesOf m t n pairs
+    → mean_value up m (layer_values Upper m.grid pairs) x a ≡ mean_value up m (t.upper n) x a
+upper_mean-is m t n pairs x a known are = mean_same up m (layer_values Upper m.grid pairs) (t.upper n) x a (λ y inside. layer_values-is m.grid Upper pairs (t.upper n) are.upper a y known inside)
+
+pub lower_mean-is : (m : ModelData) (t : Table) (n : ℕ) (pairs : List Pair) (x : Vertex) (a : ℕ) → a < m.grid.advisories → AreValuesOf m t n pairs
+    → mean_value down m (layer_values Lower m.grid pairs) x a ≡ mean_value down m (t.lower n) x a
+lower_mean-is m t n pairs x a known are = mean_same down m (layer_values Lower m.grid pairs) (t.lower n) x a (λ y inside. layer_values-is m.grid Lower pairs (t.lower n) are.lower a y known inside)
+
+-- the means of all states, written one after the other, are those of a table's layer
+pub means_written : (m : ModelData) (below means : List Pair) → ((s : ℕ) → s < states m.grid → AreMeansAt m below (state_vertex m.grid s) (state_present m.grid s) (pair_at means s))
+    → (t : Table) (n : ℕ) → AreValuesOf m t n below → AreMeansOf m t n means
+means_written m below means are t n values = record {
+  upper = λ s here. (are s here).upper ∙ upper_mean-is m t n below (state_vertex m.grid s) (state_present m.grid s) (state_present-below m.grid s here) values;
+  lower = λ s here. (are s here).lower ∙ lower_mean-is m t n below (state_vertex m.grid s) (state_present m.grid s) (state_present-below m.grid s here) values;
+}

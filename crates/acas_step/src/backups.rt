@@ -1,0 +1,94 @@
+//! The value of a choice, and how many upper ones were formed. One such value is a backup of dynamic programming, as in ATC-371
+//! (Kochenderfer and Chryssanthacopoulos, MIT Lincoln Laboratory, 2011).
+ghost use Rattle.std.specs.Prelude.{◌≡◌, ℕ, ◌+◌, ◌*◌, ◌<◌, ◌≤◌, ◌^◌, ◌+ℤ◌, length, unsigned_abs};
+ghost use Rattle.acas_spec.specs.Model.{states, vertices};
+ghost use Rattle.acas_grid.specs.States as numbers;
+ghost use Rattle.acas_process.specs.Bounds.{millionths};
+ghost use Rattle.acas_step.specs.Layer.{AreWithin, layer_values};
+ghost use Rattle.acas_step.specs.Values.{counted, value_with_cost};
+
+use crate::choices::with_cost;
+use crate::layer::Side;
+use crate::values::mean;
+use acas_base::Model;
+use acas_frac::Rounding;
+use acas_spec::Choice;
+use acas_units::Pair;
+
+/// Counts the backups of upper values. It starts at 0, contracts see it as its count, and only the call that forms the upper value
+/// of a choice raises it.
+#[derive(Debug, Drop)]
+pub struct Backups {
+    count: u64,
+}
+
+impl std::marker::Model for Backups {
+    ghost use Rattle.std.specs.Prelude.{ℕ};
+
+    ghost Value = { ℕ };
+
+    ghost view = { λ b. b.count };
+}
+
+impl Backups {
+    /// A counter at 0.
+    pub fn new() -> Backups
+        ensures { result ≡ 0 }
+    {
+        Backups { count: 0 }
+    }
+
+    /// How many backups were counted.
+    pub fn count(&self) -> u64
+        ensures { result ≡ self.now }
+    {
+        self.count
+    }
+
+    // Counts one backup.
+    fn add_one(&mut self)
+        requires { self.old + 1 < 2 ^ 64 }
+        ensures { self.new ≡ self.old + 1 }
+    {
+        self.count += 1;
+    }
+}
+
+/// The value of a choice by the mean under its advisory, in millionths: its action value. It counts one backup for the upper side
+/// and none for the lower.
+pub fn value_of_choice(mean: i64, choice: &Choice, side: Side, count: &mut Backups) -> i128
+    requires { count.old + counted side < 2 ^ 64 }
+    ensures value { result ≡ mean +ℤ millionths choice.now.cost }
+    ensures count { count.new ≡ count.old + counted side }
+{
+    if side == Side::Upper {
+        count.add_one();
+    }
+    with_cost(mean, choice.cost)
+}
+
+/// The value of a choice at a vertex by the layer below, in millionths, whose pairs stand in the order of the states' numbers.
+/// It counts one backup for the upper side and none for the lower.
+pub fn backup<R: Rounding>(
+    model: &Model,
+    vertex: u32,
+    choice: &Choice,
+    side: Side,
+    below: &[Pair],
+    count: &mut Backups,
+) -> i128
+    requires vertex { vertex < vertices model.now.grid }
+    requires advisory { choice.now.advisory < model.now.grid.advisories }
+    requires below { length below.now ≡ states model.now.grid }
+    requires count { count.old + counted side < 2 ^ 64 }
+    ensures value { let x = numbers.vertex_at model.now.grid vertex in
+        result ≡ value_with_cost R.round model.now (layer_values side model.now.grid below.now) x choice.now }
+
+    // It is at most the cost of the choice larger than the largest value below.
+    ensures bounded { (most : ℕ) → AreWithin most side below.now
+        → unsigned_abs result ≤ most + 1_000_000 * unsigned_abs choice.now.cost }
+    ensures count { count.new ≡ count.old + counted side }
+{
+    let mean = mean::<R>(model, vertex, choice.advisory, side, below);
+    value_of_choice(mean, choice, side, count)
+}

@@ -1,0 +1,5 @@
+mod Names
+mod TableLines
+mod CompiledLayers
+mod StoredLayers
+pub mod Worth

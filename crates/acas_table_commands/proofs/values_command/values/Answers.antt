@@ -1,0 +1,33 @@
+use Rattle.std.proofs.Common.{refl, ◌∙◌}
+use Rattle.std.proofs.lemmas.Result.{err_from_is_err_and}
+use Rattle.acas_outside.specs.Outside.{Outside, outside}
+use Rattle.acas_command.specs.Outcome.{prints}
+use Rattle.acas_command.proofs.Behind.{answers-done, answers-output, told-kept}
+use Rattle.acas_command.proofs.Files.{called-model}
+use Rattle.acas_table_commands.specs.Calls.{CallsForValues}
+use Rattle.acas_table_commands.specs.ValuesText.{values_text}
+use Rattle.acas_table_commands.proofs.Worth.{rest_of_values}
+use Rattle.acas_table_commands.proofs.values_command.values.Goals as goal
+
+pub returns-in_err-found-clause-answers : goal.returns-in_err-found-clause-answers
+returns-in_err-found-clause-answers g c =
+    let p = err_from_is_err_and c.from_residual.result c.from_residual.ensures.1 in
+    rw (p.1, p.2) (c.in_err-found.ensures.err (λ files digest m. rest_of_values digest m) _ _)
+
+pub returns-in-Ok-clause-answers : goal.returns-in-Ok-clause-answers
+returns-in-Ok-clause-answers g c =
+    let m = c.in_ok-found.found.model in
+    let before : Outside = outside g.F.Folder g.O.Sink c.args.folder.now c.args.out.now in
+    let after : Outside = outside g.F.Folder g.O.Sink c.read_model_file.new.folder c.print_table.new.out in
+    answers-done (CallsForValues c.args.model.now) (prints (values_text m)) before after
+    (called-model before.holds c.args.model.now c.in_ok-found.found.digest m (λ files digest n. rest_of_values digest n) c.in_ok-found.ensures.ok) refl
+    (told-kept before.holds after.holds c.read_model_file.ensures.frame.holds) c.in-Ok.ensures.ok
+
+pub returns-clause-answers : goal.returns-clause-answers
+returns-clause-answers g c =
+    let m = c.in_ok-found.found.model in
+    let before : Outside = outside g.F.Folder g.O.Sink c.args.folder.now c.args.out.now in
+    let after : Outside = outside g.F.Folder g.O.Sink c.read_model_file.new.folder c.print_table.new.out in
+    answers-output (CallsForValues c.args.model.now) (prints (values_text m)) before after
+    (called-model before.holds c.args.model.now c.in_ok-found.found.digest m (λ files digest n. rest_of_values digest n) c.in_ok-found.ensures.ok) tt
+    (told-kept before.holds after.holds c.read_model_file.ensures.frame.holds) c.in-Err.ensures.err (c.in-Err.ensures.frame.fault refl)

@@ -1,0 +1,32 @@
+-- What each command on tables calls for, by the files of the folder.
+use Rattle.std.specs.Prelude.{◌≡◌, ℕ, List, Option}
+use Rattle.std.specs.FinMap.{get}
+use Rattle.acas_outside.specs.Files.{Files}
+use Rattle.acas_command.specs.Calls.{with_model, with_table}
+use Rattle.acas_command.specs.Outcome.{Outcome, prints, stores}
+use Rattle.acas_table_commands.specs.AcceptedLine.{accepted_line}
+use Rattle.acas_table_commands.specs.CompiledLine.{compiled_line}
+use Rattle.acas_table_commands.specs.TableFile.{compiled_text}
+use Rattle.acas_table_commands.specs.ValuesText.{values_text}
+
+-- `values M` prints the compiled table of the model
+abbrev pub values_of : Option (List ℕ) → Outcome
+values_of file = with_model file (λ digest model. prints (values_text model))
+
+-- `compile M T` stores the text of the compiled table of the model, and prints how large it is
+abbrev pub compile_of : Option (List ℕ) → List ℕ → Outcome
+compile_of file name = with_model file (λ digest model. stores name (compiled_text digest model) (compiled_line model.grid))
+
+-- `check M T` prints how large the accepted table is
+abbrev pub check_of : Option (List ℕ) → Option (List ℕ) → Outcome
+check_of file table = with_model file (λ digest model. with_table model digest table (λ bytes. prints (accepted_line model.grid)))
+
+-- the same, by the names of the files
+abbrev pub CallsForValues : List ℕ → Files → Outcome → Type 0
+CallsForValues model files outcome = outcome ≡ values_of (get files model)
+
+abbrev pub CallsForCompile : List ℕ → List ℕ → Files → Outcome → Type 0
+CallsForCompile model table files outcome = outcome ≡ compile_of (get files model) table
+
+abbrev pub CallsForCheck : List ℕ → List ℕ → Files → Outcome → Type 0
+CallsForCheck model table files outcome = outcome ≡ check_of (get files model) (get files table)

@@ -1,0 +1,6 @@
+pub mod ValuesText
+pub mod CompiledLine
+pub mod AcceptedLine
+pub mod TableFile
+pub mod Calls
+pub mod Worth

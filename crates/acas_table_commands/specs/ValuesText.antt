@@ -1,0 +1,58 @@
+-- The lines of `values`.
+use Rattle.std.specs.Prelude.{ℕ, zero, suc, ◌+◌, ℤ, pos, int_div, List, [], ◌∷◌, ◌++◌}
+use Rattle.std.specs.Fmt.{decimal, signed_decimal}
+use Rattle.acas_units.specs.declared.ticks.TheConstants.{TICKS_PER_FOOT}
+use Rattle.acas_spec.specs.Axis.{place_value}
+use Rattle.acas_spec.specs.Model.{ModelData, advisory_at, states}
+use Rattle.acas_units.specs.Printed.{millionths_text}
+use Rattle.acas_print.specs.Printing.{below}
+use Rattle.acas_grid.specs.States.{state_present, state_vertex}
+use Rattle.acas_spec.specs.declared.place.Vertex.{Vertex}
+use Rattle.acas_spec.specs.Table.{Table}
+use Rattle.acas_process.specs.Compiled.{compiled}
+
+-- ticks in whole feet
+abbrev pub feet : ℤ → ℤ
+feet ticks = int_div ticks (pos TICKS_PER_FOOT)
+
+-- a field and the space behind it
+unfoldable pub field : List ℕ → List ℕ
+field text = text ++ 32 ∷ []
+
+-- the advice by name; with no second to go there is none
+unfoldable pub advice_text : ModelData → ℕ → ℕ → List ℕ
+advice_text m zero advice = 45 ∷ []
+advice_text m (suc n) advice = (advisory_at m advice).name
+
+-- the line of an entry: seconds to go, present advisory, altitude in feet, own rate, intruder rate, lower value, upper value, advice
+unfoldable pub entry_line : ModelData → ℕ → ℕ → Vertex → ℤ → ℤ → ℕ → List ℕ
+entry_line m n p x lower upper advice =
+    field (decimal n)
+    ++ field (advisory_at m p).name
+    ++ field (signed_decimal (feet (place_value m.grid.h x.i)))
+    ++ field (signed_decimal (place_value m.grid.v0 x.j))
+    ++ field (signed_decimal (place_value m.grid.v1 x.k))
+    ++ field (millionths_text lower)
+    ++ field (millionths_text upper)
+    ++ advice_text m n advice
+    ++ 10 ∷ []
+
+-- the line of a table's entry
+abbrev pub table_line : ModelData → Table → ℕ → ℕ → Vertex → List ℕ
+table_line m t n p x = entry_line m n p x (t.lower n p x) (t.upper n p x) (t.advice n p x)
+
+-- the line of a state by its number
+abbrev pub state_line : ModelData → Table → ℕ → ℕ → List ℕ
+state_line m t n state = table_line m t n (state_present m.grid state) (state_vertex m.grid state)
+
+-- the lines of all states with n seconds to go
+abbrev pub layer_lines : ModelData → Table → ℕ → List ℕ
+layer_lines m t n = below (states m.grid) (state_line m t n)
+
+-- all lines of a table, from layer 0 to the horizon
+abbrev pub table_lines : ModelData → Table → List ℕ
+table_lines m t = below (m.grid.horizon + 1) (layer_lines m t)
+
+-- what `values` prints for a model: the lines of its compiled table
+unfoldable pub values_text : ModelData → List ℕ
+values_text m = table_lines m (compiled m)

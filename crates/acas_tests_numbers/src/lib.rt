@@ -1,0 +1,14 @@
+//! Tests of numbers, of grids and of the outside: the public calls of `acas_units`, `acas_frac`, `acas_grid`, `acas_outside` and
+//! `acas_print`, with values worked out by hand.
+#![tactic(auto)]
+
+#[cfg(test)]
+mod fractions;
+#[cfg(test)]
+mod grids;
+#[cfg(test)]
+mod outside;
+#[cfg(test)]
+mod system;
+#[cfg(test)]
+mod units;

@@ -1,0 +1,182 @@
+//! One second of small models.
+use crate::models::{FOUR, NOISY, model_of};
+use acas_base::{Choice, Model};
+use acas_frac::{Down, Up};
+use acas_grid::{Point, state_vertex};
+use acas_step::{Backups, Corner, CornerSet, Side, backup, corners, mean, moved, terminal};
+use acas_units::Pair;
+use std::alloc::{AllocError, Global};
+use std::test::Fail;
+
+// Where a sigma point leads, if the numbers are those of a vertex, an advisory and a sigma point.
+fn moved_in(model: &Model, vertex: u32, advisory: u8, sigma: u32) -> Option<(i64, i64, i64)> {
+    let grid = model.grid();
+    if vertex < grid.vertices()
+        && u32::from(advisory) < grid.advisories
+        && (sigma as usize) < model.points().len()
+    {
+        let end = moved(model, vertex, advisory, sigma);
+        Some((end.h, end.v0, end.v1))
+    } else {
+        None
+    }
+}
+
+#[test]
+fn a_second_leads_to_points(rt: HostRuntime) -> Result<(), Fail> {
+    let noisy = model_of(rt.alloc(), NOISY).ok_or("a model")?;
+    let four = model_of(rt.alloc(), FOUR).ok_or("a model")?;
+    // a vertex, an advisory, a sigma point, and where it leads
+    let rows = [
+        (&noisy, 1, 0, 0, Some((1200, 0, 600))),
+        (&noisy, 5, 0, 0, Some((3600, 0, 600))),
+        (&noisy, 1, 0, 1, Some((1800, 0, 600))),
+        (&noisy, 1, 0, 2, Some((600, 0, 0))),
+        (&noisy, 3, 0, 0, Some((0, 600, 600))),
+        (&noisy, 4, 0, 2, Some((3000, 0, 0))),
+        (&noisy, 8, 0, 0, None),
+        (&noisy, 0, 2, 0, None),
+        (&noisy, 0, 0, 3, None),
+        // up and down by the pull, and by less to a rate
+        (&four, 13, 1, 0, Some((5520, 480, 3000))),
+        (&four, 15, 2, 0, Some((3480, 1020, 3000))),
+        (&four, 15, 1, 0, Some((3000, 1500, 3000))),
+        (&four, 14, 3, 0, Some((-2520, 1020, 0))),
+    ];
+    for (model, vertex, advisory, sigma, want) in rows {
+        let end = moved_in(model, vertex, advisory, sigma);
+        assert!(rt; end == want, "{vertex} {advisory} {sigma}");
+    }
+    Ok(())
+}
+
+// The corners of the cell that holds the nearest point of the grid.
+fn corners_near(model: &Model, h: i64, v0: i64, v1: i64) -> CornerSet {
+    corners(model, model.grid().clamp(Point { h, v0, v1 }))
+}
+
+#[test]
+fn points_have_corners(rt: HostRuntime) -> Result<(), Fail> {
+    let noisy = model_of(rt.alloc(), NOISY).ok_or("a model")?;
+    let four = model_of(rt.alloc(), FOUR).ok_or("a model")?;
+    let rows = [
+        (
+            corners_near(&noisy, 1200, 0, 600),
+            1_296_000_000,
+            [
+                (0, 0),
+                (1, 864_000_000),
+                (2, 0),
+                (3, 0),
+                (4, 0),
+                (5, 432_000_000),
+                (6, 0),
+                (7, 0),
+            ],
+        ),
+        // in the cell from vertex 7: a quarter up, a third on, half on
+        (
+            corners_near(&four, -60_300, 500, 1500),
+            80_400 * 1500 * 3000,
+            [
+                (6, 60_300 * 1000 * 1500),
+                (7, 60_300 * 1000 * 1500),
+                (8, 60_300 * 500 * 1500),
+                (9, 60_300 * 500 * 1500),
+                (12, 20_100 * 1000 * 1500),
+                (13, 20_100 * 1000 * 1500),
+                (14, 20_100 * 500 * 1500),
+                (15, 20_100 * 500 * 1500),
+            ],
+        ),
+    ];
+    for (found, total, weights) in rows {
+        assert_eq!(rt; found.total, total);
+        for (corner, (vertex, weight)) in found.corners.into_iter().zip(weights) {
+            assert_eq!(rt; corner, Corner { vertex, weight });
+        }
+    }
+    Ok(())
+}
+
+// The values with no second to go.
+fn last_layer(alloc: Global, model: &Model) -> Result<Vec<Pair>, AllocError> {
+    let mut pairs = Vec::new(alloc);
+    for state in 0..model.grid().states() {
+        let vertex = state_vertex(model.grid(), state);
+        let cost = 1_000_000 * terminal(model, model.grid().vertex_number(vertex));
+        pairs.push(Pair {
+            upper: cost,
+            lower: cost,
+        })?;
+    }
+    Ok(pairs)
+}
+
+// Both values of a choice, if it is one of the model's and the layer has the model's states.
+fn pair_of(
+    model: &Model,
+    vertex: u32,
+    choice: &Choice,
+    below: &[Pair],
+    count: &mut Backups,
+) -> Option<Pair> {
+    let grid = model.grid();
+    if vertex >= grid.vertices()
+        || u32::from(choice.advisory) >= grid.advisories
+        || choice.cost.unsigned_abs() > 1_000_000_000
+        || below.len() != grid.states() as usize
+        || count.count() > 1_000_000
+    {
+        return None;
+    }
+    let upper = backup::<Up>(model, vertex, choice, Side::Upper, below, count);
+    let lower = backup::<Down>(model, vertex, choice, Side::Lower, below, count);
+    Some(Pair {
+        upper: i64::try_from(upper).ok()?,
+        lower: i64::try_from(lower).ok()?,
+    })
+}
+
+// The means under an advisory, if the numbers are the model's.
+fn means_of(model: &Model, vertex: u32, advisory: u8, below: &[Pair]) -> Option<(i64, i64)> {
+    let grid = model.grid();
+    if vertex < grid.vertices()
+        && u32::from(advisory) < grid.advisories
+        && below.len() == grid.states() as usize
+    {
+        let upper = mean::<Up>(model, vertex, advisory, Side::Upper, below);
+        let lower = mean::<Down>(model, vertex, advisory, Side::Lower, below);
+        Some((upper, lower))
+    } else {
+        None
+    }
+}
+
+#[test]
+fn choices_have_values(rt: HostRuntime) -> Result<(), Fail> {
+    let four = model_of(rt.alloc(), FOUR).ok_or("a model")?;
+    let last = last_layer(rt.alloc(), &four)?;
+    let mut count = Backups::new();
+    // 50 of 670 ft up to contact of cost 5; from contact; past the lower end; a cost of -3
+    let rows = [
+        (7, 0, 0, Some((373_135, 373_134))),
+        (7, 0, 1, Some((1_373_135, 1_373_134))),
+        (12, 3, 1, Some((6_000_000, 6_000_000))),
+        (4, 0, -3, Some((-3_000_000, -3_000_000))),
+        (24, 0, 0, None),
+        (7, 4, 0, None),
+        (7, 0, 1_000_000_001, None),
+    ];
+    for (vertex, advisory, cost, want) in rows {
+        let choice = Choice { advisory, cost };
+        let pair = pair_of(&four, vertex, &choice, &last, &mut count);
+        assert!(rt; pair == want.map(|(upper, lower)| Pair { upper, lower }));
+    }
+    assert_eq!(rt; count.count(), 4);
+    // 54 of 670 ft up to contact, since the pilot descends by 480 ft/min
+    assert!(rt; means_of(&four, 7, 2, &last) == Some((402_986, 402_985)));
+    assert!(rt; means_of(&four, 7, 0, &last) == Some((373_135, 373_134)));
+    assert!(rt; means_of(&four, 24, 0, &last) == None);
+    Ok(())
+}

@@ -1,0 +1,8 @@
+//! Tests of texts: the public calls of `acas_doc`, `acas_model` and `acas_base`, with values worked out by hand. Which texts are
+//! no models, and why, is shown by `acas_cases`.
+#![tactic(auto)]
+
+#[cfg(test)]
+mod documents;
+#[cfg(test)]
+mod models;
