@@ -14,7 +14,7 @@ use Rattle.acas_accept.specs.Checking.{Begins, IsAnswer}
 use Rattle.acas_accept.specs.Faults.{answered}
 use Rattle.acas_accept.specs.Refusals.{entry_refusal, first_refusal}
 use Rattle.acas_accept.specs.declared.refusal.AcceptFault.{AcceptFault}
-use Rattle.acas_accept.specs.declared.refusal.TableRefusal.TheVariants.{Form}
+use Rattle.acas_table.specs.declared.refusal.TableRefusal.TheVariants.{Form}
 use Rattle.acas_accept.proofs.Firsts.{at_end, form_refusal, in_entry, in_header}
 
 -- ---- in the header

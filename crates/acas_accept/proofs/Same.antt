@@ -9,7 +9,7 @@ use Rattle.acas_frac.specs.Rounding.{down, up}
 use Rattle.acas_spec.specs.Table.{Table}
 use Rattle.acas_process.specs.Bounds.{IsSoundEntry, lower_value, upper_value}
 use Rattle.acas_process.specs.Cost.{IsEntry, MayChoose}
-use Rattle.acas_process.proofs.AcceptedLaws.{is_chosen}
+use Rattle.acas_process.proofs.ModelLaws.{is_chosen}
 use Rattle.acas_process.proofs.SameLaws.{choice_same}
 
 -- two tables have the same values and advices

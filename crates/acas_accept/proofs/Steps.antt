@@ -16,7 +16,7 @@ use Rattle.acas_step.specs.Entries.{IsStateEntry}
 use Rattle.acas_step.specs.Layer.{AreValuesOf, no_pair}
 use Rattle.acas_step.specs.Means.{AreMeansOf}
 use Rattle.acas_bounds.specs.Checks.{OfBelow, state_fault}
-use Rattle.acas_bounds.specs.declared.fault.BoundFault.{BoundFault}
+use Rattle.acas_spec.specs.declared.fault.BoundFault.{BoundFault}
 use Rattle.acas_bounds.proofs.Faults.{OfBelow-map}
 use Rattle.acas_table.specs.Faults.{entry_fault, first_below}
 use Rattle.acas_table.specs.Reader.{reader_state, Finishes, GivesEntry, HasRead}
@@ -33,7 +33,7 @@ use Rattle.acas_accept.specs.declared.check.TableCheck.{TableCheck}
 use Rattle.acas_accept.specs.Faults.{answered}
 use Rattle.acas_accept.specs.declared.refusal.AcceptFault.{AcceptFault}
 use Rattle.acas_accept.specs.declared.refusal.AcceptFault.TheVariants.{Refused}
-use Rattle.acas_accept.specs.declared.refusal.TableRefusal.TheVariants as refusals
+use Rattle.acas_table.specs.declared.refusal.TableRefusal.TheVariants as refusals
 use Rattle.acas_accept.proofs.Answered.{IsPast, entry_answered_as, entry_same, finish_answered_as, header_of}
 use Rattle.acas_accept.proofs.Firsts.{at_end, in_entry, sound_refusal}
 use Rattle.acas_accept.proofs.Given.{given-place}

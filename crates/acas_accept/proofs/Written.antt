@@ -10,7 +10,7 @@ use Rattle.acas_units.specs.declared.pair.Entry.{Entry}
 use Rattle.acas_spec.specs.Table.{Table}
 use Rattle.acas_process.specs.Bounds.{IsSound, IsSoundEntry}
 use Rattle.acas_process.specs.Cost.{IsEntry}
-use Rattle.acas_process.proofs.AcceptedLaws.{is_chosen}
+use Rattle.acas_process.proofs.ModelLaws.{is_chosen}
 use Rattle.acas_grid.specs.States.{state_present, state_vertex}
 use Rattle.acas_table.specs.Faults.{advice_fault, first_fault, unless}
 use Rattle.acas_table.specs.Layers.{layers_of, state_entry, table_text}

@@ -12,12 +12,12 @@ ghost use Rattle.acas_accept.specs.GivenTable.{entry_place};
 ghost use Rattle.acas_accept.specs.Checking.{Begins, HasAccepted, HasNoRefusal, IsAnswer, IsBeforeLayer, IsCheckOf, IsInLayer, with_advice};
 ghost use Rattle.acas_accept.specs.Faults.{IsAnswerable, answered};
 
-use crate::refusal::{AcceptFault, TableRefusal};
+use crate::refusal::AcceptFault;
 use acas_base::{Advices, Model};
 use acas_bounds::check_by_means;
 use acas_outside::Folder;
 use acas_step::fill_means;
-use acas_table::{TableFault, TableReader};
+use acas_table::{TableFault, TableReader, TableRefusal};
 use acas_units::{Entry, Pair};
 use std::alloc::{AllocError, Global};
 

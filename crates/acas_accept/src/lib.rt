@@ -7,9 +7,10 @@ mod laws;
 mod refusal;
 mod whole;
 
+pub use acas_table::TableRefusal;
 pub use laws::{
     accepted_tables_have_no_refusal, accepted_tables_have_two_sided_bounds,
     compiled_tables_are_accepted,
 };
-pub use refusal::{AcceptFault, TableRefusal};
+pub use refusal::AcceptFault;
 pub use whole::accept;

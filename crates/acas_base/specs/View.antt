@@ -9,7 +9,7 @@ use Rattle.acas_spec.specs.declared.parts.SigmaPoint.{SigmaPoint}
 use Rattle.acas_base.specs.declared.numbers.Numbers.{Numbers}
 use Rattle.acas_base.specs.declared.model.Model.TheInside.{Inside}
 
--- the model of these parts; its pilot follows an advisory at once
+-- the model of these parts
 abbrev pub model_with : GridData → Numbers → List Advisory → List (List Choice) → List SigmaPoint → ModelData
 model_with grid numbers advisories choices sigmas = record {
   grid = grid;
@@ -18,7 +18,7 @@ model_with grid numbers advisories choices sigmas = record {
   sigmas = sigmas;
   pull = numbers.pilot.pull;
   limit = numbers.pilot.limit;
-  delay = 0;
+  delay = numbers.pilot.delay;
   radius = numbers.puck.radius;
   half = numbers.puck.half;
   least_closing = numbers.closing.least;

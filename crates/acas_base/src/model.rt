@@ -107,6 +107,13 @@ impl Model {
         i64::from(self.numbers.pilot.limit)
     }
 
+    /// How long the pilot may hold the rate before following an advisory, in seconds.
+    pub fn delay(&self) -> i64
+        ensures { result ≡ pos self.now.delay }
+    {
+        i64::from(self.numbers.pilot.delay)
+    }
+
     /// The radius of the puck, in ft.
     pub fn radius(&self) -> i64
         ensures { result ≡ pos self.now.radius }

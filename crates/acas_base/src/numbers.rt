@@ -14,11 +14,13 @@ pub struct Closing {
     pub greatest: u32,
 }
 
-/// The least and the greatest acceleration of a pilot who follows an advisory, in ft/min per second.
+/// The least and the greatest acceleration of a pilot who follows an advisory, in ft/min per second, and how long the pilot
+/// may hold the rate before following, in seconds.
 #[derive(Clone, Copy, Debug)]
 pub struct Pilot {
     pub pull: u32,
     pub limit: u32,
+    pub delay: u32,
 }
 
 /// The puck, the closing speeds, the pilot and the cost of contact, in units.

@@ -6,7 +6,7 @@ use Rattle.std.proofs.lemmas.List.Recursion.{found_nowhere, or_at}
 use Rattle.acas_spec.specs.Model.{ModelData, choices_at}
 use Rattle.acas_spec.specs.declared.parts.Choice.{Choice}
 use Rattle.acas_process.specs.Cost.{MayChoose, advisories_of, cost_among}
-use Rattle.acas_process.proofs.AcceptedLaws.{place_of, test_same}
+use Rattle.acas_process.proofs.ModelLaws.{place_of, test_same}
 use Rattle.acas_process.proofs.Least.{Contains-cons, Contains-first}
 use Rattle.acas_step.specs.Choices.{no_choice}
 use Rattle.acas_bounds.specs.Means.{allowed_cost}

@@ -12,7 +12,7 @@ use Rattle.acas_spec.specs.Table.{Table}
 use Rattle.acas_process.specs.Bounds.{lower_value, mean_value, millionths, upper_value}
 use Rattle.acas_process.specs.Compiled.{least}
 use Rattle.acas_process.specs.Cost.{MayChoose, cost_of}
-use Rattle.acas_process.proofs.AcceptedLaws.{is_chosen}
+use Rattle.acas_process.proofs.ModelLaws.{is_chosen}
 use Rattle.acas_step.specs.Choices.{value_by_mean}
 use Rattle.acas_step.specs.Entries.{IsEntryOf}
 use Rattle.acas_step.specs.Layer.{AreValuesOf, layer_values}
@@ -24,8 +24,8 @@ use Rattle.acas_step.proofs.NumberedStates.{layer_values-is}
 use Rattle.acas_bounds.specs.Checks.{OfBelow, AnswersFault}
 use Rattle.acas_bounds.specs.Means.{allowed_cost, answer_of, choice_fault, fault_by_means}
 use Rattle.acas_bounds.specs.Sound.{bound_fault, is_allowed, values_fault}
-use Rattle.acas_bounds.specs.declared.fault.BoundFault.{BoundFault}
-use Rattle.acas_bounds.specs.declared.fault.BoundFault.TheVariants.{AdviceNotAllowed}
+use Rattle.acas_spec.specs.declared.fault.BoundFault.{BoundFault}
+use Rattle.acas_spec.specs.declared.fault.BoundFault.TheVariants.{AdviceNotAllowed}
 use Rattle.acas_bounds.proofs.Allowed.{is_allowed-is}
 
 -- at the vertex x, two functions of an advisory are the means of a table's layer with k seconds to go

@@ -7,8 +7,8 @@ use Rattle.acas_spec.specs.Table.{Table}
 use Rattle.acas_spec.specs.declared.place.Vertex.{Vertex}
 use Rattle.acas_bounds.specs.First.{AdvicePasses, IsFirstFault}
 use Rattle.acas_bounds.specs.Sound.{allowed_lower, bound_fault, is_allowed, needed_upper, values_fault}
-use Rattle.acas_bounds.specs.declared.fault.BoundFault.{BoundFault}
-use Rattle.acas_bounds.specs.declared.fault.BoundFault.TheVariants.{AdviceNotAllowed, UpperTooLow, LowerTooHigh}
+use Rattle.acas_spec.specs.declared.fault.BoundFault.{BoundFault}
+use Rattle.acas_spec.specs.declared.fault.BoundFault.TheVariants.{AdviceNotAllowed, UpperTooLow, LowerTooHigh}
 use Rattle.acas_bounds.proofs.Allowed.{is_allowed-is}
 use Rattle.acas_bounds.proofs.Sound.{le-of_lt, lt-false, lt-of_lt, lt-true}
 

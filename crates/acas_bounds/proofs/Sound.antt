@@ -8,8 +8,8 @@ use Rattle.acas_spec.specs.declared.place.Vertex.{Vertex}
 use Rattle.acas_process.specs.Bounds.{IsSoundEntry, lower_value}
 use Rattle.acas_process.proofs.Least.{le-least, least-le}
 use Rattle.acas_bounds.specs.Sound.{allowed_lower, bound_fault, is_allowed, needed_upper, values_fault}
-use Rattle.acas_bounds.specs.declared.fault.BoundFault.{BoundFault}
-use Rattle.acas_bounds.specs.declared.fault.BoundFault.TheVariants.{AdviceNotAllowed}
+use Rattle.acas_spec.specs.declared.fault.BoundFault.{BoundFault}
+use Rattle.acas_spec.specs.declared.fault.BoundFault.TheVariants.{AdviceNotAllowed}
 use Rattle.acas_bounds.proofs.Allowed.{is_allowed-is}
 
 pub lt-false : (x y : ℤ) → y ≤ℤ x → int_lt x y ≡ false

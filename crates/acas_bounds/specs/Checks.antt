@@ -5,7 +5,7 @@ use Rattle.acas_spec.specs.Table.{Table}
 use Rattle.acas_grid.specs.States.{state_present, state_vertex}
 use Rattle.acas_process.specs.Cost.{MayChoose}
 use Rattle.acas_bounds.specs.Sound.{bound_fault}
-use Rattle.acas_bounds.specs.declared.fault.BoundFault.{BoundFault}
+use Rattle.acas_spec.specs.declared.fault.BoundFault.{BoundFault}
 
 -- what holds of the layer below one with n seconds to go, where there is one
 abbrev pub OfBelow : (ℕ → Type 0) → ℕ → Type 0

@@ -5,8 +5,8 @@ use Rattle.acas_spec.specs.Table.{Table}
 use Rattle.acas_spec.specs.declared.place.Vertex.{Vertex}
 use Rattle.acas_process.specs.Cost.{MayChoose}
 use Rattle.acas_bounds.specs.Sound.{allowed_lower, needed_upper}
-use Rattle.acas_bounds.specs.declared.fault.BoundFault.{BoundFault}
-use Rattle.acas_bounds.specs.declared.fault.BoundFault.TheVariants.{AdviceNotAllowed, UpperTooLow, LowerTooHigh}
+use Rattle.acas_spec.specs.declared.fault.BoundFault.{BoundFault}
+use Rattle.acas_spec.specs.declared.fault.BoundFault.TheVariants.{AdviceNotAllowed, UpperTooLow, LowerTooHigh}
 
 -- with a second to go the advice may be chosen
 abbrev pub AdvicePasses : ModelData → Table → ℕ → ℕ → Vertex → Type 0

@@ -15,8 +15,8 @@ use Rattle.acas_step.specs.declared.layer.Side.TheVariants.{Upper, Lower}
 use Rattle.acas_bounds.specs.Sound.{is_allowed, values_fault}
 use Rattle.acas_bounds.specs.declared.below.Below.{Below}
 use Rattle.acas_bounds.specs.declared.below.Below.TheVariants.{Means, Values}
-use Rattle.acas_bounds.specs.declared.fault.BoundFault.{BoundFault}
-use Rattle.acas_bounds.specs.declared.fault.BoundFault.TheVariants.{AdviceNotAllowed}
+use Rattle.acas_spec.specs.declared.fault.BoundFault.{BoundFault}
+use Rattle.acas_spec.specs.declared.fault.BoundFault.TheVariants.{AdviceNotAllowed}
 
 -- the pairs of the layer below
 abbrev pub pairs_below : Below → List Pair

@@ -7,8 +7,8 @@ use Rattle.acas_spec.specs.declared.place.Vertex.{Vertex}
 use Rattle.acas_process.specs.Bounds.{lower_value, millionths, upper_value}
 use Rattle.acas_process.specs.Compiled.{least}
 use Rattle.acas_process.specs.Cost.{terminal_cost}
-use Rattle.acas_bounds.specs.declared.fault.BoundFault.{BoundFault}
-use Rattle.acas_bounds.specs.declared.fault.BoundFault.TheVariants.{AdviceNotAllowed, UpperTooLow, LowerTooHigh}
+use Rattle.acas_spec.specs.declared.fault.BoundFault.{BoundFault}
+use Rattle.acas_spec.specs.declared.fault.BoundFault.TheVariants.{AdviceNotAllowed, UpperTooLow, LowerTooHigh}
 
 -- the advisory a is in the list of choices where p is present
 abbrev pub is_allowed : ModelData → ℕ → ℕ → Bool

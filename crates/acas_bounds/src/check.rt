@@ -16,8 +16,8 @@ ghost use Rattle.acas_bounds.specs.Sound.{values_fault};
 
 use crate::below::{Below, upper_mean};
 use crate::choices::{cost_if_allowed, least_lower};
-use crate::fault::BoundFault;
 use acas_base::Model;
+use acas_spec::BoundFault;
 use acas_step::{terminal, with_cost};
 use acas_units::{Entry, Pair};
 

@@ -7,7 +7,7 @@ ghost use Rattle.acas_spec.specs.declared.place.Vertex.{Vertex};
 ghost use Rattle.acas_process.specs.Bounds.{IsSoundEntry};
 ghost use Rattle.acas_bounds.specs.First.{IsFirstFault};
 ghost use Rattle.acas_bounds.specs.Sound.{bound_fault};
-ghost use Rattle.acas_bounds.specs.declared.fault.BoundFault.{BoundFault};
+ghost use Rattle.acas_spec.specs.declared.fault.BoundFault.{BoundFault};
 
 /// An entry of a table, in whatever layer, has no fault exactly where it is sound.
 pub fn sound_entries_have_no_fault()

@@ -5,10 +5,9 @@
 mod below;
 mod check;
 mod choices;
-mod fault;
 mod laws;
 
+pub use acas_spec::BoundFault;
 pub use acas_step::fill_means;
 pub use check::{check_by_means, check_entry};
-pub use fault::BoundFault;
 pub use laws::{faults_are_first, sound_entries_have_no_fault};

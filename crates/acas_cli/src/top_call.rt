@@ -77,11 +77,11 @@ fn answer_and_report<F: Folder, O: Sink, E: Sink>(
     ensures error_output { E.faults err.old ≤ E.faults err.new }
 {
     let Some(command) = command_of(words) else {
-        report_words(words, err);
+        report_words(err);
         return Cause::Words;
     };
     let Ok(mut line) = Line::make(alloc) else {
-        report_memory(words, err);
+        report_memory(err);
         return Cause::Memory;
     };
     let cause = answer(alloc, &command, folder, out);

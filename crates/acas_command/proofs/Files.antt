@@ -4,8 +4,7 @@ use Rattle.std.specs.Prelude.{IfSome}
 use Rattle.std.specs.FinMap.{get}
 use Rattle.acas_spec.specs.Model.{ModelData}
 use Rattle.acas_outside.specs.Files.{Files, Given}
-use Rattle.acas_command.specs.AcceptedFile.{IsTableFile}
-use Rattle.acas_command.specs.Calls.{with_model, with_table}
+use Rattle.acas_command.specs.Calls.{with_model}
 use Rattle.acas_command.specs.ModelFile.{IsModelFile}
 use Rattle.acas_command.specs.Outcome.{Outcome}
 use Rattle.acas_command.proofs.Behind.{told-map}
@@ -14,15 +13,6 @@ use Rattle.acas_command.proofs.Behind.{told-map}
 pub called-model : (holds : Option Files) (name digest : List ℕ) (m : ModelData) (rest : Files → List ℕ → ModelData → Outcome) → Given holds name (λ file. IsModelFile file digest m)
     → IfSome holds (λ files. rest files digest m ≡ with_model (get files name) (rest files))
 called-model holds name digest m rest read = told-map holds _ _ (λ files is. sym (is (rest files))) read
-
-accepted-is : (m : ModelData) (digest : List ℕ) (file : Option (List ℕ)) (o : Outcome) → IsTableFile m digest file → with_table m digest file (λ bytes. o) ≡ o
-accepted-is m digest None o accepted = absurd accepted
-accepted-is m digest (Some bytes) o accepted = accepted (λ b. o)
-
--- behind the table's file, where nothing more is asked of its bytes
-pub called-table : (holds : Option Files) (name digest : List ℕ) (m : ModelData) (o : Outcome) → Given holds name (λ file. IsTableFile m digest file)
-    → IfSome holds (λ files. with_table m digest (get files name) (λ bytes. o) ≡ o)
-called-table holds name digest m o accepted = told-map holds _ _ (λ files is. accepted-is m digest (get files name) o is) accepted
 
 -- an outcome of what goes on behind the model's file is the command's
 pub to-model : (holds : Option Files) (name digest : List ℕ) (m : ModelData) (rest : Files → List ℕ → ModelData → Outcome) → Given holds name (λ file. IsModelFile file digest m)

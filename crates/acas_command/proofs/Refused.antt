@@ -6,12 +6,10 @@ use Rattle.acas_units.specs.declared.limits.TheConstants.{TEXT_BYTES}
 use Rattle.acas_spec.specs.Model.{ModelData}
 use Rattle.acas_model.specs.Whole.{model_of}
 use Rattle.acas_model.specs.declared.fault.ModelFault.{ModelFault}
-use Rattle.acas_accept.specs.Refusals.{first_refusal}
-use Rattle.acas_accept.specs.declared.refusal.TableRefusal.{TableRefusal}
 use Rattle.acas_outside.specs.Files.{Files}
 use Rattle.acas_outside.specs.Outside.{Outside}
 use Rattle.acas_command.specs.Answers.{Agrees, HasCause, MayPrint}
-use Rattle.acas_command.specs.Calls.{with_acceptance, with_model, with_reading, with_table}
+use Rattle.acas_command.specs.Calls.{with_model, with_reading}
 use Rattle.acas_command.specs.Outcome.{Outcome, refuses}
 use Rattle.acas_command.specs.Worth.{IsNotRefused}
 use Rattle.acas_command.specs.declared.status.Cause.{Cause}
@@ -78,29 +76,6 @@ behind-model (Some bytes) rest h =
 pub with_model-read : (bytes : List ℕ) (m : ModelData) (rest : List ℕ → ModelData → Outcome) → length bytes ≤ TEXT_BYTES → model_of bytes ≡ Ok m
     → with_model (Some bytes) rest ≡ rest (sha256 bytes) m
 with_model-read bytes m rest short read = rw (le-ltb TEXT_BYTES (length bytes) short, read) refl
-
--- a table that is not refused, and one that is
-pub behind-table : (m : ModelData) (digest : List ℕ) (file : Option (List ℕ)) (rest : List ℕ → Outcome) → MayPrint (with_table m digest file rest).cause
-    → (bytes : List ℕ) × (file ≡ Some bytes) × (first_refusal m digest bytes ≡ None)
-behind-table m digest None rest h = absurd h
-behind-table m digest (Some bytes) rest h = (bytes, refl, not_refused (first_refusal m digest bytes) (rest bytes) h)
-  where
-    not_refused : (o : Option TableRefusal) (rest : Outcome) → MayPrint (with_acceptance o rest).cause → o ≡ None
-    not_refused None rest h = refl
-    not_refused (Some refusal) rest h = absurd h
-
-pub rejected-table : (m : ModelData) (digest : List ℕ) (file : Option (List ℕ)) (rest : List ℕ → Outcome) (refusal : TableRefusal)
-    → ((bytes : List ℕ) → MayPrint (rest bytes).cause) → (with_table m digest file rest).cause ≡ Table refusal
-    → (bytes : List ℕ) × (file ≡ Some bytes) × (first_refusal m digest bytes ≡ Some refusal)
-rejected-table m digest None rest refusal prints h = absurd (cc h)
-rejected-table m digest (Some bytes) rest refusal prints h = (bytes, refl, refused (first_refusal m digest bytes) (rest bytes) (prints bytes) h)
-  where
-    refused : (o : Option TableRefusal) (rest : Outcome) → MayPrint rest.cause → (with_acceptance o rest).cause ≡ Table refusal → o ≡ Some refusal
-    refused None rest prints h = absurd (subst MayPrint h prints)
-    refused (Some other) rest prints h = cc h
-
-pub with_table-accepted : (m : ModelData) (digest bytes : List ℕ) (rest : List ℕ → Outcome) → first_refusal m digest bytes ≡ None → with_table m digest (Some bytes) rest ≡ rest bytes
-with_table-accepted m digest bytes rest none = rw none refl
 
 -- a command that is to be refused by nothing is not refused
 pub not_refused : (Called : Outcome → Type 0) (files : Files) (cause : Cause) (before after : Outside) → ((o : Outcome) → Called o → MayPrint o.cause)

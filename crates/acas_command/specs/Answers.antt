@@ -6,7 +6,7 @@ use Rattle.acas_outside.specs.Counts.{Rose, raised}
 use Rattle.acas_outside.specs.Files.{Files, StoresPart}
 use Rattle.acas_outside.specs.Outside.{Outside}
 use Rattle.acas_model.specs.declared.fault.ModelFault.TheVariants as faults
-use Rattle.acas_accept.specs.Faults.{IsOfBytes}
+use Rattle.acas_table.specs.Refusals.{IsOfBytes}
 use Rattle.acas_command.specs.Outcome.{Outcome, with_file}
 use Rattle.acas_command.specs.declared.status.Cause.{Cause}
 use Rattle.acas_command.specs.declared.status.Cause.TheVariants.{Done, Words, Absent, Model, Table, Folder, Output, TooLong, Memory}

@@ -5,12 +5,10 @@ use Rattle.acas_units.specs.declared.limits.TheConstants.{TEXT_BYTES}
 use Rattle.acas_spec.specs.Model.{ModelData}
 use Rattle.acas_model.specs.Whole.{model_of}
 use Rattle.acas_model.specs.declared.fault.ModelFault.{ModelFault}
-use Rattle.acas_accept.specs.Refusals.{first_refusal}
-use Rattle.acas_accept.specs.declared.refusal.TableRefusal.{TableRefusal}
 use Rattle.acas_command.specs.Outcome.{Outcome, refuses}
 use Rattle.acas_command.specs.declared.status.FileRole.{FileRole}
-use Rattle.acas_command.specs.declared.status.FileRole.TheVariants.{Model as ModelFile, Table as TableFile}
-use Rattle.acas_command.specs.declared.status.Cause.TheVariants.{Absent, Model, Table, TooLong}
+use Rattle.acas_command.specs.declared.status.FileRole.TheVariants.{Model as ModelFile}
+use Rattle.acas_command.specs.declared.status.Cause.TheVariants.{Absent, Model, TooLong}
 
 -- a text file is there and is not too long; the rest goes on with its bytes
 abbrev pub with_text : FileRole → Option (List ℕ) → (List ℕ → Outcome) → Outcome
@@ -25,13 +23,3 @@ with_reading (Err fault) rest = refuses (Model fault)
 -- the file is a model's text; the rest goes on with its digest and the model
 abbrev pub with_model : Option (List ℕ) → (List ℕ → ModelData → Outcome) → Outcome
 with_model file rest = with_text ModelFile file (λ bytes. with_reading (model_of bytes) (rest (sha256 bytes)))
-
--- a table is not refused
-abbrev pub with_acceptance : Option TableRefusal → Outcome → Outcome
-with_acceptance None rest = rest
-with_acceptance (Some refusal) rest = refuses (Table refusal)
-
--- the file is an accepted table of the model whose text has this digest; the rest goes on with its bytes
-abbrev pub with_table : ModelData → List ℕ → Option (List ℕ) → (List ℕ → Outcome) → Outcome
-with_table model digest None rest = refuses (Absent TableFile)
-with_table model digest (Some bytes) rest = with_acceptance (first_refusal model digest bytes) (rest bytes)

@@ -5,7 +5,6 @@ pub mod Answers
 pub mod Worth
 pub mod Outside
 pub mod ModelFile
-pub mod AcceptedFile
 pub mod FaultText
 pub mod RefusalText
 pub mod ErrorLine

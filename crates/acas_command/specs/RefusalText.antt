@@ -3,12 +3,12 @@ use Rattle.std.specs.Prelude.{ℕ, ℤ, List, ◌++◌, codes}
 use Rattle.std.specs.Fmt.{decimal}
 use Rattle.hex.specs.Hex.{encode_lower}
 use Rattle.acas_units.specs.Printed.{millionths_text}
-use Rattle.acas_bounds.specs.declared.fault.BoundFault.{BoundFault}
-use Rattle.acas_bounds.specs.declared.fault.BoundFault.TheVariants.{AdviceNotAllowed, UpperTooLow, LowerTooHigh}
+use Rattle.acas_spec.specs.declared.fault.BoundFault.{BoundFault}
+use Rattle.acas_spec.specs.declared.fault.BoundFault.TheVariants.{AdviceNotAllowed, UpperTooLow, LowerTooHigh}
 use Rattle.acas_table.specs.declared.fault.TableFault.{TableFault}
 use Rattle.acas_table.specs.declared.fault.TableFault.TheVariants as form
-use Rattle.acas_accept.specs.declared.refusal.TableRefusal.{TableRefusal}
-use Rattle.acas_accept.specs.declared.refusal.TableRefusal.TheVariants.{Form, Entry}
+use Rattle.acas_table.specs.declared.refusal.TableRefusal.{TableRefusal}
+use Rattle.acas_table.specs.declared.refusal.TableRefusal.TheVariants.{Form, Entry}
 
 -- two digests in lower case hexadecimal digits
 unfoldable pub model_text : List ℕ → List ℕ → List ℕ

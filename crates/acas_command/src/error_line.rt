@@ -1,5 +1,5 @@
 //! The line on the error output. Writing it takes no memory.
-ghost use Rattle.std.specs.Prelude.{◌≡◌, ◌≤◌, ◌++◌, ◌∷◌, [], IsErr, OnOk, OnErr, map, string_bytes, slice_index_or};
+ghost use Rattle.std.specs.Prelude.{◌≡◌, ◌≤◌, ◌++◌, ◌∷◌, [], ℕ, List, IsErr, OnOk, OnErr, map, string_bytes, slice_index_or};
 ghost use Rattle.acas_outside.specs.Bytes.{Appends, AppendsPart};
 ghost use Rattle.acas_outside.specs.Frame.{Emits};
 ghost use Rattle.acas_command.specs.ErrorLine.{Reports, name_of};
@@ -34,9 +34,9 @@ pub fn report<E: Sink>(words: &[String], cause: &Cause, line: &mut Line, err: &m
     }
 }
 
-/// Writes the line of words that are refused.
-pub fn report_words<E: Sink>(words: &[String], err: &mut E)
-    ensures line { Reports Words (map string_bytes words.now)
+/// Writes the line of words that are refused, whatever the words are.
+pub fn report_words<E: Sink>(err: &mut E)
+    ensures line { (words : List (List ℕ)) → Reports Words words
         (E.written err.old) (E.written err.new) (E.faults err.old) (E.faults err.new) }
     ensures faults { E.faults err.old ≤ E.faults err.new }
 {
@@ -46,9 +46,9 @@ pub fn report_words<E: Sink>(words: &[String], err: &mut E)
     }
 }
 
-/// Writes the line of a run that found no memory for a buffer.
-pub fn report_memory<E: Sink>(words: &[String], err: &mut E)
-    ensures line { Reports Memory (map string_bytes words.now)
+/// Writes the line of a run that found no memory for a buffer, whatever the words are.
+pub fn report_memory<E: Sink>(err: &mut E)
+    ensures line { (words : List (List ℕ)) → Reports Memory words
         (E.written err.old) (E.written err.new) (E.faults err.old) (E.faults err.new) }
     ensures faults { E.faults err.old ≤ E.faults err.new }
 {

@@ -1,7 +1,6 @@
 //! What all commands share: how a run ends, the line on the error output, the files of models and tables, and what they call for.
 #![tactic(auto)]
 
-mod accepted_file;
 mod error_line;
 mod fault_text;
 mod line_fields;
@@ -9,8 +8,7 @@ mod model_file;
 mod refusal_text;
 mod status;
 
-pub use acas_accept::TableRefusal;
-pub use accepted_file::read_table_file;
+pub use acas_table::TableRefusal;
 pub use error_line::{report, report_memory, report_words};
 pub use line_fields::{put_count, put_millionths, put_number, put_text, put_wide_millionths};
 pub use model_file::{ModelFile, read_model_file};

@@ -4,9 +4,8 @@ ghost use Rattle.hex.specs.Hex.{encode_lower};
 ghost use Rattle.acas_command.specs.RefusalText.{bound_text, byte_text, digest_text, form_text, length_text, lower_text, model_text, refusal_text, shape_text, state_text, upper_text};
 
 use crate::line_fields::{put_count, put_millionths, put_text, put_wide_millionths};
-use acas_accept::TableRefusal;
-use acas_bounds::BoundFault;
-use acas_table::TableFault;
+use acas_spec::BoundFault;
+use acas_table::{TableFault, TableRefusal};
 use acas_units::Line;
 
 /// Makes a line of what is printed of a refusal.

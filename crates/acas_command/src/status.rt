@@ -3,8 +3,8 @@ ghost use Rattle.std.specs.Prelude.{◌≡◌};
 ghost use Rattle.acas_command.specs.Answers.{ended};
 ghost use Rattle.acas_command.specs.Codes.{code_of};
 
-use acas_accept::TableRefusal;
 use acas_model::ModelFault;
+use acas_table::TableRefusal;
 use std::alloc::AllocError;
 
 /// A file that a command reads, by what the command reads it as.

@@ -146,7 +146,7 @@ closing_passes doc m says valid =
     ) refl
 
 abbrev pub pilot_in : ModelData → Pilot
-pilot_in m = record { pull = m.pull; limit = m.limit }
+pilot_in m = record { pull = m.pull; limit = m.limit; delay = 0 }
 
 pilot_passes : (doc : Members) (m : ModelData) → IsDocumentText m doc → IsModel m → pilot_of doc ≡ Ok (pilot_in m)
 unfolding pilot_of

@@ -118,6 +118,7 @@ pub record IsReadPilot (doc : Members) (p : Pilot) : Type 0 where
   pub is_table : IsTable doc (codes "pilot") (codes "pull limit") inner
   pub pull : IsNumber inner (codes "pull") LEAST_PULL GREATEST_LIMIT p.pull
   pub limit : IsNumber inner (codes "limit") p.pull GREATEST_LIMIT p.limit
+  pub no_delay : p.delay ≡ 0
 
 pub pilot_ok : (doc : Members) (p : Pilot) → pilot_of doc ≡ Ok p → IsReadPilot doc p
 unfolding pilot_of
@@ -125,13 +126,14 @@ pilot_ok doc p e =
     let b = bind_ok (closed_table doc (codes "pilot") (codes "pull limit")) _ p e in
     let l = bind_ok (number_at b.0 (codes "pilot") (codes "pull") LEAST_PULL GREATEST_LIMIT) _ p b.2 in
     let g = bind_ok (number_at b.0 (codes "pilot") (codes "limit") l.0 GREATEST_LIMIT) _ p l.2 in
-    let made : Pilot = record { pull = l.0; limit = g.0 } in
+    let made : Pilot = record { pull = l.0; limit = g.0; delay = 0 } in
     let same : made ≡ p = same_ok {E = ModelFault} _ _ g.2 in
     subst (IsReadPilot doc) same (record {
       inner = b.0;
       is_table = table_ok doc (codes "pilot") (codes "pull limit") b.0 b.1;
       pull = number_ok b.0 (codes "pilot") (codes "pull") LEAST_PULL GREATEST_LIMIT l.0 l.1;
       limit = number_ok b.0 (codes "pilot") (codes "limit") l.0 GREATEST_LIMIT g.0 g.1;
+      no_delay = refl;
     })
 
 pub record IsReadContact (doc : Members) (z : ℤ) : Type 0 where

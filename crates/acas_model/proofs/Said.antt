@@ -189,5 +189,5 @@ said bytes m e =
       toml = is_doc.toml;
       keys = document_says doc h.0 a.0 n.0 g.0 p.0 (keys_said doc k.0) (version_said doc v.0 v.1) seconds.holds axis number given sigma;
       within = within_limits doc h.0 a.0 n.0 g.0 p.0 seconds axis number given sigma (weights_ok p.0 w.0) (window_ok h.0 n.0.puck.radius n.0.closing.least t.0) (entries_ok (grid_from h.0 a.0 g.0) f.0);
-      no_delay = refl;
+      no_delay = number.pilot.no_delay;
     })

@@ -100,7 +100,7 @@ within_limits doc horizon axes numbers advised sigmas seconds axis number given 
   some_pull = number.pilot.pull.low;
   pull_within = number.pilot.limit.low;
   limit = number.pilot.limit.high;
-  delay = omega arith;
+  delay = omega (arith, number.pilot.no_delay);
   some_radius = number.puck.radius.low;
   radius = number.puck.radius.high;
   some_half = omega (arith, number.puck.half, number.puck.half_height.low);

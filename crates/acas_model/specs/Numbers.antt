@@ -36,13 +36,13 @@ closing_of doc = do
   greatest ← number_at closing (codes "closing") (codes "greatest") least GREATEST_CLOSING
   Ok (record { least = least; greatest = greatest })
 
--- the least acceleration of a pilot who follows an advisory, then the greatest, which is not below it
+-- the least acceleration of a pilot who follows an advisory, then the greatest, which is not below it; no file says a delay
 unfoldable pub pilot_of : Members → Result Pilot ModelFault
 pilot_of doc = do
   pilot ← closed_table doc (codes "pilot") (codes "pull limit")
   pull ← number_at pilot (codes "pilot") (codes "pull") LEAST_PULL GREATEST_LIMIT
   limit ← number_at pilot (codes "pilot") (codes "limit") pull GREATEST_LIMIT
-  Ok (record { pull = pull; limit = limit })
+  Ok (record { pull = pull; limit = limit; delay = 0 })
 
 -- the cost of contact, in units
 unfoldable pub contact_of : Members → Result ℤ ModelFault

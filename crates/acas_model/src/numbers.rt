@@ -88,7 +88,7 @@ fn closing_of(alloc: Global, document: &Table) -> Result<Closing, ModelFault>
     Ok(Closing { least, greatest })
 }
 
-/// What the table `pilot` says.
+/// What the table `pilot` says. It says no delay.
 #[tactic(auto, unfolding(crate::specs::Numbers::pilot_of))]
 fn pilot_of(alloc: Global, document: &Table) -> Result<Pilot, ModelFault>
     ensures { Gives (λ p. p) result (rules.pilot_of (table_view document.now)) }
@@ -96,7 +96,11 @@ fn pilot_of(alloc: Global, document: &Table) -> Result<Pilot, ModelFault>
     let pilot = closed_table(alloc, document, "pilot", "pull limit")?;
     let pull = number(alloc, pilot, b"pilot", "pull", LEAST_PULL, GREATEST_LIMIT)?;
     let limit = number(alloc, pilot, b"pilot", "limit", pull, GREATEST_LIMIT)?;
-    Ok(Pilot { pull, limit })
+    Ok(Pilot {
+        pull,
+        limit,
+        delay: 0,
+    })
 }
 
 /// The cost of contact, in the table `cost`.

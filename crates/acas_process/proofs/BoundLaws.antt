@@ -12,7 +12,7 @@ use Rattle.acas_spec.specs.Table.{Policy}
 use Rattle.acas_process.specs.Cost.{IsEntry, MayChoose, IsPolicy, cost_of, transition_total, terminal_cost, expected_cost}
 use Rattle.acas_spec.specs.Table.{Table}
 use Rattle.acas_process.specs.Bounds.{mean_value, HasTwoSidedBounds, IsSound}
-use Rattle.acas_process.proofs.AcceptedLaws.{is_chosen}
+use Rattle.acas_process.proofs.ModelLaws.{is_chosen}
 use Rattle.acas_process.proofs.MeanLaws.{spread, spread-le, spread-mul, transitions_spread, spread-le-mean, mean-le-spread}
 
 abbrev pub million : ℤ

@@ -7,7 +7,7 @@ use Rattle.acas_spec.specs.declared.place.Vertex.{Vertex}
 use Rattle.acas_frac.specs.Rounding.{down, up}
 use Rattle.acas_process.specs.Bounds.{choice_value, IsSoundEntry, IsSound, IsTight}
 use Rattle.acas_process.specs.Compiled.{first_least, compiled_values, compiled_advice, compiled}
-use Rattle.acas_process.proofs.AcceptedLaws.{is_chosen}
+use Rattle.acas_process.proofs.ModelLaws.{is_chosen}
 use Rattle.acas_process.proofs.Least.{first_least_is, least-le}
 use Rattle.acas_process.proofs.MeanLaws.{mean-le-mean}
 

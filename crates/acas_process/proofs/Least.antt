@@ -5,7 +5,7 @@ use Rattle.std.proofs.lemmas.Int.{ints, clamps, by_lt_z}
 use Rattle.acas_spec.specs.declared.parts.Choice.{Choice}
 use Rattle.acas_process.specs.Compiled.{first_least, least}
 use Rattle.acas_process.specs.Cost.{advisories_of}
-use Rattle.acas_process.proofs.AcceptedLaws.{listed, place_of}
+use Rattle.acas_process.proofs.ModelLaws.{listed, place_of}
 
 pub le-true : (x y : ℤ) → x ≤ℤ y → int_le x y ≡ true
 le-true x y h = grind (arith, ints)
@@ -115,18 +115,6 @@ first_least-drop f [] i d h = absurd (omega arith)
 first_least-drop f (c ∷ []) i d h = absurd (omega arith)
 first_least-drop f (c ∷ e ∷ rest) zero d h = refl
 first_least-drop f (c ∷ e ∷ rest) (suc i) d h = first_least-drop f (e ∷ rest) i d (omega arith)
-
-pub least-drop_last : (f : ℕ → ℤ) (cs : List Choice) (i : ℕ) (d : Choice) → i + 1 ≡ length cs → least f (drop i cs) ≡ f (get_or cs i d).advisory
-least-drop_last f [] i d h = absurd (omega arith)
-least-drop_last f (c ∷ []) zero d h = refl
-least-drop_last f (c ∷ e ∷ rest) zero d h = absurd (omega arith)
-least-drop_last f (c ∷ rest) (suc i) d h = least-drop_last f rest i d (omega arith)
-
-pub first_least-drop_last : (f : ℕ → ℤ) (cs : List Choice) (i : ℕ) (d : Choice) → i + 1 ≡ length cs → first_least f (drop i cs) ≡ (get_or cs i d).advisory
-first_least-drop_last f [] i d h = absurd (omega arith)
-first_least-drop_last f (c ∷ []) zero d h = refl
-first_least-drop_last f (c ∷ e ∷ rest) zero d h = absurd (omega arith)
-first_least-drop_last f (c ∷ rest) (suc i) d h = first_least-drop_last f rest i d (omega arith)
 
 -- the best of the choices from place i on
 pub record IsBestFrom (f : ℕ → ℤ) (cs : List Choice) (i : ℕ) (value : ℤ) (advisory : ℕ) : Type 0 where

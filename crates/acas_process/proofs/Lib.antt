@@ -1,5 +1,5 @@
 pub mod SumLaws
-pub mod AcceptedLaws
+pub mod ModelLaws
 pub mod Least
 pub mod AxisLaws
 pub mod VertexLaws

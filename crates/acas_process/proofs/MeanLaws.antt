@@ -18,7 +18,7 @@ use Rattle.acas_process.specs.Bounds.{mean_value}
 use Rattle.acas_process.proofs.SumLaws.{sum_below-same, sum_below-le, sum_below-mul, sum_below-add, sum_below-pos}
 use Rattle.acas_process.proofs.VertexLaws.{over_vertices-le, over_vertices-same, over_vertices-mul, over_vertices-add, over_vertices-swap, moved_shares_sum, weights_sum}
 use Rattle.acas_process.proofs.AxisLaws.{gap_product_pos}
-use Rattle.acas_process.proofs.AcceptedLaws.{total_weight_pos}
+use Rattle.acas_process.proofs.ModelLaws.{total_weight_pos}
 
 -- ---- a mean that is rounded twice, over plain numbers
 

@@ -12,7 +12,7 @@ use Rattle.acas_process.specs.Compiled.{compiled_values, first_least, least}
 use Rattle.acas_process.proofs.SumLaws.{sum_below-same}
 use Rattle.acas_process.proofs.VertexLaws.{over_vertices-same}
 use Rattle.acas_process.proofs.Least.{first_least-same, least-same}
-use Rattle.acas_process.proofs.AcceptedLaws.{is_chosen}
+use Rattle.acas_process.proofs.ModelLaws.{is_chosen}
 
 pub mean_same : (round : ℤ → ℤ → ℤ) (m : ModelData) (f g : Values) (x : Vertex) (a : ℕ) → ((y : Vertex) → IsVertex m.grid y → f a y ≡ g a y) → mean_value round m f x a ≡ mean_value round m g x a
 mean_same round m f g x a h =

@@ -8,9 +8,9 @@ use Rattle.acas_grid.specs.Grid.{IsVertex}
 use Rattle.acas_spec.proofs.Bounds.{unsigned_abs-between}
 use Rattle.acas_spec.specs.declared.place.Point.{Point}
 use Rattle.acas_spec.specs.declared.place.Vertex.{Vertex}
-use Rattle.acas_frac.specs.Rounding.{IsRounding, down, up}
-use Rattle.acas_frac.proofs.RoundingLaws.{down_greatest, down_is_floor, either, round_bounded, up_is_ceiling, up_least}
-use Rattle.acas_frac.proofs.SignedProducts.{le-from_mul_ℤ, mul_comm_ℤ, mul-neg_ℤ}
+use Rattle.acas_frac.specs.Rounding.{IsRounding}
+use Rattle.acas_frac.proofs.RoundingLaws.{round_bounded}
+use Rattle.acas_frac.proofs.SignedProducts.{mul_comm_ℤ, mul-neg_ℤ}
 use Rattle.acas_process.specs.Sums.{sum_below}
 use Rattle.acas_process.specs.Step.{grid_product, moved, share, over_vertices, over_sigmas, sigma_weight}
 use Rattle.acas_process.specs.Cost.{cost_of, terminal_cost}
@@ -20,7 +20,7 @@ use Rattle.acas_process.specs.Compiled.{least, first_least, compiled_values}
 use Rattle.acas_process.proofs.SumLaws.{sum_below-same, sum_below-mul}
 use Rattle.acas_process.proofs.VertexLaws.{over_vertices-same, over_vertices-mul, moved_shares_sum, weights_sum}
 use Rattle.acas_process.proofs.MeanLaws.{shared, shared-le, weighted-le, grid_product_pos}
-use Rattle.acas_process.proofs.AcceptedLaws.{is_chosen, total_weight_pos}
+use Rattle.acas_process.proofs.ModelLaws.{is_chosen, total_weight_pos}
 use Rattle.acas_process.proofs.Least.{first_least_is}
 
 shared_const : (grid : GridData) (s : Point) (z : ℤ) → over_vertices grid (λ y. pos (share grid s y)) ≡ pos (grid_product grid) → shared grid s (λ y. z) ≡ pos (grid_product grid) *ℤ z
@@ -59,40 +59,6 @@ mean_bounded round way m below x a b v h =
     round_bounded round way (over_sigmas m (λ q. pos (sigma_weight m q) *ℤ interpolated round m below a (moved m x a q))) (total_weight m) b (total_weight_pos m v)
     (weighted_bounded (length m.sigmas) (λ q. sigma_weight m q) (λ q. interpolated round m below a (moved m x a q)) (total_weight m) b (weights_sum m)
     (λ q _. round_bounded round way (shared m.grid (moved m x a q) (below a)) (grid_product m.grid) b (grid_product_pos m.grid v.grid) (shared_bounded m.grid (moved m x a q) (below a) b (moved_shares_sum m x a q v.grid) h)))
-
-down-le : (a b : ℤ) (c : ℕ) → 0 < c → a ≤ℤ (pos c *ℤ b) → down a (pos c) ≤ℤ b
-down-le a b c some h = le-from_mul_ℤ c (down a (pos c)) b some (omega (arith, ints, h, (down_is_floor a c some).0))
-
-le-up : (a b : ℤ) (c : ℕ) → 0 < c → (pos c *ℤ b) ≤ℤ a → b ≤ℤ up a (pos c)
-le-up a b c some h = le-from_mul_ℤ c b (up a (pos c)) some (omega (arith, ints, h, (up_is_ceiling a c some).0))
-
-round-le : (a b : ℤ) (c : ℕ) → 0 < c → a ≤ℤ (pos c *ℤ b) → (round : ℤ → ℤ → ℤ) → IsRounding round → round a (pos c) ≤ℤ b
-round-le a b c some h = either (λ round. round a (pos c) ≤ℤ b) (down-le a b c some h) (up_least a c b some h)
-
-le-round : (a b : ℤ) (c : ℕ) → 0 < c → (pos c *ℤ b) ≤ℤ a → (round : ℤ → ℤ → ℤ) → IsRounding round → b ≤ℤ round a (pos c)
-le-round a b c some h = either (λ round. b ≤ℤ round a (pos c)) (down_greatest a c b some h) (le-up a b c some h)
-
--- a mean of values that are at most b is at most b
-pub mean-le : (round : ℤ → ℤ → ℤ) → IsRounding round → (m : ModelData) (below : Values) (x : Vertex) (a : ℕ) (b : ℤ) → IsModel m → ((y : Vertex) → IsVertex m.grid y → below a y ≤ℤ b) →
-    mean_value round m below x a ≤ℤ b
-mean-le round way m below x a b v h =
-    let at : ℕ → ℤ = λ q. interpolated round m below a (moved m x a q) in
-    let each : (q : ℕ) → q < length m.sigmas → at q ≤ℤ b = λ q _.
-    round-le (shared m.grid (moved m x a q) (below a)) b (grid_product m.grid) (grid_product_pos m.grid v.grid)
-    (subst (λ z. shared m.grid (moved m x a q) (below a) ≤ℤ z) (shared_const m.grid (moved m x a q) b (moved_shares_sum m x a q v.grid)) (shared-le m.grid (moved m x a q) (below a) (λ y. b) h)) round way in
-    round-le (over_sigmas m (λ q. pos (sigma_weight m q) *ℤ at q)) b (total_weight m) (total_weight_pos m v)
-    (subst (λ z. over_sigmas m (λ q. pos (sigma_weight m q) *ℤ at q) ≤ℤ z) (weighted_const (length m.sigmas) (λ q. sigma_weight m q) (total_weight m) b (weights_sum m)) (weighted-le (length m.sigmas) (λ q. sigma_weight m q) at (λ q. b) each)) round way
-
--- and one of values that are at least b is at least b
-pub le-mean : (round : ℤ → ℤ → ℤ) → IsRounding round → (m : ModelData) (below : Values) (x : Vertex) (a : ℕ) (b : ℤ) → IsModel m → ((y : Vertex) → IsVertex m.grid y → b ≤ℤ below a y) →
-    b ≤ℤ mean_value round m below x a
-le-mean round way m below x a b v h =
-    let at : ℕ → ℤ = λ q. interpolated round m below a (moved m x a q) in
-    let each : (q : ℕ) → q < length m.sigmas → b ≤ℤ at q = λ q _.
-    le-round (shared m.grid (moved m x a q) (below a)) b (grid_product m.grid) (grid_product_pos m.grid v.grid)
-    (subst (λ z. z ≤ℤ shared m.grid (moved m x a q) (below a)) (shared_const m.grid (moved m x a q) b (moved_shares_sum m x a q v.grid)) (shared-le m.grid (moved m x a q) (λ y. b) (below a) h)) round way in
-    le-round (over_sigmas m (λ q. pos (sigma_weight m q) *ℤ at q)) b (total_weight m) (total_weight_pos m v)
-    (subst (λ z. z ≤ℤ over_sigmas m (λ q. pos (sigma_weight m q) *ℤ at q)) (weighted_const (length m.sigmas) (λ q. sigma_weight m q) (total_weight m) b (weights_sum m)) (weighted-le (length m.sigmas) (λ q. sigma_weight m q) (λ q. b) at each)) round way
 
 unsigned_abs-cond : (b : Bool) (most : ℕ) (z : ℤ) → unsigned_abs z ≤ most → unsigned_abs (cond b z (pos 0)) ≤ most
 unsigned_abs-cond true most z h = h

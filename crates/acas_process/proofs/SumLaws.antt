@@ -35,11 +35,6 @@ pub sum_below-first : (n : ℕ) (f : ℕ → ℤ) → sum_below (suc n) f ≡ f 
 sum_below-first zero f = omega (arith, ints)
 sum_below-first (suc n) f = omega (arith, ints, sum_below-first n f)
 
--- the order of two sums is free
-pub sum_below-swap : (m n : ℕ) (f : ℕ → ℕ → ℤ) → sum_below m (λ i. sum_below n (λ j. f i j)) ≡ sum_below n (λ j. sum_below m (λ i. f i j))
-sum_below-swap zero n f = sym (sum_below-zero n)
-sum_below-swap (suc m) n f = ap (λ z. z +ℤ sum_below n (f m)) (sum_below-swap m n f) ∙ sym (sum_below-add n (λ j. sum_below m (λ i. f i j)) (f m))
-
 -- a sum whose terms are all 0
 none_before : (n : ℕ) (g : ℕ → ℤ) → ((i : ℕ) → i < n → g i ≡ pos 0) → sum_below n g ≡ pos 0
 none_before n g h = sum_below-same n g (λ i. pos 0) h ∙ sum_below-zero n

@@ -1,4 +1,4 @@
--- What holds of every accepted model: the limits of its numbers and what ties them.
+-- What holds of every model within its limits: the limits of its numbers and what ties them.
 use Rattle.std.specs.Prelude.{◌≡◌, ◌≢◌, ℕ, ◌+◌, ◌*◌, ◌<◌, ◌≤◌, nat_le, pos, ◌*ℤ◌, ◌≤ℤ◌, Bool, ◌&&◌, ◌||◌, ◌==◌, IsTrue, List, [], length, map, get_or}
 use Rattle.std.specs.List.{list_all}
 use Rattle.acas_units.specs.declared.limits.TheConstants.{
@@ -81,7 +81,7 @@ pub record IsSigma (p : SigmaPoint) : Type 0 where
   pub own : IsBetween LEAST_NOISE GREATEST_NOISE p.own
   pub intruder : IsBetween LEAST_NOISE GREATEST_NOISE p.intruder
 
--- a grid of an accepted model, with its altitudes in ticks
+-- a grid of a model within its limits, with its altitudes in ticks
 pub record IsGrid (g : GridData) : Type 0 where
   pub altitudes : IsAxis g.h
   pub own_rates : IsAxis g.v0
@@ -95,7 +95,7 @@ pub record IsGrid (g : GridData) : Type 0 where
   pub horizon : g.horizon ≤ GREATEST_HORIZON
   pub entries : entries g ≤ GREATEST_ENTRIES
 
--- an accepted model
+-- a model within its limits
 pub record IsModel (m : ModelData) : Type 0 where
   pub grid : IsGrid m.grid
   pub advisory_count : length m.advisories ≡ m.grid.advisories

@@ -59,7 +59,7 @@ choices_at m p = get_or m.choices p []
 abbrev pub sigma_at : ModelData → ℕ → SigmaPoint
 sigma_at m q = get_or m.sigmas q (record { weight = pos 0; own = pos 0; intruder = pos 0 })
 
--- the weight of a sigma point, which in an accepted model is above 0
+-- the weight of a sigma point, which in a model within its limits is above 0
 abbrev pub weight_of : SigmaPoint → ℕ
 weight_of p = unsigned_abs p.weight
 

@@ -18,6 +18,6 @@ pub use choices::{choice_at, choice_count, with_cost};
 pub use ending::terminal;
 pub use laws::choices_have_their_values;
 pub use layer::Side;
-pub use means::{fill_means, means_at};
+pub use means::{VertexMeans, fill_means, means_at};
 pub use second::moved;
 pub use values::mean;

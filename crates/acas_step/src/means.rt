@@ -14,7 +14,10 @@ use crate::values::mean;
 use acas_base::Model;
 use acas_frac::{Down, Up};
 use acas_grid::state_present;
-use acas_units::Pair;
+use acas_units::{GREATEST_ADVISORIES, Pair};
+
+/// Both means at a vertex, under each advisory by its number.
+pub type VertexMeans = [Pair; GREATEST_ADVISORIES as usize];
 
 // Both means at a vertex under an advisory.
 fn mean_pair(model: &Model, vertex: u32, advisory: u8, below: &[Pair]) -> Pair
@@ -34,13 +37,13 @@ fn mean_pair(model: &Model, vertex: u32, advisory: u8, below: &[Pair]) -> Pair
 // How many advisories the model has.
 fn advisory_count(model: &Model) -> u8
     ensures value { result ≡ model.now.grid.advisories }
-    ensures few { result ≤ 16 }
+    ensures few { result ≤ GREATEST_ADVISORIES }
 {
     model.grid().advisories as u8
 }
 
 /// Both means of a layer at a vertex, under each advisory of the model by its number.
-pub fn means_at(model: &Model, vertex: u32, below: &[Pair]) -> [Pair; 16]
+pub fn means_at(model: &Model, vertex: u32, below: &[Pair]) -> VertexMeans
     requires vertex { vertex < vertices model.now.grid }
     requires below { length below.now ≡ states model.now.grid }
     ensures means { AreVertexMeans model.now below.now (numbers.vertex_at model.now.grid vertex) result }
@@ -48,7 +51,7 @@ pub fn means_at(model: &Model, vertex: u32, below: &[Pair]) -> [Pair; 16]
     // No mean is larger than the largest value.
     ensures bounded { (most : ℕ) (side : Side) → AreWithin most side below.now → AreWithin most side result }
 {
-    let mut means = [Pair { upper: 0, lower: 0 }; 16];
+    let mut means = [Pair { upper: 0, lower: 0 }; GREATEST_ADVISORIES as usize];
     for advisory in 0..advisory_count(model) {
         means[usize::from(advisory)] = mean_pair(model, vertex, advisory, below);
     }

@@ -12,7 +12,7 @@ use Rattle.acas_spec.specs.Limits.{AreDistinct, IsModel}
 use Rattle.acas_spec.specs.Model.{ModelData, choices_at, vertices}
 use Rattle.acas_spec.specs.declared.parts.Choice.{Choice}
 use Rattle.acas_process.specs.Cost.{advisories_of}
-use Rattle.acas_process.proofs.AcceptedLaws.{is_chosen, test_apart}
+use Rattle.acas_process.proofs.ModelLaws.{is_chosen, test_apart}
 use Rattle.acas_sweep.specs.Layers.{backup_count, choice_count, layer_backups}
 
 -- numbers that are all below n, by their places and by value

@@ -10,7 +10,7 @@ use Rattle.acas_units.specs.declared.pair.Entry.{Entry}
 use Rattle.acas_units.specs.declared.pair.Pair.{Pair}
 use Rattle.acas_process.specs.Bounds.{choice_value, millionths}
 use Rattle.acas_process.specs.Cost.{MayChoose, cost_of}
-use Rattle.acas_process.proofs.AcceptedLaws.{is_chosen}
+use Rattle.acas_process.proofs.ModelLaws.{is_chosen}
 use Rattle.acas_step.specs.Choices.{value_by_mean}
 use Rattle.acas_step.specs.Layer.{layer_values, value_at}
 use Rattle.acas_step.specs.Means.{AreVertexMeans}

@@ -10,7 +10,7 @@ ghost use Rattle.acas_sweep.specs.Entries.{AreSmall, greatest_value};
 
 use acas_base::Model;
 use acas_spec::Choice;
-use acas_step::{Backups, Side, choice_at, choice_count, value_of_choice};
+use acas_step::{Backups, Side, VertexMeans, choice_at, choice_count, value_of_choice};
 use acas_units::{Entry, GREATEST_COST, LEAST_COST, Pair};
 
 // Both values of a choice, by the means under its advisory. It counts one backup.
@@ -36,7 +36,7 @@ fn valued_choice(
     model: &Model,
     present: u8,
     place: usize,
-    vertex_means: &[Pair; 16],
+    vertex_means: &VertexMeans,
     count: &mut Backups,
 ) -> Entry
     requires present { present < model.now.grid.advisories }
@@ -47,7 +47,7 @@ fn valued_choice(
         IsValued model.now vertex_means.now present choice result }
     ensures count { count.new ≡ count.old + 1 }
 {
-    // By the model's limits the number of an advisory is below 16.
+    // A model within its limits has no more advisories than there are means.
     let _ = model.grid();
     let choice = choice_at(model, present, place);
     let means = vertex_means[usize::from(choice.advisory)];
@@ -82,7 +82,7 @@ fn better(choice: Entry, later: Entry) -> Entry
 pub(crate) fn best_choice(
     model: &Model,
     present: u8,
-    vertex_means: &[Pair; 16],
+    vertex_means: &VertexMeans,
     count: &mut Backups,
 ) -> Entry
     requires present { present < model.now.grid.advisories }

@@ -7,14 +7,14 @@ ghost use Rattle.acas_sweep.specs.Layers.{choice_count};
 
 use crate::best::best_choice;
 use acas_base::Model;
-use acas_step::Backups;
+use acas_step::{Backups, VertexMeans};
 use acas_units::Pair;
 
 /// Writes the entries of a vertex under all present advisories, by the means there.
 pub(crate) fn fill_vertex(
     model: &Model,
     vertex: u32,
-    vertex_means: &[Pair; 16],
+    vertex_means: &VertexMeans,
     pairs: &mut [Pair],
     advice: &mut [u8],
     count: &mut Backups,

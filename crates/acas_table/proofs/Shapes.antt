@@ -1,4 +1,4 @@
--- The shape of an accepted model's tables.
+-- The shape of the tables of a model within its limits.
 use Rattle.std.proofs.Common.{◌≡◌, ℕ, zero, suc, ◌+◌, ◌*◌, ◌≤◌, length, sym, ◌∙◌, ap, subst, arith}
 use Rattle.acas_units.specs.declared.limits.TheConstants.{GREATEST_ENTRIES, LEAST_ADVISORIES, LEAST_VERTICES}
 use Rattle.acas_spec.specs.Model.{GridData, states}

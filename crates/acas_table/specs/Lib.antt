@@ -2,6 +2,7 @@ pub mod Shape
 pub mod Text
 pub mod Layers
 pub mod Faults
+pub mod Refusals
 pub mod Tables
 pub mod Pieces
 pub mod Writer

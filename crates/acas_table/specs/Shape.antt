@@ -19,7 +19,7 @@ shape_of g = record {
 abbrev pub entry_count : TableShape → ℕ
 entry_count s = (s.horizon + 1) * s.states
 
--- a shape is within the limits of an accepted model
+-- a shape is within the limits of a model
 pub record IsShape (s : TableShape) : Type 0 where
   pub altitudes : s.altitudes ≤ GREATEST_VERTICES
   pub own_rates : s.own_rates ≤ GREATEST_VERTICES

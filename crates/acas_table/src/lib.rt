@@ -9,6 +9,7 @@ mod laws;
 mod parts;
 mod pieces;
 mod reader;
+mod refusal;
 mod shape;
 mod source;
 mod writer;
@@ -19,5 +20,6 @@ pub use laws::{
     texts_are_one_to_one, texts_are_read_again, texts_of_layers_are_flat,
 };
 pub use reader::TableReader;
+pub use refusal::TableRefusal;
 pub use shape::TableShape;
 pub use writer::{Phase, TableWriter};

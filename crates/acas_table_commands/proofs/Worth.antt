@@ -18,16 +18,18 @@ use Rattle.acas_process.proofs.CompiledLaws.{compiled_is_sound, compiled_is_tigh
 use Rattle.acas_accept.specs.Accepted.{IsAcceptedTable}
 use Rattle.acas_accept.specs.GivenTable.{given_table}
 use Rattle.acas_accept.specs.Refusals.{first_refusal}
-use Rattle.acas_accept.specs.declared.refusal.TableRefusal.{TableRefusal}
+use Rattle.acas_table.specs.declared.refusal.TableRefusal.{TableRefusal}
 use Rattle.acas_accept.proofs.CompiledTables.{compiled_is_accepted}
 use Rattle.acas_accept.proofs.Tables.{accepted_has_none, given_is_accepted}
 use Rattle.acas_command.specs.Answers.{Agrees, Answers, Completes, MayPrint, PrintsPart, Refuses}
-use Rattle.acas_command.specs.Calls.{with_model, with_table}
+use Rattle.acas_command.specs.Calls.{with_model}
+use Rattle.acas_table_file.specs.Calls.{with_table}
 use Rattle.acas_command.specs.Outcome.{Outcome, prints, stores, with_file}
 use Rattle.acas_command.specs.declared.status.Cause.{Cause}
 use Rattle.acas_command.specs.declared.status.Cause.TheVariants.{Done, Output, Table as Refused}
 use Rattle.acas_command.proofs.Behind.{told-both, told-map}
-use Rattle.acas_command.proofs.Refused.{IsBehindModel, IsNoFileCause, behind-model, behind-table, no_file_cause-may_print, not_refused, rejected-table, with_model-read, with_table-accepted}
+use Rattle.acas_command.proofs.Refused.{IsBehindModel, IsNoFileCause, behind-model, no_file_cause-may_print, not_refused, with_model-read}
+use Rattle.acas_table_file.proofs.Files.{behind-table, rejected-table, with_table-accepted}
 use Rattle.acas_table_commands.specs.AcceptedLine.{accepted_line}
 use Rattle.acas_table_commands.specs.Calls.{CallsForCheck, CallsForCompile, CallsForValues, check_of, compile_of, values_of}
 use Rattle.acas_table_commands.specs.CompiledLine.{compiled_line}

@@ -2,7 +2,8 @@
 use Rattle.std.specs.Prelude.{◌≡◌, ℕ, List, Option}
 use Rattle.std.specs.FinMap.{get}
 use Rattle.acas_outside.specs.Files.{Files}
-use Rattle.acas_command.specs.Calls.{with_model, with_table}
+use Rattle.acas_command.specs.Calls.{with_model}
+use Rattle.acas_table_file.specs.Calls.{with_table}
 use Rattle.acas_command.specs.Outcome.{Outcome, prints, stores}
 use Rattle.acas_table_commands.specs.AcceptedLine.{accepted_line}
 use Rattle.acas_table_commands.specs.CompiledLine.{compiled_line}

@@ -12,7 +12,7 @@ use Rattle.acas_outside.specs.Outside.{Outside}
 use Rattle.acas_process.specs.Bounds.{HasTwoSidedBounds, IsTight}
 use Rattle.acas_table.specs.Layers.{table_text}
 use Rattle.acas_accept.specs.Accepted.{IsAcceptedTable}
-use Rattle.acas_accept.specs.declared.refusal.TableRefusal.{TableRefusal}
+use Rattle.acas_table.specs.declared.refusal.TableRefusal.{TableRefusal}
 use Rattle.acas_command.specs.Worth.{IsNotRefused}
 use Rattle.acas_command.specs.declared.status.Cause.{Cause}
 use Rattle.acas_command.specs.declared.status.Cause.TheVariants.{Done, Output, Table as Refused}

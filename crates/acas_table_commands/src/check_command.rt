@@ -8,9 +8,10 @@ ghost use Rattle.acas_command.specs.Answers.{Answers, ended};
 ghost use Rattle.acas_table_commands.specs.AcceptedLine.{accepted_line};
 ghost use Rattle.acas_table_commands.specs.Calls.{CallsForCheck};
 
-use acas_command::{Cause, put_count, put_text, read_model_file, read_table_file};
+use acas_command::{Cause, put_count, put_text, read_model_file};
 use acas_grid::Grid;
 use acas_outside::{Folder, Sink, emit};
+use acas_table_file::read_table_file;
 use acas_units::Line;
 use std::alloc::Global;
 

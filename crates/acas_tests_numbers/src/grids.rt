@@ -134,17 +134,20 @@ fn parts_of(grid: &Grid, state: u32) -> Option<(u8, Vertex)> {
     }
 }
 
-#[test]
-fn vertices_and_states_have_numbers(rt: HostRuntime) -> Result<(), Fail> {
-    let grid = grid_of(
-        rt.alloc(),
+fn four_by_three_by_two(alloc: Global) -> Option<Grid> {
+    grid_of(
+        alloc,
         &[-120000, -80400, 0, 120000],
         &[0, 1500, 3000],
         &[0, 3000],
         4,
         30,
-    );
-    let grid = grid.ok_or("a grid")?;
+    )
+}
+
+#[test]
+fn vertices_have_numbers(rt: HostRuntime) -> Result<(), Fail> {
+    let grid = four_by_three_by_two(rt.alloc()).ok_or("a grid")?;
     assert_eq!(rt; grid.h.value(1), -80400);
     assert_eq!(rt;
         (grid.vertices(), grid.states(), grid.entries()),
@@ -167,6 +170,12 @@ fn vertices_and_states_have_numbers(rt: HostRuntime) -> Result<(), Fail> {
         assert_eq!(rt; number_of(&grid, grid.vertex_of(number)), Some(number));
         assert_eq!(rt; vertex_at(&grid, number), grid.vertex_of(number));
     }
+    Ok(())
+}
+
+#[test]
+fn states_have_numbers(rt: HostRuntime) -> Result<(), Fail> {
+    let grid = four_by_three_by_two(rt.alloc()).ok_or("a grid")?;
     let states = [
         (0, 23, Some(23)),
         (1, 0, Some(24)),

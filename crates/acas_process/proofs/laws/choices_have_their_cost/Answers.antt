@@ -1,4 +1,4 @@
-use Rattle.acas_process.proofs.AcceptedLaws.{cost_is_own}
+use Rattle.acas_process.proofs.ModelLaws.{cost_is_own}
 use Rattle.acas_process.proofs.laws.choices_have_their_cost.Goals as goal
 
 pub returns : goal.returns

@@ -1,5 +1,5 @@
 use Rattle.std.proofs.Math.Nat.{mul-pos}
-use Rattle.acas_process.proofs.AcceptedLaws.{total_weight_pos}
+use Rattle.acas_process.proofs.ModelLaws.{total_weight_pos}
 use Rattle.acas_process.proofs.AxisLaws.{axis_tents_sum}
 use Rattle.acas_process.proofs.MeanLaws.{grid_product_pos, transition_weight-pos, transitions_sum}
 use Rattle.acas_process.proofs.VertexLaws.{shares_sum}

@@ -1,7 +1,7 @@
 use Rattle.std.proofs.Common.{List, get_or, subst, sym}
 use Rattle.acas_spec.specs.declared.parts.Choice.{Choice}
 use Rattle.acas_process.specs.Cost.{IsKnownChoice}
-use Rattle.acas_process.proofs.AcceptedLaws.{known_choice}
+use Rattle.acas_process.proofs.ModelLaws.{known_choice}
 use Rattle.acas_step.specs.Choices.{no_choice}
 use Rattle.acas_step.proofs.choices.choice_at.Goals as goal
 

@@ -1,6 +1,6 @@
 use Rattle.std.proofs.Common.{◌+ℤ◌, ap, sym}
 use Rattle.acas_process.specs.Bounds.{mean_value, millionths}
-use Rattle.acas_process.proofs.AcceptedLaws.{cost_is_own}
+use Rattle.acas_process.proofs.ModelLaws.{cost_is_own}
 use Rattle.acas_step.specs.Choices.{listed_choice, no_choice}
 use Rattle.acas_step.proofs.laws.choices_have_their_values.Goals as goal
 

@@ -1,4 +1,4 @@
-use Rattle.acas_process.proofs.AcceptedLaws.{total_weight_pos}
+use Rattle.acas_process.proofs.ModelLaws.{total_weight_pos}
 use Rattle.acas_step.proofs.values.total_weight.Goals as goal
 
 pub returns-clause-some : goal.returns-clause-some

@@ -6,11 +6,12 @@ use Rattle.acas_outside.specs.Bytes.{Appends, AppendsPart}
 use Rattle.acas_outside.specs.Counts.{Rose}
 use Rattle.acas_outside.specs.Files.{Files, Given}
 use Rattle.acas_outside.specs.Outside.{Outside, outside}
-use Rattle.acas_command.specs.AcceptedFile.{IsTableFile}
-use Rattle.acas_command.specs.Calls.{with_table}
+use Rattle.acas_table_file.specs.AcceptedFile.{IsTableFile}
+use Rattle.acas_table_file.specs.Calls.{with_table}
 use Rattle.acas_command.specs.Outcome.{Outcome, prints}
 use Rattle.acas_command.proofs.Behind.{answers-behind, answers-done, answers-output, told-both, told-kept}
-use Rattle.acas_command.proofs.Files.{called-model, called-table, to-model}
+use Rattle.acas_command.proofs.Files.{called-model, to-model}
+use Rattle.acas_table_file.proofs.Files.{called-table}
 use Rattle.acas_table_commands.specs.AcceptedLine.{accepted_line}
 use Rattle.acas_table_commands.specs.Calls.{CallsForCheck}
 use Rattle.acas_table_commands.proofs.Worth.{line_of_check, rest_of_check}

@@ -1,7 +1,7 @@
 use Rattle.std.proofs.Common.{◌<◌, ℕ, List, None, Some, Ok, Err, sym, subst, arith}
 use Rattle.acas_spec.specs.Model.{entries}
 use Rattle.acas_units.specs.declared.pair.Pair.{Pair}
-use Rattle.acas_process.proofs.AcceptedLaws.{is_chosen}
+use Rattle.acas_process.proofs.ModelLaws.{is_chosen}
 use Rattle.acas_grid.specs.States.{state_present}
 use Rattle.acas_grid.proofs.StateNumbers.{state_present-below}
 use Rattle.acas_table.specs.Reader.{reader_state, GivesEntry, HasRead}

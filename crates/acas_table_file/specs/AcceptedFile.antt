@@ -4,7 +4,7 @@ use Rattle.std.specs.FinMap.{get}
 use Rattle.acas_spec.specs.Model.{ModelData}
 use Rattle.acas_outside.specs.Outside.{Outside}
 use Rattle.acas_command.specs.Answers.{Answers}
-use Rattle.acas_command.specs.Calls.{with_table}
+use Rattle.acas_table_file.specs.Calls.{with_table}
 use Rattle.acas_command.specs.Outcome.{Outcome}
 use Rattle.acas_command.specs.declared.status.Cause.{Cause}
 

@@ -4,13 +4,12 @@ ghost use Rattle.acas_base.specs.Advices.{AreAdvicesOf};
 ghost use Rattle.acas_outside.specs.Bytes.{IsBytes};
 ghost use Rattle.acas_outside.specs.Files.{Given};
 ghost use Rattle.acas_outside.specs.Frame.{OnlyReads};
-ghost use Rattle.acas_command.specs.AcceptedFile.{IsTableFile, RefusesTable};
+ghost use Rattle.acas_table_file.specs.AcceptedFile.{IsTableFile, RefusesTable};
 ghost use Rattle.acas_command.specs.Outside.{beside};
 
-use crate::model_file::ModelFile;
-use crate::status::{Cause, FileRole};
 use acas_accept::{AcceptFault, accept};
 use acas_base::Advices;
+use acas_command::{Cause, FileRole, ModelFile};
 use acas_outside::Folder;
 use std::alloc::Global;
 
