@@ -121,6 +121,38 @@ rows = [
 runs = ["acas check b t"]
 ends = ["0 done"]
 output = "accepted layers 31 states 96\n"
+# Level costs 3 and clear, which stands after it, costs 1: the upper value is by the advice, the lower value by the cheaper choice.
+[[cases]]
+name = "an entry with a choice that costs more"
+files = [[
+  "b",
+  "model b",
+  "replace horizon = 2 => horizon = 1",
+  "replace choices = [\"clear\"] => choices = [\"level\", \"clear\"]",
+  "replace costs = [0] => costs = [3, 1]",
+], ["t", "compiled b", "upper 1 1 $1", "lower 1 1 $2", "advice 1 1 $3", "seal"]]
+rows = [["1666667", "1666666", "0"], ["3666667", "1666666", "1"]]
+runs = ["acas check b t"]
+ends = ["0 done"]
+output = "accepted layers 2 states 16\n"
+
+[[cases]]
+name = "an entry with a choice that costs more, too tight"
+files = [[
+  "b",
+  "model b",
+  "replace horizon = 2 => horizon = 1",
+  "replace choices = [\"clear\"] => choices = [\"level\", \"clear\"]",
+  "replace costs = [0] => costs = [3, 1]",
+], ["t", "compiled b", "upper 1 1 $1", "lower 1 1 $2", "advice 1 1 $3", "seal"]]
+rows = [
+  ["1666666", "1666666", "0", "layer 1 state 1 upper 1.666666 under 1.666667"],
+  ["1666667", "1666666", "1", "layer 1 state 1 upper 1.666667 under 3.666667"],
+  ["3666667", "1666667", "1", "layer 1 state 1 lower 1.666667 over 1.666666"],
+]
+runs = ["acas check b t"]
+ends = ["5 table"]
+error = "acas: table refused: $4\n"
 "##;
 
 #[test]

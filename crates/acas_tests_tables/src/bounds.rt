@@ -1,4 +1,4 @@
-//! Entries that are held against the layer below, by its values and by its means.
+//! Entries that are held against the layer below, by its values and by its means. More of them are cases of `acas_cases`.
 use self::Wanted::{Allows, Needs, NotAllowed, Sound};
 use crate::models::{COSTLY, NOISY, model_of};
 use acas_bounds::{BoundFault, check_by_means, check_entry, fill_means};
@@ -80,29 +80,11 @@ fn entry(upper: i64, lower: i64, advice: u8) -> Entry {
 fn entries_over_the_last_layer(rt: HostRuntime) {
     // model, seconds to go, state, upper and lower value, advice
     let rows = [
-        // the cost at the end, whatever the advice
-        (NOISY, 0, 0, 1_000_000, 1_000_000, 255, Sound),
         (NOISY, 0, 0, 999_999, 999_999, 255, Needs(1_000_000)),
-        (NOISY, 0, 0, 1_000_000, 1_000_001, 0, Allows(1_000_000)),
-        (NOISY, 0, 5, 0, 0, 255, Sound),
-        (NOISY, 0, 5, -1, 1, 255, Needs(0)),
-        (NOISY, 0, 13, 0, 1, 255, Allows(0)),
         (NOISY, 0, 13, 10_000_000, -10_000_000, 255, Sound),
         // the sigma points lead to 5, 10 and 15 ft, where contact costs 5, 4 and 3 sixths
         (NOISY, 1, 1, 666_667, 666_666, 0, Sound),
-        (NOISY, 1, 1, 666_666, 666_666, 0, Needs(666_667)),
-        (NOISY, 1, 1, 666_667, 666_667, 0, Allows(666_666)),
-        (NOISY, 1, 1, 666_667, 666_666, 1, NotAllowed),
-        (NOISY, 1, 1, 0, 1_000_000, 255, NotAllowed),
-        (NOISY, 1, 1, 10_000_000, -10_000_000, 0, Sound),
-        (NOISY, 1, 9, 666_667, 666_666, 0, Sound),
-        // to 25 ft and twice to 30 ft, where contact costs one sixth and nothing
-        (NOISY, 1, 4, 55_556, 55_555, 0, Sound),
-        (NOISY, 1, 4, 55_555, 55_555, 0, Needs(55_556)),
         // the upper value by the advice, the lower value by the cheaper choice
-        (COSTLY, 1, 1, 1_666_667, 1_666_666, 0, Sound),
-        (COSTLY, 1, 1, 1_666_666, 1_666_666, 0, Needs(1_666_667)),
-        (COSTLY, 1, 1, 3_666_667, 1_666_666, 1, Sound),
         (COSTLY, 1, 1, 1_666_667, 1_666_666, 1, Needs(3_666_667)),
         (COSTLY, 1, 1, 3_666_667, 1_666_667, 1, Allows(1_666_666)),
         (COSTLY, 2, 9, 3_666_667, 1_666_666, 2, NotAllowed),
@@ -111,33 +93,5 @@ fn entries_over_the_last_layer(rt: HostRuntime) {
         let entry = entry(upper, lower, advice);
         let answer = answer_of(rt.alloc(), text, n, state, entry, &LAST);
         assert!(rt; answer == Some(wanted.answer(entry)), "{n} {entry:?}");
-    }
-}
-
-#[test]
-fn entries_over_any_layer(rt: HostRuntime) {
-    const MAX: i64 = i64::MAX;
-    const MIN: i64 = i64::MIN;
-    // with a second of clear, which costs 1
-    const ABOVE_MAX: i128 = MAX as i128 + 1_000_000;
-    const ABOVE_MIN: i128 = MIN as i128 + 1_000_000;
-    // all pairs of the layer below, upper and lower value, advice
-    let rows = [
-        (NOISY, (MAX, MIN), MAX, MIN, 0, Sound),
-        (NOISY, (MAX, MIN), MAX - 1, MIN, 0, Needs(MAX as i128)),
-        (NOISY, (MAX, MIN), MAX, MIN + 1, 0, Allows(MIN as i128)),
-        (NOISY, (MIN, MAX), MIN, MAX, 0, Sound),
-        (COSTLY, (MAX, MIN), MAX, MIN, 0, Needs(ABOVE_MAX)),
-        (COSTLY, (MIN, MAX), MIN, MAX, 0, Needs(ABOVE_MIN)),
-        (COSTLY, (MIN, MAX), MIN + 3_000_000, MAX, 1, Sound),
-    ];
-    for (text, (high, low), upper, lower, advice, wanted) in rows {
-        let below = [Pair {
-            upper: high,
-            lower: low,
-        }; 16];
-        let entry = entry(upper, lower, advice);
-        let answer = answer_of(rt.alloc(), text, 1, 3, entry, &below);
-        assert!(rt; answer == Some(wanted.answer(entry)), "{entry:?}");
     }
 }

@@ -51,27 +51,6 @@ pub fn write_three<F: Folder>(
     writer.finish(folder, name)
 }
 
-/// Writes a table of two layers of 24 states with these bounds in each entry, and gives its length.
-pub fn write_two<F: Folder>(
-    writer: &mut TableWriter,
-    pair: Pair,
-    advice: &[u8; 24],
-    folder: &mut F,
-    name: &str,
-) -> Result<u64, Failed>
-    requires served { IsTrue (F.serves folder.old name.now) }
-    requires new { (writer_state writer.old).phase ≡ Phase.New }
-    requires written { HasWritten writer.old [] }
-    requires states { (writer_state writer.old).shape.states ≡ 24 }
-    requires horizon { (writer_state writer.old).shape.horizon ≡ 1 }
-{
-    let pairs = [pair; 24];
-    writer.start(folder, name)?;
-    writer.layer(folder, name, &pairs, &[255; 24])?;
-    writer.layer(folder, name, &pairs, advice)?;
-    writer.finish(folder, name)
-}
-
 /// The bytes of a table of either version, of a model of 16 states whose horizon is 2.
 pub fn table_of(alloc: Global, model: &Model, layers: &Layers, is_second: bool) -> Option<Vec<u8>> {
     let grid = model.grid();

@@ -63,39 +63,6 @@ sigma = [
 ]
 "#;
 
-/// Altitudes 10 ft apart, no noise, contact costs 7 and a second 1.
-pub const CALM: &str = r#"
-version = 1
-horizon = 1
-grid = { altitude = [0, 10], own_rate = [0, 600], intruder_rate = [0, 600] }
-puck = { radius = 500, half_height = 1 }
-closing = { least = 500, greatest = 500 }
-pilot = { pull = 480, limit = 960 }
-cost = { contact = 7 }
-advisory = [
-  { name = "clear", lo = -10000, hi = 10000, choices = ["clear"], costs = [1] },
-  { name = "level", lo = -500, hi = 500, choices = ["clear"], costs = [1] },
-]
-sigma = [{ weight = 1, own = 0, intruder = 0 }]
-"#;
-
-/// Two altitudes and three advisories, with one second to go.
-pub const THREE: &str = r#"
-version = 1
-horizon = 1
-grid = { altitude = [-1000, -170], own_rate = [0, 60], intruder_rate = [-60, 0] }
-puck = { radius = 500, half_height = 100 }
-closing = { least = 500, greatest = 500 }
-pilot = { pull = 480, limit = 960 }
-cost = { contact = 5 }
-advisory = [
-  { name = "clear", lo = -10000, hi = 10000, choices = ["clear", "climb", "descend"], costs = [0, 0, 0] },
-  { name = "climb", lo = 1500, hi = 10000, choices = ["clear", "climb", "descend"], costs = [0, 0, 0] },
-  { name = "descend", lo = -10000, hi = -1500, choices = ["clear", "climb", "descend"], costs = [0, 0, 0] },
-]
-sigma = [{ weight = 1, own = 0, intruder = 0 }]
-"#;
-
 /// Four altitudes, three own rates and two of the intruder, four advisories, no noise.
 pub const FOUR: &str = r#"
 version = 1

@@ -1,5 +1,5 @@
 //! Compiled tables of small models, and how many backups they take.
-use crate::models::{CALM, FOUR, NOISY, TIED, model_of};
+use crate::models::{FOUR, NOISY, TIED, model_of};
 use acas_step::Backups;
 use acas_sweep::sweep_list;
 use acas_units::{Entry, Pair};
@@ -26,18 +26,8 @@ fn entries_are_worked_out(rt: HostRuntime) -> Result<(), Fail> {
     // seconds to go, state, upper and lower value, advice; and the horizon times the vertices times the lengths of all lists of
     // choices
     let rows = [
-        (NOISY, 0, 0, 1_000_000, 1_000_000, 255, 2 * 8 * 2),
-        (NOISY, 0, 5, 0, 0, 255, 2 * 8 * 2),
-        (NOISY, 1, 0, 944_445, 944_444, 0, 2 * 8 * 2),
-        (NOISY, 1, 1, 666_667, 666_666, 0, 2 * 8 * 2),
-        (NOISY, 1, 2, 1_000_000, 1_000_000, 0, 2 * 8 * 2),
-        (NOISY, 1, 4, 55_556, 55_555, 0, 2 * 8 * 2),
-        (NOISY, 1, 5, 0, 0, 0, 2 * 8 * 2),
-        (NOISY, 1, 9, 666_667, 666_666, 0, 2 * 8 * 2),
         (NOISY, 2, 1, 524_692, 524_690, 0, 2 * 8 * 2),
         (TIED, 2, 1, 524_692, 524_690, 1, 2 * 8 * 3),
-        (CALM, 1, 0, 8_000_000, 8_000_000, 0, 8 * 2),
-        (CALM, 1, 1, 1_000_000, 1_000_000, 0, 8 * 2),
         (FOUR, 1, 7, 373_135, 373_134, 0, 30 * 24 * 16),
     ];
     for (text, n, state, upper, lower, advice, count) in rows {

@@ -3,11 +3,11 @@ ghost use Rattle.std.specs.Prelude.{◌≡◌, IsTrue, false};
 ghost use Rattle.acas_table.specs.Reader.{reader_state};
 ghost use Rattle.acas_table.specs.Shape.{entry_count};
 
-use crate::layers::{Layers, MODEL, folder_failing, table_of, write_two};
-use crate::models::{NOISY, THREE, model_of};
+use crate::layers::{Layers, MODEL, folder_failing, table_of};
+use crate::models::{NOISY, model_of};
 use acas_base::Model;
 use acas_outside::Folder;
-use acas_table::{TableFault, TableReader, TableWriter};
+use acas_table::{TableFault, TableReader};
 use acas_units::{Entry, Pair};
 use std::alloc::Global;
 use std::test::Fail;
@@ -22,17 +22,6 @@ const DIGEST: [u8; 32] = [
 const LAST_OF_CHAIN: [u8; 32] = [
     0x62, 0x9b, 0xb3, 0x29, 0xeb, 0x6f, 0x43, 0xb5, 0x84, 0x04, 0x96, 0x6c, 0x3d, 0x3e, 0xf4, 0x6e,
     0x53, 0x9f, 0xe9, 0x92, 0xea, 0x4b, 0x89, 0x21, 0x65, 0xab, 0xe4, 0x64, 0x6e, 0xe0, 0x3c, 0x70,
-];
-
-// The digest of a model's text, and the last bytes of a table of it that no compiler makes.
-const MODEL_OF_THREE: [u8; 32] = [
-    0x4f, 0x53, 0x1d, 0x95, 0xa2, 0xff, 0x9c, 0x9b, 0xb5, 0xb1, 0x9d, 0xa0, 0xed, 0xf0, 0xb4, 0x86,
-    0x70, 0x9c, 0x9b, 0xbe, 0xd4, 0x30, 0xa2, 0x6a, 0xa3, 0xf4, 0xce, 0x2c, 0x96, 0x90, 0x6f, 0x37,
-];
-
-const LOOSE: [u8; 32] = [
-    0xc1, 0xd4, 0x64, 0x0a, 0x00, 0xc8, 0x33, 0xc8, 0xf1, 0xea, 0xf4, 0xcb, 0x3c, 0x5f, 0xc5, 0x39,
-    0x0d, 0xc4, 0x33, 0x86, 0x77, 0x15, 0x0a, 0x61, 0xbb, 0x76, 0xbd, 0xd4, 0x2d, 0x28, 0xb2, 0x33,
 ];
 
 // In each layer the upper values from 666666 on and the lower ones from 666665 on.
@@ -92,65 +81,59 @@ fn read_three<F: Folder>(
 }
 
 #[test]
-fn tables_are_read_as_they_were_written(rt: HostRuntime) -> Result<(), Fail> {
-    let alloc = rt.alloc();
-    let model = model_of(alloc, NOISY).ok_or("a model")?;
-    let bytes = table_of(alloc, &model, &rising(), false).ok_or("a table")?;
+fn tables_have_their_bytes(rt: HostRuntime) -> Result<(), Fail> {
+    let model = model_of(rt.alloc(), NOISY).ok_or("a model")?;
+    let bytes = table_of(rt.alloc(), &model, &rising(), false).ok_or("a table")?;
     assert_eq!(rt; bytes.len(), 908);
     assert!(rt; bytes.starts_with(b"ACXT\x01\0\0\0"));
     assert!(rt; bytes.get(8..40) == Some(MODEL.as_slice()));
     assert!(rt; bytes.ends_with(&DIGEST));
-    let second = table_of(alloc, &model, &rising(), true).ok_or("a table")?;
-    assert_eq!(rt; second.len(), 972);
-    assert!(rt; second.ends_with(&LAST_OF_CHAIN));
+    Ok(())
+}
+
+#[test]
+fn tables_of_the_second_version_have_a_digest_a_layer(rt: HostRuntime) -> Result<(), Fail> {
+    let model = model_of(rt.alloc(), NOISY).ok_or("a model")?;
+    let bytes = table_of(rt.alloc(), &model, &rising(), true).ok_or("a table")?;
+    assert_eq!(rt; bytes.len(), 972);
+    assert!(rt; bytes.ends_with(&LAST_OF_CHAIN));
+    Ok(())
+}
+
+// The entries of a table of either version, read at so many bytes a call.
+fn read_back(
+    alloc: Global,
+    model: &Model,
+    is_second: bool,
+    most: u32,
+) -> Option<Result<Vec<Entry>, TableFault>> {
+    let bytes = table_of(alloc, model, &rising(), is_second)?;
+    let mut folder = folder_failing(alloc, &[], most).ok()?;
+    folder.put("t", bytes).ok()?;
+    Some(read_three(alloc, model, &mut folder, "t"))
+}
+
+#[test]
+fn tables_are_read_as_they_were_written(rt: HostRuntime) -> Result<(), Fail> {
+    let model = model_of(rt.alloc(), NOISY).ok_or("a model")?;
+    let pair = Pair {
+        upper: 666_667,
+        lower: 666_666,
+    };
     for most in [1, 100, 4_096] {
-        let mut folder = folder_failing(alloc, &[], most)?;
-        folder.put("t", bytes.clone()?)?;
-        folder.put("u", second.clone()?)?;
-        let entries = read_three(alloc, &model, &mut folder, "t")?;
-        let pair = Pair {
-            upper: 666_667,
-            lower: 666_666,
-        };
+        let entries = read_back(rt.alloc(), &model, false, most).ok_or("a table")??;
         assert_eq!(rt; entries.len(), 48);
         assert!(rt; entries.get(17) == Some(&Entry { pair, advice: 0 }));
         assert!(rt; entries.get(15).map(|last| last.advice) == Some(255));
-        assert_eq!(rt;
-            read_three(alloc, &model, &mut folder, "u").err(),
-            Some(TableFault::Version { found: 2 })
-        );
     }
     Ok(())
 }
 
-// Under clear climb at the lower altitude and descend at the upper one; clear under the others.
-const ADVICES: [u8; 24] = [
-    1, 1, 1, 1, 2, 2, 2, 2, 0, 0, 0, 0, 0, 0, 0, 0, 0, 0, 0, 0, 0, 0, 0, 0,
-];
-
-// The bytes of a table with loose bounds and these advices, of a model of 24 states whose horizon is 1.
-fn loose_table(alloc: Global, model: &Model) -> Option<Vec<u8>> {
-    let grid = model.grid();
-    let mut writer = TableWriter::new(alloc, model, &MODEL_OF_THREE).ok()?;
-    if grid.states() != 24 || grid.horizon != 1 {
-        return None;
-    }
-    let mut folder = folder_failing(alloc, &[], 100).ok()?;
-    let pair = Pair {
-        upper: 10_000_000,
-        lower: -10_000_000,
-    };
-    let _length = write_two(&mut writer, pair, &ADVICES, &mut folder, "t").ok()?;
-    folder.get("t")?.to_vec(alloc).ok()
-}
-
-// `acas_cases` has the same bytes, made of a compiled table's, and `check` accepts them.
 #[test]
-fn tables_may_have_advices_of_their_own(rt: HostRuntime) -> Result<(), Fail> {
-    let model = model_of(rt.alloc(), THREE).ok_or("a model")?;
-    let bytes = loose_table(rt.alloc(), &model).ok_or("a table")?;
-    assert_eq!(rt; bytes.len(), 908);
-    assert!(rt; bytes.ends_with(&LOOSE));
+fn tables_of_the_second_version_are_not_read(rt: HostRuntime) -> Result<(), Fail> {
+    let model = model_of(rt.alloc(), NOISY).ok_or("a model")?;
+    let answer = read_back(rt.alloc(), &model, true, 100).ok_or("an answer")?;
+    assert_eq!(rt; answer.err(), Some(TableFault::Version { found: 2 }));
     Ok(())
 }
 
@@ -177,25 +160,5 @@ fn a_fault_stays(rt: HostRuntime) -> Result<(), Fail> {
         table_of(alloc, &model, &rising(), false).ok_or("a table")?,
     )?;
     assert_eq!(rt; reader.entry(&mut folder, "t"), Err(fault));
-    Ok(())
-}
-
-#[test]
-fn files_that_cannot_be_read(rt: HostRuntime) -> Result<(), Fail> {
-    let alloc = rt.alloc();
-    let model = model_of(alloc, NOISY).ok_or("a model")?;
-    let mut folder = folder_failing(alloc, &[2], 30)?;
-    assert_eq!(rt;
-        read_three(alloc, &model, &mut folder, "t").err(),
-        Some(TableFault::Absent)
-    );
-    folder.put(
-        "t",
-        table_of(alloc, &model, &rising(), false).ok_or("a table")?,
-    )?;
-    assert_eq!(rt;
-        read_three(alloc, &model, &mut folder, "t").err(),
-        Some(TableFault::Failed)
-    );
     Ok(())
 }
