@@ -1,0 +1,181 @@
+-- Gaps from whole numbers; the sides of a box; clear boxes by their extremes.
+use Rattle.std.proofs.Common.{◌≡◌, ℕ, ◌*◌, ◌<◌, ⊎_elim, refl, sym, ap, ap₂, ◌∙◌, arith, Bool, true, false, cond, [], ◌∷◌, ℤ, pos, neg_ℤ, ◌+ℤ◌, ◌-ℤ◌, ◌*ℤ◌, ◌≤ℤ◌, ◌<ℤ◌, int_lt, mul-pos}
+use Rattle.std.proofs.lemmas.Int.{ints}
+use lib.IntN.{*ℤ_comm}
+use Rattle.acas_flight.proofs.IntRing.{at, num, ◌⊕◌, ◌⊖◌, ◌⊗◌, ring, neg_mul_ℤ}
+use Rattle.acas_flight.proofs.Orders.{mul_le_left, mul_lt_left, cases_lt_ℤ}
+use Rattle.acas_flight.proofs.Scales.{cancel_left, pos_inj}
+use Rattle.acas_flight.proofs.Held.{held-scaled}
+use Rattle.acas_flight.proofs.Between.{test_lt, test_ge}
+use Rattle.acas_flight.proofs.Mirror.{turned_held}
+use Rattle.acas_flight.specs.Response.{Demand, scaled}
+use Rattle.acas_flight.specs.Contact.{vertical_separation}
+use Rattle.acas_flight.specs.Curves.{held, low_pull, low_hold, high_pull, high_hold}
+use Rattle.acas_flight.specs.Window.{Times}
+use Rattle.acas_flight.specs.Clear.{Area, low_pull_of, high_pull_of, least_gap, greatest_gap}
+use Rattle.acas_flight.specs.Values.{negated}
+use Rattle.acas_flight.specs.Side.{Side, side_gap, IsGapAt, IsLeastGap, low_side_of, high_side_of, gap_number}
+use Rattle.acas_flight.specs.Extremes.{IsLowExtreme, IsHighExtreme}
+use Rattle.acas_frac.specs.Fraction.{Fraction}
+
+module _ (s : Side) (d n q t : ℕ) (e : t * d ≡ n * q) where
+  climbs : held (s.start *ℤ pos (q * q)) (s.aim *ℤ pos (q * q)) (s.pull * q) (s.hold * q) t *ℤ pos ((d * d) * (d * d))
+      ≡ held (s.start *ℤ pos d) (s.aim *ℤ pos d) s.pull (s.hold * d) n *ℤ pos (((q * d) * q) * ((q * d) * q))
+  climbs =
+      sym (held-scaled (s.start *ℤ pos (q * q)) (s.aim *ℤ pos (q * q)) (s.pull * q) (s.hold * q) t d d)
+      ∙ ap₂ (λ (v k : ℤ). held v k ((s.pull * q) * d) ((s.hold * q) * d) (t * d)) (turn s.start) (turn s.aim)
+      ∙ ap₂ (λ (b g : ℕ). held ((s.start *ℤ pos d) *ℤ pos ((q * d) * q)) ((s.aim *ℤ pos d) *ℤ pos ((q * d) * q)) b g (t * d)) pulls holds
+      ∙ ap (λ (m : ℕ). held ((s.start *ℤ pos d) *ℤ pos ((q * d) * q)) ((s.aim *ℤ pos d) *ℤ pos ((q * d) * q)) (s.pull * (q * d)) ((s.hold * d) * q) m) e
+      ∙ held-scaled (s.start *ℤ pos d) (s.aim *ℤ pos d) s.pull (s.hold * d) n (q * d) q
+    where
+      turn : (v : ℤ) → (v *ℤ pos (q * q)) *ℤ pos (d * d) ≡ (v *ℤ pos d) *ℤ pos ((q * d) * q)
+      turn v = ring (v ∷ pos q ∷ pos d ∷ []) ((at 0 ⊗ (at 1 ⊗ at 1)) ⊗ (at 2 ⊗ at 2)) ((at 0 ⊗ at 2) ⊗ ((at 1 ⊗ at 2) ⊗ at 1)) refl
+
+      pulls : (s.pull * q) * d ≡ s.pull * (q * d)
+      pulls = omega arith
+
+      holds : (s.hold * q) * d ≡ (s.hold * d) * q
+      holds = omega arith
+
+  lines : (pos (s.pull * q) *ℤ vertical_separation q (s.height *ℤ pos q) (s.rate *ℤ pos q) t (pos 0)) *ℤ pos ((d * d) * (d * d))
+      ≡ (((s.height *ℤ pos d) +ℤ ((pos 2 *ℤ s.rate) *ℤ pos n)) *ℤ pos (d * s.pull)) *ℤ pos (((q * d) * q) * ((q * d) * q))
+  lines =
+      ring (pos s.pull ∷ pos q ∷ s.height ∷ s.rate ∷ pos t ∷ pos d ∷ [])
+      (((at 0 ⊗ at 1) ⊗ ((((at 2 ⊗ at 1) ⊗ (at 1 ⊗ at 1)) ⊕ (((num (pos 2) ⊗ (at 3 ⊗ at 1)) ⊗ at 4) ⊗ at 1)) ⊖ num (pos 0))) ⊗ ((at 5 ⊗ at 5) ⊗ (at 5 ⊗ at 5)))
+      ((((at 0 ⊗ at 2) ⊗ ((at 1 ⊗ at 1) ⊗ (at 1 ⊗ at 1))) ⊗ ((at 5 ⊗ at 5) ⊗ (at 5 ⊗ at 5))) ⊕ ((((num (pos 2) ⊗ at 0) ⊗ at 3) ⊗ ((at 1 ⊗ at 1) ⊗ at 1)) ⊗ ((at 5 ⊗ at 5) ⊗ at 5)) ⊗ (at 4 ⊗ at 5))
+      refl
+      ∙ ap (λ (m : ℕ). (((pos s.pull *ℤ s.height) *ℤ ((pos q *ℤ pos q) *ℤ (pos q *ℤ pos q))) *ℤ ((pos d *ℤ pos d) *ℤ (pos d *ℤ pos d))) +ℤ (((((pos 2 *ℤ pos s.pull) *ℤ s.rate) *ℤ ((pos q *ℤ pos q) *ℤ pos q)) *ℤ ((pos d *ℤ pos d) *ℤ pos d)) *ℤ pos m)) e
+      ∙ ring (pos s.pull ∷ pos q ∷ s.height ∷ s.rate ∷ pos n ∷ pos d ∷ [])
+      ((((at 0 ⊗ at 2) ⊗ ((at 1 ⊗ at 1) ⊗ (at 1 ⊗ at 1))) ⊗ ((at 5 ⊗ at 5) ⊗ (at 5 ⊗ at 5))) ⊕ ((((num (pos 2) ⊗ at 0) ⊗ at 3) ⊗ ((at 1 ⊗ at 1) ⊗ at 1)) ⊗ ((at 5 ⊗ at 5) ⊗ at 5)) ⊗ (at 4 ⊗ at 1))
+      ((((at 2 ⊗ at 5) ⊕ ((num (pos 2) ⊗ at 3) ⊗ at 4)) ⊗ (at 5 ⊗ at 0)) ⊗ (((at 1 ⊗ at 5) ⊗ at 1) ⊗ ((at 1 ⊗ at 5) ⊗ at 1)))
+      refl
+
+  gaps : side_gap s q t *ℤ pos ((d * d) * (d * d)) ≡ gap_number s d n *ℤ pos (((q * d) * q) * ((q * d) * q))
+  gaps = split (held (s.start *ℤ pos (q * q)) (s.aim *ℤ pos (q * q)) (s.pull * q) (s.hold * q) t) (pos (s.pull * q) *ℤ vertical_separation q (s.height *ℤ pos q) (s.rate *ℤ pos q) t (pos 0)) (pos ((d * d) * (d * d)))
+      ∙ ap₂ (λ (a b : ℤ). a -ℤ b) climbs lines
+      ∙ sym (split (held (s.start *ℤ pos d) (s.aim *ℤ pos d) s.pull (s.hold * d) n) (((s.height *ℤ pos d) +ℤ ((pos 2 *ℤ s.rate) *ℤ pos n)) *ℤ pos (d * s.pull)) (pos (((q * d) * q) * ((q * d) * q))))
+    where
+      split : (a b c : ℤ) → (a -ℤ b) *ℤ c ≡ (a *ℤ c) -ℤ (b *ℤ c)
+      split a b c = ring (a ∷ b ∷ c ∷ []) ((at 0 ⊖ at 1) ⊗ at 2) ((at 0 ⊗ at 2) ⊖ (at 1 ⊗ at 2)) refl
+
+-- A fraction whose value is the gap number over d*d and the pull is the gap.
+pub IsGapAt-of : (s : Side) (time y : Fraction) (n : ℕ) → time.num ≡ pos n → 0 < time.den → y.num *ℤ pos (time.den * time.den * s.pull) ≡ gap_number s time.den n *ℤ pos y.den → IsGapAt s time y
+IsGapAt-of s time y n en sd e = record { over = λ q t p it. at_q q t p (pos_inj (t * time.den) (n * q) (it ∙ ap (λ z. z *ℤ pos q) en)) }
+  where
+    at_q : (q t : ℕ) → 0 < q → t * time.den ≡ n * q → y.num *ℤ pos (q * q * q * (s.pull * q)) ≡ side_gap s q t *ℤ pos y.den
+    at_q q t p f =
+        cancel_left ((time.den * time.den) * (time.den * time.den)) (y.num *ℤ pos (q * q * q * (s.pull * q))) (side_gap s q t *ℤ pos y.den) (mul-pos (mul-pos sd sd) (mul-pos sd sd))
+        (ring (pos time.den ∷ y.num ∷ pos q ∷ pos s.pull ∷ [])
+        (((at 0 ⊗ at 0) ⊗ (at 0 ⊗ at 0)) ⊗ (at 1 ⊗ (((at 2 ⊗ at 2) ⊗ at 2) ⊗ (at 3 ⊗ at 2))))
+        ((at 1 ⊗ ((at 0 ⊗ at 0) ⊗ at 3)) ⊗ (((at 2 ⊗ at 0) ⊗ at 2) ⊗ ((at 2 ⊗ at 0) ⊗ at 2)))
+        refl
+        ∙ ap (λ z. z *ℤ pos (((q * time.den) * q) * ((q * time.den) * q))) e
+        ∙ swap (gap_number s time.den n) (pos y.den) (pos (((q * time.den) * q) * ((q * time.den) * q)))
+        ∙ ap (λ z. z *ℤ pos y.den) (sym (gaps s time.den n q t f))
+        ∙ back (side_gap s q t) (pos ((time.den * time.den) * (time.den * time.den))) (pos y.den))
+      where
+        swap : (a b c : ℤ) → (a *ℤ b) *ℤ c ≡ (a *ℤ c) *ℤ b
+        swap a b c = ring (a ∷ b ∷ c ∷ []) ((at 0 ⊗ at 1) ⊗ at 2) ((at 0 ⊗ at 2) ⊗ at 1) refl
+
+        back : (a c b : ℤ) → (a *ℤ c) *ℤ b ≡ c *ℤ (a *ℤ b)
+        back a c b = ring (a ∷ c ∷ b ∷ []) ((at 0 ⊗ at 1) ⊗ at 2) (at 1 ⊗ (at 0 ⊗ at 2)) refl
+
+-- ---- the sides of a box
+
+test_scaled : (a b : ℤ) (n : ℕ) → 0 < n → int_lt (a *ℤ pos n) (b *ℤ pos n) ≡ int_lt a b
+test_scaled a b n p =
+    ⊎_elim
+    (λ h. test_lt (a *ℤ pos n) (b *ℤ pos n) (rw (*ℤ_comm a (pos n), *ℤ_comm b (pos n)) (mul_lt_left n a b p h)) ∙ sym (test_lt a b h))
+    (λ h. test_ge (a *ℤ pos n) (b *ℤ pos n) (rw (*ℤ_comm a (pos n), *ℤ_comm b (pos n)) (mul_le_left n b a h)) ∙ sym (test_ge a b h))
+    (cases_lt_ℤ a b)
+
+cond_times : (t : Bool) (a b q : ℕ) → cond t (a * q) (b * q) ≡ cond t a b * q
+cond_times true a b q = refl
+cond_times false a b q = refl
+
+cond_none : (t : Bool) (a q : ℕ) → cond t (a * q) 0 ≡ cond t a 0 * q
+cond_none true a q = refl
+cond_none false a q = omega arith
+
+module _ (a : Demand) (box : Area) (q : ℕ) (p : 0 < q) where
+  low_test : int_lt (box.own.least *ℤ pos (q * q)) (a.lo *ℤ pos (q * q)) ≡ int_lt box.own.least a.lo
+  low_test = test_scaled box.own.least a.lo (q * q) (mul-pos p p)
+
+  pub low_pull-side : low_pull_of q a box ≡ low_pull a box.own.least * q
+  low_pull-side = ap (λ t. cond t (a.pull * q) (a.limit * q)) low_test ∙ cond_times (int_lt box.own.least a.lo) a.pull a.limit q
+
+  low_hold-side : low_hold (scaled q a) (box.own.least *ℤ pos (q * q)) ≡ low_hold a box.own.least * q
+  low_hold-side = ap (λ t. cond t (a.delay * q) 0) low_test ∙ cond_none (int_lt box.own.least a.lo) a.delay q
+
+  pub least_gap-side : (t : ℕ) → least_gap q a box t ≡ side_gap (low_side_of a box) q t
+  least_gap-side t =
+      ap₂ (λ (b g : ℕ). held (box.own.least *ℤ pos (q * q)) (a.lo *ℤ pos (q * q)) b g t -ℤ (pos b *ℤ vertical_separation q (box.altitude.greatest *ℤ pos q) (box.intruder.greatest *ℤ pos q) t (pos 0))) low_pull-side low_hold-side
+
+  high_test : int_lt (a.hi *ℤ pos (q * q)) (box.own.greatest *ℤ pos (q * q)) ≡ int_lt a.hi box.own.greatest
+  high_test = test_scaled a.hi box.own.greatest (q * q) (mul-pos p p)
+
+  pub high_pull-side : high_pull_of q a box ≡ high_pull a box.own.greatest * q
+  high_pull-side = ap (λ t. cond t (a.pull * q) (a.limit * q)) high_test ∙ cond_times (int_lt a.hi box.own.greatest) a.pull a.limit q
+
+  high_hold-side : high_hold (scaled q a) (box.own.greatest *ℤ pos (q * q)) ≡ high_hold a box.own.greatest * q
+  high_hold-side = ap (λ t. cond t (a.delay * q) 0) high_test ∙ cond_none (int_lt a.hi box.own.greatest) a.delay q
+
+  pub greatest_gap-side : (t : ℕ) → greatest_gap q a box t ≡ neg_ℤ (side_gap (high_side_of a box) q t)
+  greatest_gap-side t =
+      ap₂ (λ (b g : ℕ). held (box.own.greatest *ℤ pos (q * q)) (a.hi *ℤ pos (q * q)) b g t -ℤ (pos b *ℤ vertical_separation q (box.altitude.least *ℤ pos q) (box.intruder.least *ℤ pos q) t (pos 0))) high_pull-side high_hold-side
+      ∙ turned (high_pull a box.own.greatest * q) (high_hold a box.own.greatest * q)
+    where
+      line : (c l c' l' : ℤ) → c' ≡ neg_ℤ c → l' ≡ neg_ℤ l → c -ℤ l ≡ neg_ℤ (c' -ℤ l')
+      line c l c' l' e f = omega (arith, ints)
+
+      minus : (x : ℤ) → neg_ℤ x ≡ pos 0 -ℤ x
+      minus x = omega (arith, ints)
+
+      opposite : (b : ℕ) (h w : ℤ) → pos b *ℤ vertical_separation q (neg_ℤ h *ℤ pos q) (neg_ℤ w *ℤ pos q) t (pos 0) ≡ neg_ℤ (pos b *ℤ vertical_separation q (h *ℤ pos q) (w *ℤ pos q) t (pos 0))
+      opposite b h w =
+          ap₂ (λ (i j : ℤ). pos b *ℤ vertical_separation q (i *ℤ pos q) (j *ℤ pos q) t (pos 0)) (minus h) (minus w)
+          ∙ ring (pos b ∷ h ∷ w ∷ pos q ∷ pos t ∷ [])
+          (at 0 ⊗ (((((num (pos 0) ⊖ at 1) ⊗ at 3) ⊗ (at 3 ⊗ at 3)) ⊕ (((num (pos 2) ⊗ ((num (pos 0) ⊖ at 2) ⊗ at 3)) ⊗ at 4) ⊗ at 3)) ⊖ num (pos 0)))
+          (num (pos 0) ⊖ (at 0 ⊗ ((((at 1 ⊗ at 3) ⊗ (at 3 ⊗ at 3)) ⊕ (((num (pos 2) ⊗ (at 2 ⊗ at 3)) ⊗ at 4) ⊗ at 3)) ⊖ num (pos 0))))
+          refl
+          ∙ sym (minus (pos b *ℤ vertical_separation q (h *ℤ pos q) (w *ℤ pos q) t (pos 0)))
+
+      turned : (b g : ℕ) → held (box.own.greatest *ℤ pos (q * q)) (a.hi *ℤ pos (q * q)) b g t -ℤ (pos b *ℤ vertical_separation q (box.altitude.least *ℤ pos q) (box.intruder.least *ℤ pos q) t (pos 0))
+          ≡ neg_ℤ (held (neg_ℤ box.own.greatest *ℤ pos (q * q)) (neg_ℤ a.hi *ℤ pos (q * q)) b g t -ℤ (pos b *ℤ vertical_separation q (neg_ℤ box.altitude.least *ℤ pos q) (neg_ℤ box.intruder.least *ℤ pos q) t (pos 0)))
+      turned b g = line _ _ _ _
+          (ap₂ (λ (v k : ℤ). held v k b g t) (neg_mul_ℤ box.own.greatest (pos (q * q))) (neg_mul_ℤ a.hi (pos (q * q))) ∙ turned_held (box.own.greatest *ℤ pos (q * q)) (a.hi *ℤ pos (q * q)) b g t)
+          (opposite b box.altitude.least box.intruder.least)
+
+-- The extremes of a box are those of its sides.
+pub low_extreme_of : (a : Demand) (box : Area) (w : Times) (time y : Fraction) → IsLeastGap (low_side_of a box) w time y → IsLowExtreme a box w time y
+low_extreme_of a box w time y l = record {
+  after = l.after;
+  before = l.before;
+  value = λ q t p i. rw (least_gap-side a box q p t, low_pull-side a box q p) (l.value.over q t p i);
+  least = λ q t p i. rw (least_gap-side a box q p t, low_pull-side a box q p) (l.least q t p i);
+  earliest = λ q t p i j. rw (least_gap-side a box q p t, low_pull-side a box q p) (l.earliest q t p i j);
+}
+
+neg_value : (y g : ℤ) (c d : ℕ) → y *ℤ pos c ≡ g *ℤ pos d → neg_ℤ y *ℤ pos c ≡ neg_ℤ g *ℤ pos d
+neg_value y g c d e = neg_mul_ℤ y (pos c) ∙ ap neg_ℤ e ∙ sym (neg_mul_ℤ g (pos d))
+
+neg_le : (y g : ℤ) (c d : ℕ) → (y *ℤ pos c) ≤ℤ (g *ℤ pos d) → (neg_ℤ g *ℤ pos d) ≤ℤ (neg_ℤ y *ℤ pos c)
+neg_le y g c d h = rw (neg_mul_ℤ y (pos c), neg_mul_ℤ g (pos d)) (line (y *ℤ pos c) (g *ℤ pos d) h)
+  where
+    line : (a b : ℤ) → a ≤ℤ b → neg_ℤ b ≤ℤ neg_ℤ a
+    line a b h = omega (arith, ints)
+
+neg_lt : (y g : ℤ) (c d : ℕ) → (y *ℤ pos c) <ℤ (g *ℤ pos d) → (neg_ℤ g *ℤ pos d) <ℤ (neg_ℤ y *ℤ pos c)
+neg_lt y g c d h = rw (neg_mul_ℤ y (pos c), neg_mul_ℤ g (pos d)) (line (y *ℤ pos c) (g *ℤ pos d) h)
+  where
+    line : (a b : ℤ) → a <ℤ b → neg_ℤ b <ℤ neg_ℤ a
+    line a b h = omega (arith, ints)
+
+pub high_extreme_of : (a : Demand) (box : Area) (w : Times) (time y : Fraction) → IsLeastGap (high_side_of a box) w time y → IsHighExtreme a box w time (negated y)
+high_extreme_of a box w time y l = record {
+  after = l.after;
+  before = l.before;
+  value = λ q t p i. rw (greatest_gap-side a box q p t, high_pull-side a box q p) (neg_value y.num (side_gap (high_side_of a box) q t) (q * q * q * (high_pull a box.own.greatest * q)) y.den (l.value.over q t p i));
+  greatest = λ q t p i. rw (greatest_gap-side a box q p t, high_pull-side a box q p) (neg_le y.num (side_gap (high_side_of a box) q t) (q * q * q * (high_pull a box.own.greatest * q)) y.den (l.least q t p i));
+  earliest = λ q t p i j. rw (greatest_gap-side a box q p t, high_pull-side a box q p) (neg_lt y.num (side_gap (high_side_of a box) q t) (q * q * q * (high_pull a box.own.greatest * q)) y.den (l.earliest q t p i j));
+}

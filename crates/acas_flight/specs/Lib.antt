@@ -1,0 +1,10 @@
+pub mod Response
+pub mod State
+pub mod Contact
+pub mod Parts
+pub mod Curves
+pub mod Window
+pub mod Clear
+pub mod Values
+pub mod Side
+pub mod Extremes

@@ -1,0 +1,39 @@
+-- Bounds of products and of curves.
+use Rattle.std.proofs.Common.{◌≡◌, ℕ, ◌+◌, ◌-◌, ◌*◌, ◌^◌, ◌<◌, ◌≤◌, refl, ap, ◌∙◌, arith, Bool, true, false, ℤ, pos, ◌-ℤ◌, ◌*ℤ◌, unsigned_abs, int_le, min, to_z, of_z, mul-le-mul, mul-le-mul_left}
+use Rattle.std.specs.Int.{w64}
+use Rattle.std.proofs.lemmas.Int.{ints, unsigned_abs-mul}
+use Rattle.acas_units.specs.declared.limits.TheConstants.{GREATEST_CLOSING, GREATEST_LIMIT}
+use Rattle.acas_flight.proofs.Curves.{steady}
+use Rattle.acas_flight.proofs.Held.{held_one_form}
+use Rattle.acas_frac.specs.Fraction.{ReducesWithinBounds}
+use Rattle.acas_flight.specs.Curves.{held}
+use Rattle.acas_flight.specs.Values.{all_lost, less_or_more}
+use Rattle.acas_frac.proofs.Lowest.{ReducesWithinBounds-over}
+
+pub small : (a : ℤ) (n m k : ℕ) → unsigned_abs a ≤ m → n ≤ k → unsigned_abs (a *ℤ pos n) ≤ m * k
+small a n m k h j = rw (unsigned_abs-mul a (pos n)) (mul-le-mul h j)
+
+pub whole64 : (z : ℤ) → unsigned_abs z ≤ 1000000000000000000 → to_z w64 (of_z w64 z) ≡ z
+whole64 z h = omega (arith, ints)
+
+pub small_reduces : (n : ℤ) (d : ℕ) → unsigned_abs n ≤ 2 * 10 ^ 20 → 0 < d → d ≤ GREATEST_CLOSING * GREATEST_CLOSING * GREATEST_LIMIT → ReducesWithinBounds (unsigned_abs n) d
+small_reduces n d h p k = ReducesWithinBounds-over (unsigned_abs n) d (unsigned_abs n) d p p refl (omega arith) (omega arith)
+
+size_with : (r : Bool) (s : ℤ) (l : ℕ) → unsigned_abs (less_or_more r s l) ≤ unsigned_abs s + l
+size_with true s l = omega (arith, ints)
+size_with false s l = omega (arith, ints)
+
+-- the numbers of a curve from whole rates, over 5000 at most
+pub held_small : (v k : ℤ) (b g t : ℕ) → unsigned_abs v ≤ 50000000 → unsigned_abs k ≤ 50000000 → b * t ≤ 6000000000 → unsigned_abs (held v k b g t) ≤ 100000000000000000000
+held_small v k b g t hv hk ht =
+    let double : 2 * unsigned_abs k ≤ 100000000 = omega arith in
+    let straight : (2 * unsigned_abs k) * (b * t) ≤ 100000000 * 6000000000 = mul-le-mul double ht in
+    let kept : b * min t g ≤ b * t = mul-le-mul_left b (omega arith) in
+    let kept' : b * min t g ≤ 6000000000 = omega arith in
+    let way : unsigned_abs (k -ℤ v) ≤ 100000000 = omega (arith, ints) in
+    let ways : unsigned_abs (k -ℤ v) + unsigned_abs (k -ℤ v) ≤ 200000000 = omega arith in
+    let one : (unsigned_abs (k -ℤ v) + unsigned_abs (k -ℤ v)) * (b * min t g) ≤ 200000000 * 6000000000 = mul-le-mul ways kept' in
+    let two : unsigned_abs (k -ℤ v) * unsigned_abs (k -ℤ v) ≤ 100000000 * 100000000 = mul-le-mul way way in
+    let size : unsigned_abs (steady k t b) ≡ ((2 * unsigned_abs k) * t) * b = unsigned_abs-mul ((pos 2 *ℤ k) *ℤ pos t) (pos b) ∙ ap (λ z. z * b) (unsigned_abs-mul (pos 2 *ℤ k) (pos t) ∙ ap (λ z. z * t) (unsigned_abs-mul (pos 2) k)) in
+    let all = size_with (int_le v k) (steady k t b) (all_lost (unsigned_abs (k -ℤ v)) (b * min t g) (b * (t - g))) in
+    rw (held_one_form v k b g t) (omega (arith, all, size, straight, one, two))

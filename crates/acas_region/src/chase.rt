@@ -1,0 +1,102 @@
+//! How far a curve is over an intruder that flies at a steady rate: in whole numbers, over those of a time.
+ghost use Rattle.std.specs.Prelude.{◌≡◌, ℕ, ◌*◌, ◌^◌, ◌≤◌, pos, ◌+ℤ◌, ◌-ℤ◌, ◌*ℤ◌, unsigned_abs};
+ghost use Rattle.acas_frac.specs.Fraction.{Fraction};
+ghost use Rattle.acas_flight.specs.Curves.{held};
+ghost use Rattle.acas_flight.specs.Side.{gap_number};
+ghost use Rattle.acas_region.specs.Limits.{IsEnd};
+ghost use Rattle.acas_region.specs.Sizes.{altitude_size};
+ghost use Rattle.acas_region.specs.View.{side_in};
+
+use crate::curve::numerator;
+use crate::parts::{Chase, Moment};
+use acas_frac::Frac;
+use acas_units::{GREATEST_CLOSING, GREATEST_LIMIT, GREATEST_RATE, WINDOW_SECONDS};
+
+/// The numbers of a window's end, or of another time over as little.
+pub(crate) fn moment_of(time: &Frac) -> Moment
+    requires { IsEnd time.now }
+    ensures num { Fraction.num time.now ≡ pos result.num }
+    ensures den { Fraction.den time.now ≡ result.den }
+{
+    Moment {
+        num: time.num() as u64,
+        den: time.den() as u64,
+    }
+}
+
+// A whole number over a denominator.
+fn over(value: i64, den: u64) -> i64
+    requires value { unsigned_abs value ≤ altitude_size }
+    requires den { den ≤ GREATEST_CLOSING }
+    ensures value { result ≡ value *ℤ pos den }
+    ensures size { (m n : ℕ) → unsigned_abs value ≤ m → den ≤ n → unsigned_abs result ≤ m * n }
+{
+    value * den as i64
+}
+
+// Twice a rate over a time.
+fn flown(rate: i64, num: u64) -> i64
+    requires rate { unsigned_abs rate ≤ unsigned_abs GREATEST_RATE }
+    requires num { num ≤ WINDOW_SECONDS * GREATEST_CLOSING }
+    ensures value { result ≡ (pos 2 *ℤ rate) *ℤ pos num }
+    ensures size { unsigned_abs result ≤ 2 * unsigned_abs GREATEST_RATE * (WINDOW_SECONDS * GREATEST_CLOSING) }
+{
+    2 * rate * num as i64
+}
+
+// The intruder's altitude at a time, times the pull.
+fn line(height: i64, rate: i64, pull: u64, num: u64, den: u64) -> i64
+    requires height { unsigned_abs height ≤ altitude_size }
+    requires rate { unsigned_abs rate ≤ unsigned_abs GREATEST_RATE }
+    requires pull { pull ≤ GREATEST_LIMIT }
+    requires num { num ≤ WINDOW_SECONDS * GREATEST_CLOSING }
+    requires den { den ≤ GREATEST_CLOSING }
+    ensures value { result ≡ ((height *ℤ pos den) +ℤ ((pos 2 *ℤ rate) *ℤ pos num)) *ℤ pos (den * pull) }
+    ensures size { unsigned_abs result ≤ 10 ^ 18 }
+{
+    (over(height, den) + flown(rate, num)) * (den * pull) as i64
+}
+
+// The climb at a time, times the pull.
+fn climb_of(chase: &Chase, num: u64, den: u64) -> i128
+    requires num { num ≤ WINDOW_SECONDS * GREATEST_CLOSING }
+    requires den { den ≤ GREATEST_CLOSING }
+    ensures value { result ≡ held (chase.now.start *ℤ pos den) (chase.now.aim *ℤ pos den) chase.now.pull (chase.now.hold * den) num }
+    ensures size { unsigned_abs result ≤ 10 ^ 20 }
+{
+    numerator(
+        over(chase.start, den),
+        over(chase.aim, den),
+        chase.pull,
+        chase.hold * den,
+        num,
+    )
+}
+
+// A climb less an altitude.
+fn less(climb: i128, altitude: i64) -> i128
+    requires climb { unsigned_abs climb ≤ 10 ^ 20 }
+    requires altitude { unsigned_abs altitude ≤ 10 ^ 18 }
+    ensures value { result ≡ climb -ℤ altitude }
+    ensures size { unsigned_abs result ≤ 2 * 10 ^ 20 }
+{
+    climb - i128::from(altitude)
+}
+
+/// The curve's climb less the intruder's altitude at a time, over the square of the time's denominator and the pull.
+pub(crate) fn gap_number(chase: &Chase, at: &Moment) -> i128
+    ensures value { result ≡ gap_number (side_in chase.now) at.now.den at.now.num }
+    ensures size { unsigned_abs result ≤ 2 * 10 ^ 20 }
+{
+    let climb = climb_of(chase, at.num, at.den);
+    let altitude = line(chase.height, chase.rate, chase.pull, at.num, at.den);
+    less(climb, altitude)
+}
+
+/// That square times the pull.
+pub(crate) fn scale(chase: &Chase, at: &Moment) -> u64
+    ensures value { result ≡ at.now.den * at.now.den * chase.now.pull }
+    ensures size { result ≤ GREATEST_CLOSING * GREATEST_CLOSING * GREATEST_LIMIT }
+{
+    at.den * at.den * chase.pull
+}

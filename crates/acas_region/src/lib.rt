@@ -1,0 +1,24 @@
+//! When an area of states is clear of contact under an advisory: windows of horizontal contact, the curves that bound the climbs of
+//! all flights that meet the advisory, and the least and greatest gaps to the intruder.
+#![tactic(auto)]
+
+mod chase;
+mod clear;
+mod curve;
+mod demand;
+mod extreme;
+mod fineness;
+mod least;
+mod nearest;
+mod numbers;
+mod parts;
+mod sides;
+mod window;
+
+pub use clear::is_clear;
+pub use curve::{approach, held};
+pub use demand::{highest, lowest};
+pub use extreme::{high_extreme, low_extreme};
+pub use fineness::{HOLD_PARTS, PULL_PARTS, RATE_PARTS, TIME_PARTS};
+pub use parts::{BoxState, Extreme, Window};
+pub use window::{window_of_box, window_of_cell};

@@ -1,0 +1,109 @@
+-- A response from its parts.
+use Rattle.std.proofs.Common.{◌≡◌, ◌≢◌, ℕ, ◌-◌, ◌*◌, ◌<◌, ◌≤◌, ap, ◌∙◌, arith, Some, None, [], ◌∷◌, ℤ, pos, neg_ℤ, ◌-ℤ◌, ◌*ℤ◌, ◌≤ℤ◌, unsigned_abs, int_le, cond, mul-pos, of_z}
+use Rattle.std.specs.Int.{w128}
+use Rattle.std.proofs.lemmas.Int.{ints}
+use Rattle.acas_flight.proofs.Rising.{scaled_le}
+use Rattle.acas_frac.specs.Fraction.{Fraction, IsFrac, whole_of}
+use Rattle.acas_flight.specs.Values.{IsAtMost, IsOver}
+use Rattle.acas_frac.proofs.Lowest.{den_at_most}
+use Rattle.acas_region.specs.Limits.{IsRate, IsPull}
+use Rattle.acas_passes.specs.Responses.{segment, not_held, held_for, at_once, at_aim, before, past}
+use Rattle.acas_witness.specs.Bends.{IsBend, IsDifference}
+use Rattle.acas_witness.specs.Printed.{IsHeldPart, no_hold, a_hold, AreSegments, no_parts, one_part, two_parts}
+use Rattle.acas_witness.specs.declared.flight.Segment.{Segment}
+use Rattle.acas_witness.proofs.Lattices.{at_least, at_most}
+use Rattle.acas_witness.proofs.Portions.{some_of, none_over}
+
+pub not_zero : (z n : ℤ) → (of_z w128 z ≡ 0 → ⊥) → z ≡ n → n ≢ pos 0
+not_zero z n d f = λ e. d (ap (λ x. of_z w128 x) (f ∙ e))
+
+abbrev part : Fraction → Fraction → Segment
+part d a = record { duration = d; acceleration = a }
+
+pub without : (q : ℕ) (v k : ℤ) (b t : ℕ) → t ≡ 0 → AreSegments q v k b t None None
+without q v k b t e = rw e (record { segments = []; approached = at_once; parts = no_parts })
+
+pub level_only : (q : ℕ) (v k : ℤ) (b t : ℕ) (time none : Fraction) → 0 < t → unsigned_abs (k -ℤ v) * q ≡ 0 → IsOver (q * (q * b)) (pos t) time → none ≡ whole_of (pos 0) →
+    AreSegments q v k b t (Some (part time none)) None
+level_only q v k b t time none p e o z = record {
+  segments = segment t (pos 0) ∷ [];
+  approached = at_aim t p e;
+  parts = one_part (segment t (pos 0)) (part time none) (record { duration = o; acceleration = none_over (q * (q * b)) none z });
+}
+
+abbrev toward_is : ℕ → ℤ → ℤ → ℕ → ℤ
+toward_is q v k b = cond (int_le v k) (pos (b * (q * b))) (neg_ℤ (pos (b * (q * b))))
+
+pub before_bend : (q : ℕ) (v k : ℤ) (b t : ℕ) (time a : Fraction) → 0 < t → 0 < unsigned_abs (k -ℤ v) * q → t ≤ unsigned_abs (k -ℤ v) * q → IsOver (q * (q * b)) (pos t) time → IsOver (q * (q * b)) (cond (int_le v k) (pos (b * (q * b))) (neg_ℤ (pos (b * (q * b))))) a →
+    AreSegments q v k b t (Some (part time a)) None
+before_bend q v k b t time a p s h o oa = record {
+  segments = segment t (toward_is q v k b) ∷ [];
+  approached = before t p s h;
+  parts = one_part (segment t (toward_is q v k b)) (part time a) (record { duration = o; acceleration = oa });
+}
+
+pub past_bend : (q : ℕ) (v k : ℤ) (b t : ℕ) (bend a rest none : Fraction) → 0 < unsigned_abs (k -ℤ v) * q → unsigned_abs (k -ℤ v) * q < t → IsOver (q * (q * b)) (pos (unsigned_abs (k -ℤ v) * q)) bend → IsOver (q * (q * b)) (cond (int_le v k) (pos (b * (q * b))) (neg_ℤ (pos (b * (q * b))))) a →
+    IsOver (q * (q * b)) (pos (t - unsigned_abs (k -ℤ v) * q)) rest → none ≡ whole_of (pos 0) → AreSegments q v k b t (Some (part bend a)) (Some (part rest none))
+past_bend q v k b t bend a rest none s h ob oa or z = record {
+  segments = segment (unsigned_abs (k -ℤ v) * q) (toward_is q v k b) ∷ segment (t - unsigned_abs (k -ℤ v) * q) (pos 0) ∷ [];
+  approached = past t s h;
+  parts = two_parts (segment (unsigned_abs (k -ℤ v) * q) (toward_is q v k b)) (segment (t - unsigned_abs (k -ℤ v) * q) (pos 0)) (part bend a) (part rest none)
+      (record { duration = ob; acceleration = oa }) (record { duration = or; acceleration = none_over (q * (q * b)) none z });
+}
+
+pub hold_none : (n t : ℕ) → t ≡ 0 → IsHeldPart n t None
+hold_none n t e = rw e (record { segments = []; held = not_held; part = no_hold })
+
+pub hold_some : (n t : ℕ) (f : Fraction) → 0 < t → IsOver n (pos t) f → IsHeldPart n t (Some f)
+hold_some n t f p o = record { segments = segment t (pos 0) ∷ []; held = held_for t p; part = a_hold (segment t (pos 0)) f o }
+
+-- ---- the bend's fraction
+
+pub pull_some : (b : Fraction) → IsPull b → (0 < unsigned_abs b.num) × (pos 0 ≤ℤ b.num)
+pull_some b h = (omega (arith, ints, h.least, h.some), omega (arith, ints, h.least))
+
+pub bend_den : (v k b y : Fraction) → IsRate v → IsRate k → IsPull b → IsBend v k b y → IsFrac y → y.den ≤ v.den * k.den * unsigned_abs b.num
+bend_den v k b y iv ik ib is f = den_at_most y (pos (unsigned_abs ((k.num *ℤ pos v.den) -ℤ (v.num *ℤ pos k.den)) * b.den)) (v.den * k.den * unsigned_abs b.num) f (mul-pos (mul-pos iv.some ik.some) (pull_some b ib).0) is.over
+
+pub bend_least : (v k b y : Fraction) → IsRate v → IsRate k → IsPull b → IsBend v k b y → pos 0 ≤ℤ y.num
+bend_least v k b y iv ik ib is = line y.num y.den
+    (at_least y (pos (unsigned_abs ((k.num *ℤ pos v.den) -ℤ (v.num *ℤ pos k.den)) * b.den)) (pos 0) (v.den * k.den * unsigned_abs b.num) (mul-pos (mul-pos iv.some ik.some) (pull_some b ib).0) is.over (omega (arith, ints)))
+  where
+    line : (z : ℤ) (d : ℕ) → (pos 0 *ℤ pos d) ≤ℤ z → pos 0 ≤ℤ z
+    line z d h = omega (arith, ints)
+
+-- ---- the difference's fraction
+
+module _ (f g r : Fraction) (pf : 0 < f.den) (pg : 0 < g.den) (is : IsDifference f g r) (order : IsAtMost g f) (least : pos 0 ≤ℤ g.num) (most : f.num ≤ℤ pos (600 * f.den)) (fr : IsFrac r) where
+  pub difference_den : r.den ≤ f.den * g.den
+  difference_den = den_at_most r ((f.num *ℤ pos g.den) -ℤ (g.num *ℤ pos f.den)) (f.den * g.den) fr (mul-pos pf pg) is.over
+
+  pub difference_least : pos 0 ≤ℤ r.num
+  difference_least = line r.num r.den
+      (at_least r ((f.num *ℤ pos g.den) -ℤ (g.num *ℤ pos f.den)) (pos 0) (f.den * g.den) (mul-pos pf pg) is.over (above (f.num *ℤ pos g.den) (g.num *ℤ pos f.den) (f.den * g.den) order))
+    where
+      line : (z : ℤ) (d : ℕ) → (pos 0 *ℤ pos d) ≤ℤ z → pos 0 ≤ℤ z
+      line z d h = omega (arith, ints)
+
+      above : (a b : ℤ) (d : ℕ) → b ≤ℤ a → (pos 0 *ℤ pos d) ≤ℤ (a -ℤ b)
+      above a b d h = omega (arith, ints)
+
+  pub difference_most : r.num ≤ℤ pos (600 * r.den)
+  difference_most =
+      at_most r ((f.num *ℤ pos g.den) -ℤ (g.num *ℤ pos f.den)) (pos 600) (f.den * g.den) (mul-pos pf pg) is.over
+      (under (f.num *ℤ pos g.den) (g.num *ℤ pos f.den) (600 * (f.den * g.den)) (let h = scaled_le f.num (pos (600 * f.den)) g.den most in let e : (600 * f.den) * g.den ≡ 600 * (f.den * g.den) = omega arith in rw e at h) (from_zero g.num f.den (scaled_le (pos 0) g.num f.den least)))
+    where
+      from_zero : (a : ℤ) (d : ℕ) → (pos 0 *ℤ pos d) ≤ℤ (a *ℤ pos d) → pos 0 ≤ℤ (a *ℤ pos d)
+      from_zero a d h = omega (arith, ints)
+
+      under : (a b : ℤ) (n : ℕ) → a ≤ℤ pos n → pos 0 ≤ℤ b → (a -ℤ b) ≤ℤ pos n
+      under a b n h k = omega (arith, ints)
+
+pub fine_some : (q b : ℕ) (p : Fraction) → IsPull p → 0 < q → IsOver q (pos b) p → 0 < q * (q * b)
+fine_some q b p h s o = mul-pos s (mul-pos s (some_of q b p s o (λ e. absurd (line p.num (pull_some p h).0 e))))
+  where
+    line : (z : ℤ) → 0 < unsigned_abs z → z ≡ pos 0 → ⊥
+    line z h e = omega (arith, ints)
+
+pub opposite_from : (r p : Fraction) (x : ℤ) (d : ℕ) → r.num *ℤ pos d ≡ x *ℤ pos r.den → d ≡ p.den → x ≡ neg_ℤ p.num → r.num *ℤ pos p.den ≡ neg_ℤ p.num *ℤ pos r.den
+opposite_from r p x d e ed ex = rw (← ed, ← ex) e

@@ -1,0 +1,104 @@
+-- The printed flight ends in contact.
+use Rattle.std.proofs.Common.{◌≡◌, ℕ, ◌+◌, ◌-◌, ◌*◌, ◌<◌, ◌≤◌, ⊎_elim, refl, ap, sym, ◌∙◌, arith, List, [], ◌∷◌, ◌++◌, ℤ, pos, ◌*ℤ◌, ◌≤ℤ◌, unsigned_abs, min, mul-pos, mul-le-mul}
+use Rattle.std.proofs.lemmas.Int.{ints}
+use Rattle.acas_frac.specs.Fraction.{Fraction}
+use Rattle.acas_flight.specs.Response.{Demand, Segment, lasting}
+use Rattle.acas_flight.specs.Clear.{Area}
+use Rattle.acas_flight.specs.Window.{Times, IsDuring}
+use Rattle.acas_flight.specs.Values.{IsOver}
+use Rattle.acas_flight.proofs.IntRing.{at, ◌⊗◌, ring}
+use Rattle.acas_flight.proofs.Orders.{le_from_mul_left}
+use Rattle.acas_flight.proofs.Rising.{scaled_le}
+use Rattle.acas_region.specs.Limits.{IsHeldCurve, IsOneAtMostNotWhole, IsEnd}
+use Rattle.acas_passes.specs.Value.{thinnest}
+use Rattle.acas_passes.specs.Flights.{Flight}
+use Rattle.acas_passes.specs.Search.{Search, IsSearch, IsTimed, IsFound, CanMeet, unit}
+use Rattle.acas_passes.specs.Responses.{IsResponse, fine, scale}
+use Rattle.acas_passes.proofs.Ends.{found-contact}
+use Rattle.acas_passes.proofs.Flown.{response-lasting, approach-lasting}
+use Rattle.acas_witness.specs.declared.plan.Plan.{Plan}
+use Rattle.acas_witness.specs.declared.flight.Flight as printed
+use Rattle.acas_witness.specs.Witness.{search_between, IsPlanIn, IsFlightInContact}
+use Rattle.acas_witness.specs.Printed.{Prints}
+use Rattle.acas_witness.proofs.Portions.{finer}
+
+pub unit_positive : (a : Demand) (area : Area) (low high : Fraction) → IsEnd low → IsEnd high → 0 < unit (search_between a area low high)
+unit_positive a area low high l h = mul-pos (omega arith) (mul-pos l.some h.some)
+
+-- the denominators of the times and of the bend
+pub planned_dens : (v k b g t : Fraction) → IsHeldCurve v k b g t → (t.den * g.den) * (v.den * k.den * unsigned_abs b.num) ≤ 10000000000000
+planned_dens v k b g t w = ⊎_elim
+    (λ (e : g.den ≡ 1). ⊎_elim
+    (λ a. rw (e, a.0, a.1) (small (t.den * 1) (1 * 1 * unsigned_abs b.num) 1280000 2000 (omega (arith, w.curve.time.den)) (let m = rw a.2 at pull in omega arith) (omega arith)))
+    (λ p. coarse e p.0 p.1) w.curve.fine)
+    (λ p. rw (p.0.0, p.0.1) (small (t.den * g.den) (1 * 1 * unsigned_abs b.num) (5000 * 256) 2000 (mul-le-mul p.1 w.hold.den) (let m = rw p.0.2 at pull in omega arith) (omega arith)))
+    w.hold_fine
+  where
+    pull : unsigned_abs b.num ≤ 2000 * b.den
+    pull = omega (arith, ints, w.curve.pull.greatest, w.curve.pull.least)
+
+    small : (x y m n : ℕ) → x ≤ m → y ≤ n → m * n ≤ 10000000000000 → x * y ≤ 10000000000000
+    small x y m n h k l = omega (arith, mul-le-mul h k)
+
+    coarse : g.den ≡ 1 → t.den ≤ 5000 → IsOneAtMostNotWhole v k b → (t.den * g.den) * (v.den * k.den * unsigned_abs b.num) ≤ 10000000000000
+    coarse e h o = ⊎_elim
+        (λ (p : (v.den ≡ 1) × (k.den ≡ 1)). rw (e, p.0, p.1) (small (t.den * 1) (1 * 1 * unsigned_abs b.num) 5000 4096000 (omega arith) (omega (arith, pull, w.curve.pull.den)) (omega arith)))
+        (λ q. ⊎_elim
+        (λ (p : (v.den ≡ 1) × (b.den ≡ 1)). let m = rw p.1 at pull in let n : unsigned_abs b.num ≤ 2000 = omega arith in rw (e, p.0) (small (t.den * 1) (1 * k.den * unsigned_abs b.num) 5000 16000 (omega arith) (omega (arith, mul-le-mul w.curve.aim.den n)) (omega arith)))
+        (λ (p : (k.den ≡ 1) × (b.den ≡ 1)). let m = rw p.1 at pull in let n : unsigned_abs b.num ≤ 2000 = omega arith in rw (e, p.0) (small (t.den * 1) (v.den * 1 * unsigned_abs b.num) 5000 16000 (omega arith) (omega (arith, mul-le-mul w.curve.start.den n)) (omega arith)))
+        q)
+        o
+
+length_of : (q : ℕ) (c : Flight) (h r : List Segment) → IsResponse q c h r → lasting (h ++ r) ≡ c.time * scale q c
+length_of q c h r is =
+    response-lasting (min c.time c.hold * scale q c) ((c.time - c.hold) * scale q c) h r is.held (approach-lasting _ _ _ r is.approached)
+    ∙ sums (min c.time c.hold) (c.time - c.hold) c.time (scale q c) (omega arith)
+  where
+    sums : (i j t m : ℕ) → t ≡ i + j → i * m + j * m ≡ t * m
+    sums i j t m e = rw e (omega arith)
+
+along : (q b : ℕ) → q * (q * b) ≡ (q * q) * b
+along q b = omega arith
+
+response_of : (q : ℕ) (c : Flight) (f : printed.Flight) (fl : Prints q c f) → IsResponse q c fl.hold.segments fl.segments.segments
+response_of q c f fl = record { held = fl.hold.held; approached = fl.segments.approached }
+
+pub contact_at : (half : ℕ) (s : Search) (w : Times) (c : Flight) (f : printed.Flight) → thinnest ≤ 2 * half → IsSearch s → IsTimed s w → CanMeet half s → IsFound half s c → Prints (unit s) c f → IsFlightInContact half s.demand s.area w f
+contact_at half s w c f thick is timed can found fl = record {
+  q = fine (unit s) c;
+  altitude = c.altitude *ℤ pos (fine (unit s) c);
+  own = c.own *ℤ pos c.pull;
+  intruder = c.intruder *ℤ pos c.pull;
+  hold = fl.hold.segments;
+  rest = fl.segments.segments;
+  time_over = rw (length_of (unit s) c fl.hold.segments fl.segments.segments (response_of (unit s) c f fl)) (finer f.time (unit s) (unit s * c.pull) (pos c.time) fl.time);
+  altitude_over = ap (λ z. z *ℤ pos (fine (unit s) c)) (sym fl.altitude);
+  own_over = rw (along (unit s) c.pull) (finer f.v0 (unit s * unit s) c.pull c.own fl.own);
+  intruder_over = rw (along (unit s) c.pull) (finer f.v1 (unit s * unit s) c.pull c.intruder fl.intruder);
+  held = fl.hold.part;
+  parts = fl.segments.parts;
+  contact = found-contact half s w c fl.hold.segments fl.segments.segments thick is timed can found (response_of (unit s) c f fl);
+}
+
+pub contact_of : (half : ℕ) (a : Demand) (area : Area) (w : Times) (p : Plan) (f : printed.Flight) (n : IsPlanIn half a area w p) →
+    Prints (unit (search_between a area n.low n.high)) n.found.flight f → IsFlightInContact half a area w f
+contact_of half a area w p f n fl =
+    contact_at half (search_between a area n.low n.high) w n.found.flight f n.thick n.fine
+    (record { low_after = n.at_low.after; low_before = n.at_low.before; high_after = n.at_high.after; high_before = n.at_high.before }) n.can n.found.found fl
+
+-- the flight's time is one of the window
+pub during_of : (w : Times) (f : Fraction) (q t : ℕ) → 0 < q → pos 0 ≤ℤ f.num → IsOver q (pos t) f → IsDuring q w t → IsDuring f.den w (unsigned_abs f.num)
+during_of w f q t p h o i = by (unsigned_abs f.num) (omega (arith, ints))
+  where
+    turn : (a : ℤ) (q d : ℕ) → pos q *ℤ (a *ℤ pos d) ≡ (a *ℤ pos q) *ℤ pos d
+    turn a q d = ring (a ∷ pos q ∷ pos d ∷ []) (at 1 ⊗ (at 0 ⊗ at 2)) ((at 0 ⊗ at 1) ⊗ at 2) refl
+
+    over : (n c : ℕ) → f.num ≡ pos n → pos q *ℤ pos (n * c) ≡ pos (t * c) *ℤ pos f.den
+    over n c e = ring (pos n ∷ pos q ∷ pos c ∷ []) (at 1 ⊗ (at 0 ⊗ at 2)) ((at 0 ⊗ at 1) ⊗ at 2) refl ∙ ap (λ z. (z *ℤ pos q) *ℤ pos c) (sym e) ∙ ap (λ z. z *ℤ pos c) (sym o)
+        ∙ ring (pos t ∷ pos f.den ∷ pos c ∷ []) ((at 0 ⊗ at 1) ⊗ at 2) ((at 0 ⊗ at 2) ⊗ at 1) refl
+
+    by : (n : ℕ) → f.num ≡ pos n → IsDuring f.den w n
+    by n e = (
+      le_from_mul_left q (w.from.num *ℤ pos f.den) (pos (n * w.from.den)) p (rw (turn w.from.num q f.den, over n w.from.den e) (scaled_le (w.from.num *ℤ pos q) (pos (t * w.from.den)) f.den i.0)),
+      le_from_mul_left q (pos (n * w.to.den)) (w.to.num *ℤ pos f.den) p (rw (turn w.to.num q f.den, over n w.to.den e) (scaled_le (pos (t * w.to.den)) (w.to.num *ℤ pos q) f.den i.1)),
+    )

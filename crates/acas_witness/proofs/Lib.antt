@@ -1,0 +1,12 @@
+pub mod Lattices
+pub mod Casts
+pub mod Lines
+pub mod Overs
+pub mod Ways
+pub mod Chains
+pub mod Meetings
+pub mod Portions
+pub mod Assembly
+pub mod Contacts
+pub mod CellRanges
+pub mod BoxRanges

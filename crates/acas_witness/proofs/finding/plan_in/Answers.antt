@@ -1,0 +1,47 @@
+use Rattle.std.proofs.Common.{◌*◌, ◌≤◌, sym}
+use Rattle.acas_flight.specs.Response.{demand_of}
+use Rattle.acas_region.specs.View.{area_of, times_of}
+use Rattle.acas_passes.specs.Value.{thinnest}
+use Rattle.acas_passes.specs.Search.{CanMeet, IsSearch}
+use Rattle.acas_witness.specs.Surveys.{search_of}
+use Rattle.acas_witness.specs.Witness.{search_between, IsFoundPlan}
+use Rattle.acas_witness.proofs.Chains.{search_fine}
+use Rattle.acas_witness.proofs.Meetings.{can_meet, renamed}
+use Rattle.acas_witness.proofs.finding.plan_in.Goals as goal
+
+pub meet-requires : goal.meet-requires
+meet-requires c =
+    let m = c.args.model.now in
+    let l = c.low_extreme-low in
+    let h = c.high_extreme-high in
+    let s = search_between (demand_of m c.args.advisory) (area_of c.args.area.now) l.result.time h.result.time in
+    let fine = renamed (λ n x. IsSearch x) m.half c.survey_of.result.half (search_of c.survey_of.result) s c.survey_of.ensures.half c.survey_of.ensures.search (search_fine c.survey_of.result) in
+    renamed CanMeet c.survey_of.result.half m.half s (search_of c.survey_of.result) (sym c.survey_of.ensures.half) (sym c.survey_of.ensures.search)
+    (can_meet m.half (demand_of m c.args.advisory) (area_of c.args.area.now) (times_of c.args.window.now) l.result.time h.result.time l.result.value h.result.value fine.demand
+    l.ensures.least h.ensures.greatest l.ensures.end.some h.ensures.end.some l.ensures.end.least h.ensures.end.least l.ensures.lowest.some h.ensures.lowest.some c.requires.not_clear)
+
+pub returns-clause-plan : goal.returns-clause-plan
+returns-clause-plan c =
+    let m = c.args.model.now in
+    let l = c.low_extreme-low in
+    let h = c.high_extreme-high in
+    let s = search_between (demand_of m c.args.advisory) (area_of c.args.area.now) l.result.time h.result.time in
+    let fine = renamed (λ n x. IsSearch x) m.half c.survey_of.result.half (search_of c.survey_of.result) s c.survey_of.ensures.half c.survey_of.ensures.search (search_fine c.survey_of.result) in
+    record {
+      low = l.result.time;
+      high = h.result.time;
+      least = l.result.value;
+      greatest = h.result.value;
+      at_low = l.ensures.least;
+      at_high = h.ensures.greatest;
+      low_end = l.ensures.end;
+      high_end = h.ensures.end;
+      thick = renamed (λ n x. thinnest ≤ 2 * n) m.half c.survey_of.result.half (search_of c.survey_of.result) s c.survey_of.ensures.half c.survey_of.ensures.search c.survey_of.result.thick;
+      fine = fine;
+      can = can_meet m.half (demand_of m c.args.advisory) (area_of c.args.area.now) (times_of c.args.window.now) l.result.time h.result.time l.result.value h.result.value fine.demand
+          l.ensures.least h.ensures.greatest l.ensures.end.some h.ensures.end.some l.ensures.end.least h.ensures.end.least l.ensures.lowest.some h.ensures.lowest.some c.requires.not_clear;
+      found = renamed (λ n x. IsFoundPlan n x c.meet.result) m.half c.survey_of.result.half (search_of c.survey_of.result) s c.survey_of.ensures.half c.survey_of.ensures.search c.meet.ensures.found;
+    }
+
+pub returns-clause-flown : goal.returns-clause-flown
+returns-clause-flown c = c.meet.ensures.flown

@@ -1,0 +1,100 @@
+-- The witness: which flight into the puck is printed for an area that is not clear, and that it is one.
+use Rattle.std.specs.Prelude.{◌≡◌, ℕ, ◌*◌, ◌≤◌, unsigned_abs, List, ◌++◌, ℤ, pos, ◌*ℤ◌}
+use Rattle.acas_spec.specs.Model.{ModelData}
+use Rattle.acas_frac.specs.Fraction.{Fraction}
+use Rattle.acas_flight.specs.Response.{Segment, Demand, demand_of, lasting}
+use Rattle.acas_flight.specs.Window.{Times, IsDuring}
+use Rattle.acas_flight.specs.Clear.{Area, EndsInVerticalContact, IsClear, IsEndangeredDuring}
+use Rattle.acas_flight.specs.Extremes.{IsLowExtreme, IsHighExtreme}
+use Rattle.acas_flight.specs.Values.{IsOver}
+use Rattle.acas_passes.specs.Value.{thinnest}
+use Rattle.acas_passes.specs.Flights.{Flight}
+use Rattle.acas_passes.specs.Search.{Search, IsSearch, IsFound, CanMeet, unit}
+use Rattle.acas_region.specs.Limits.{IsEnd}
+use Rattle.acas_region.specs.View.{area_of, times_of}
+use Rattle.acas_region.specs.declared.parts.BoxState.{BoxState}
+use Rattle.acas_region.specs.declared.parts.Window.{Window}
+use Rattle.acas_witness.specs.declared.flight.Flight as printed
+use Rattle.acas_witness.specs.declared.plan.Plan.{Plan}
+use Rattle.acas_witness.specs.Plans.{IsPlanOf}
+use Rattle.acas_witness.specs.Printed.{Prints, IsHoldPart, AreParts}
+
+-- the search of an area under a demand from one time to another
+abbrev pub search_between : Demand → Area → Fraction → Fraction → Search
+search_between a area low high = record { demand = a; area = area; low = low; high = high }
+
+-- The witness of an area that is not clear: the flight that is found between the low flight, at the earliest time of the least gap,
+-- and the high flight, at the earliest time of the greatest gap.
+pub record IsWitnessOf (half : ℕ) (a : Demand) (area : Area) (w : Times) (f : printed.Flight) : Type 0 where
+  pub low : Fraction
+  pub high : Fraction
+  pub least : Fraction
+  pub greatest : Fraction
+  pub at_low : IsLowExtreme a area w low least
+  pub at_high : IsHighExtreme a area w high greatest
+  pub low_end : IsEnd low
+  pub high_end : IsEnd high
+  pub flight : Flight
+  pub found : IsFound half (search_between a area low high) flight
+  pub prints : Prints (unit (search_between a area low high)) flight f
+
+-- Over some q the printed flight has a state of the area, and its response meets the demand, lasts its time, which is one of the
+-- window, and ends within the half height.
+pub record IsFlightInContact (half : ℕ) (a : Demand) (area : Area) (w : Times) (f : printed.Flight) : Type 0 where
+  pub q : ℕ
+  pub altitude : ℤ
+  pub own : ℤ
+  pub intruder : ℤ
+  pub hold : List Segment
+  pub rest : List Segment
+  pub time_over : IsOver q (pos (lasting (hold ++ rest))) f.time
+  pub altitude_over : altitude ≡ f.h *ℤ pos q
+  pub own_over : IsOver q own f.v0
+  pub intruder_over : IsOver q intruder f.v1
+  pub held : IsHoldPart q hold f.hold
+  pub parts : AreParts q rest f.first f.second
+  pub contact : EndsInVerticalContact half a area w q altitude own intruder (hold ++ rest)
+
+-- ---- the same of a window of an area, under an advisory of a model
+
+abbrev pub IsClearIn : ModelData → ℕ → BoxState → Window → Type 0
+IsClearIn m advisory area window = IsClear m.half (demand_of m advisory) (area_of area) (times_of window)
+
+abbrev pub IsEndangeredIn : ModelData → ℕ → BoxState → Window → Type 0
+IsEndangeredIn m advisory area window = IsEndangeredDuring m.half (demand_of m advisory) (area_of area) (times_of window)
+
+abbrev pub IsWitnessIn : ModelData → ℕ → BoxState → Window → printed.Flight → Type 0
+IsWitnessIn m advisory area window f = IsWitnessOf m.half (demand_of m advisory) (area_of area) (times_of window) f
+
+abbrev pub IsInContactIn : ModelData → ℕ → BoxState → Window → printed.Flight → Type 0
+IsInContactIn m advisory area window f = IsFlightInContact m.half (demand_of m advisory) (area_of area) (times_of window) f
+
+-- the time is one of the window
+abbrev pub IsTimeOf : Window → Fraction → Type 0
+IsTimeOf window time = IsDuring time.den (times_of window) (unsigned_abs time.num)
+
+-- ---- plans
+
+-- the plan is that of the flight that a search finds
+pub record IsFoundPlan (half : ℕ) (s : Search) (p : Plan) : Type 0 where
+  pub flight : Flight
+  pub found : IsFound half s flight
+  pub point : IsPlanOf (unit s) flight p
+
+-- the plan is that of the flight that the search of the area finds
+pub record IsPlanIn (half : ℕ) (a : Demand) (area : Area) (w : Times) (p : Plan) : Type 0 where
+  pub low : Fraction
+  pub high : Fraction
+  pub least : Fraction
+  pub greatest : Fraction
+  pub at_low : IsLowExtreme a area w low least
+  pub at_high : IsHighExtreme a area w high greatest
+  pub low_end : IsEnd low
+  pub high_end : IsEnd high
+  pub thick : thinnest ≤ 2 * half
+  pub fine : IsSearch (search_between a area low high)
+  pub can : CanMeet half (search_between a area low high)
+  pub found : IsFoundPlan half (search_between a area low high) p
+
+abbrev pub IsPlanFor : ModelData → ℕ → BoxState → Window → Plan → Type 0
+IsPlanFor m advisory area window p = IsPlanIn m.half (demand_of m advisory) (area_of area) (times_of window) p
