@@ -13,3 +13,4 @@ pub mod Flown
 pub mod Touching
 pub mod Somes
 pub mod Ends
+pub mod Ones

@@ -47,3 +47,8 @@ pub fn found_flights_end_in_contact()
         let q = fine (unit s) c in
         EndsInVerticalContact half s.demand s.area w q (c.altitude *ℤ pos q) (c.own *ℤ pos c.pull) (c.intruder *ℤ pos c.pull) (hold ++ rest) }
 {}
+
+/// A search finds one flight: the rule leaves no choice.
+pub fn found_flights_are_one()
+    ensures { (half : ℕ) (s : Search) (c d : Flight) → IsFound half s c → IsFound half s d → c ≡ d }
+{}

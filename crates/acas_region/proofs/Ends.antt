@@ -13,6 +13,7 @@ use Rattle.acas_flight.specs.Values.{IsAtMost}
 use Rattle.acas_frac.specs.Fraction.{Fraction, IsFrac, ReducesWithinBounds}
 use Rattle.acas_region.specs.Limits.{IsEnd, AreEnds}
 use Rattle.acas_frac.proofs.Lowest.{den_at_most, ReducesWithinBounds-over}
+use Rattle.acas_units.specs.declared.limits.TheConstants.{GREATEST_CLOSING, WINDOW_SECONDS}
 
 le_pos : (m n : ℕ) → pos m ≤ℤ pos n → m ≤ n
 le_pos m n h = omega (arith, ints)
@@ -39,12 +40,12 @@ module _ (f : Fraction) (n d q t : ℕ) (s : 0 < f.den) (p : 0 < d) (e : f.num *
   from_upper h = le_from_mul_left d (pos (t * f.den)) (f.num *ℤ pos q) p (rw (left, right) (mul_le_left f.den (pos (t * d)) (pos (n * q)) (omega (arith, ints))))
 
 -- a fraction of the value n/d, of at most ten minutes
-pub end_of : (f : Fraction) (n d : ℕ) → IsFrac f → 0 < d → d ≤ 5000 → n ≤ 600 * d → f.num *ℤ pos d ≡ pos n *ℤ pos f.den → IsEnd f
+pub end_of : (f : Fraction) (n d : ℕ) → IsFrac f → 0 < d → d ≤ GREATEST_CLOSING → n ≤ WINDOW_SECONDS * d → f.num *ℤ pos d ≡ pos n *ℤ pos f.den → IsEnd f
 end_of f n d h p small most e = record {
   some = h.some;
   den = (let k = den_at_most f (pos n) d h p e in omega arith);
   least = le_from_mul_left d (pos 0) f.num p (let turned : pos d *ℤ f.num ≡ pos (n * f.den) = turn f.num d ∙ e in rw turned (omega (arith, ints)));
-  greatest = le_from_mul_left d f.num (pos (600 * f.den)) p
+  greatest = le_from_mul_left d f.num (pos (WINDOW_SECONDS * f.den)) p
       (let turned : pos d *ℤ f.num ≡ pos (n * f.den) = turn f.num d ∙ e in
       let k = mul-le-mul most (let same : f.den ≤ f.den = omega arith in same) in
       rw turned (omega (arith, ints, k)));
@@ -106,5 +107,5 @@ pub box_window : (m : ModelData) (ranges speeds : Interval) (w : Times) (radius 
 box_window m ranges speeds w radius near far slow fast er en ef es eg p r s ends eb et =
     record { exact = box_times m.radius ranges speeds near far slow fast w en ef es eg p r s ends (rw er at eb) (rw er at et) }
 
-pub quotient_reduces : (n d : ℕ) → 0 < d → d ≤ 5000 → n ≤ 600 * d → ReducesWithinBounds n d
+pub quotient_reduces : (n d : ℕ) → 0 < d → d ≤ GREATEST_CLOSING → n ≤ WINDOW_SECONDS * d → ReducesWithinBounds n d
 quotient_reduces n d p h k = ReducesWithinBounds-over n d n d p p refl (omega arith) (omega arith)

@@ -53,6 +53,7 @@ fn stays_over(chase: &Chase, window: &Window, half: u64) -> bool
     }
 }
 
+// Whether every flight is above the half height all the time.
 fn is_above(asked: &Asked, area: &BoxState, window: &Window, half: u64) -> bool
     requires { half ≤ TICKS_PER_FOOT * GREATEST_HALF_HEIGHT }
     ensures { IsTrue result ↔ IsClearAbove half (demand_in asked.now) (area_of area.now) (times_of window.now) }
@@ -60,6 +61,7 @@ fn is_above(asked: &Asked, area: &BoxState, window: &Window, half: u64) -> bool
     stays_over(&low_chase(asked, area), window, half)
 }
 
+// Whether every flight is below it all the time.
 fn is_below(asked: &Asked, area: &BoxState, window: &Window, half: u64) -> bool
     requires { half ≤ TICKS_PER_FOOT * GREATEST_HALF_HEIGHT }
     ensures { IsTrue result ↔ IsClearBelow half (demand_in asked.now) (area_of area.now) (times_of window.now) }

@@ -5,7 +5,7 @@ ghost use Rattle.acas_flight.specs.Curves.{held};
 ghost use Rattle.acas_flight.specs.Values.{IsApproach, IsHeld, all_lost, less_or_more};
 ghost use Rattle.acas_region.specs.Limits.{IsCurve, IsHeldCurve, IsHold, IsPull, IsRate, IsTime};
 ghost use Rattle.acas_region.specs.Scaling.{IsScaling};
-ghost use Rattle.acas_region.specs.Sizes.{gain_size, rate_size, shared_parts, way_size};
+ghost use Rattle.acas_region.specs.Sizes.{gain_size, rate_size, way_size};
 
 use crate::fineness::{HOLD_PARTS, PULL_PARTS, RATE_PARTS, TIME_PARTS};
 use acas_frac::Frac;
@@ -153,6 +153,7 @@ fn den_of(rates: u64, pull_den: u64, times: u64, pull: u64) -> u128
     accelerations * times * times * u128::from(pull)
 }
 
+// The numbers of a curve over the denominators of all that it takes.
 fn over_common(v: &Frac, aim: &Frac, pull: &Frac, hold: &Frac, t: &Frac) -> Scaled
     requires { IsHeldCurve v.now aim.now pull.now hold.now t.now }
     ensures { IsScaling v.now aim.now pull.now hold.now t.now result.start result.aim result.pull result.hold result.time result.den }

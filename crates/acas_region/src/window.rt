@@ -1,9 +1,9 @@
 //! The times at which ranges and closing speeds are in horizontal contact.
-ghost use Rattle.std.specs.Prelude.{◌≡◌, ◌+◌, ◌-◌, ◌*◌, ◌<◌, ◌≤◌, pos, ◌+ℤ◌, ◌*ℤ◌, ◌≤ℤ◌};
+ghost use Rattle.std.specs.Prelude.{◌≡◌, ◌+◌, ◌-◌, ◌*◌, ◌<◌, ◌≤◌, pos, ◌*ℤ◌};
 ghost use Rattle.acas_spec.specs.Limits.{IsModel};
 ghost use Rattle.acas_frac.specs.Fraction.{Fraction};
-ghost use Rattle.acas_region.specs.Limits.{IsEnd, IsFlownInTime, interval_of};
 ghost use Rattle.acas_flight.specs.Window.{IsWindowOfBox, IsWindowOfCell};
+ghost use Rattle.acas_region.specs.Limits.{IsEnd, IsFlownInTime, interval_of};
 ghost use Rattle.acas_region.specs.View.{times_of};
 
 use crate::numbers::natural;
@@ -32,6 +32,7 @@ struct Disc {
     fast: u64,
 }
 
+// What a model says of it.
 fn disc_of(model: &Model) -> Disc
     ensures radius { result.radius ≡ model.now.radius }
     ensures slow { result.slow ≡ model.now.least_closing }
