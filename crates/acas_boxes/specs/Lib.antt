@@ -1,0 +1,5 @@
+pub mod View
+pub mod Spans
+pub mod OneBox
+pub mod Whole
+pub mod Text

@@ -1,0 +1,34 @@
+-- The rules of a text of boxes, in the order in which they are looked at: the boxes that the text says, or the first rule that it fails.
+use Rattle.std.specs.Prelude.{ℕ, List, [], length, codes, Result}
+use Rattle.toml.specs.Data.{Data, Members}
+use Rattle.acas_units.specs.declared.limits.TheConstants.{LEAST_BOXES, GREATEST_BOXES}
+use Rattle.acas_spec.specs.Model.{ModelData}
+use Rattle.acas_spec.specs.Steps.{◌>>=◌, ◌>>◌, each}
+use Rattle.acas_doc.specs.Keys.{list_at}
+use Rattle.acas_doc.specs.Known.{only_known}
+use Rattle.acas_cell.specs.Boxes.{AuditedBox}
+use Rattle.acas_input.specs.declared.fault.InputFault.{InputFault}
+use Rattle.acas_input.specs.Document.{document_of, in_doc, version_of}
+use Rattle.acas_boxes.specs.OneBox.{box_item}
+
+-- the document has no other keys
+unfoldable pub top_keys : Members → Result (Unit {0}) InputFault
+top_keys doc = in_doc (only_known [] (codes "version box") doc)
+
+-- each item of the list is a box
+unfoldable pub box_items : ModelData → List Data → Result (List AuditedBox) InputFault
+box_items m ds = each (λ before d. box_item m (length before) d) [] ds
+
+-- the boxes of a document: its keys, its version, the list, and each box in turn
+unfoldable pub boxes_in : ModelData → Members → Result (List AuditedBox) InputFault
+boxes_in m doc = do
+  top_keys doc
+  version_of doc
+  items ← in_doc (list_at doc [] (codes "box") LEAST_BOXES GREATEST_BOXES)
+  box_items m items
+
+-- the boxes that a text says, beside a model
+unfoldable pub boxes_of : ModelData → List ℕ → Result (List AuditedBox) InputFault
+boxes_of m bytes = do
+  doc ← document_of bytes
+  boxes_in m doc

@@ -1,0 +1,105 @@
+//! Pairs of whole numbers: the spans of a box.
+ghost use Rattle.std.specs.Prelude.{◌≡◌, ◌*◌, pos, ◌≤ℤ◌, unsigned_abs, IfOk};
+ghost use Rattle.toml.specs.View.{table_view};
+ghost use Rattle.acas_units.specs.declared.ticks.TheConstants.{TICKS_PER_FOOT};
+ghost use Rattle.acas_region.specs.Limits.{IsSmall, interval_of};
+ghost use Rattle.acas_input.specs.Answers.{Gives};
+ghost use Rattle.acas_boxes.specs.Spans as rules;
+
+use acas_doc::{item, list, path_of_key};
+use acas_input::InputFault;
+use acas_units::{
+    GREATEST_ALTITUDE, GREATEST_BOX_RANGE, GREATEST_CLOSING, GREATEST_RATE, LEAST_ALTITUDE,
+    LEAST_BOX_RANGE, LEAST_CLOSING, LEAST_RATE, Span, feet_to_ticks,
+};
+use std::alloc::Global;
+use toml::Table;
+
+/// How many numbers a span has in a file: its least and its greatest.
+pub const SPAN_ENDS: u32 = 2;
+
+/// The span at a key of the table at a path, from least to greatest.
+#[tactic(auto, unfolding(crate::specs::Spans::span_at))]
+fn span_at(
+    alloc: Global,
+    table: &Table,
+    path: &[u8],
+    key: &str,
+    least: i64,
+    greatest: i64,
+) -> Result<Span, InputFault>
+    ensures value { Gives interval_of result (rules.span_at (table_view table.now) path.now key.now least greatest) }
+    ensures low { IfOk result (λ s. least ≤ℤ s.least) }
+    ensures high { IfOk result (λ s. s.greatest ≤ℤ greatest) }
+{
+    let items = list(alloc, table, path, key, SPAN_ENDS, SPAN_ENDS)?;
+    let list_path = path_of_key(alloc, path, key)?;
+    let first = item(alloc, items, list_path.bytes(), 0, least, greatest)?;
+    let second = item(alloc, items, list_path.bytes(), 1, first, greatest)?;
+    Ok(Span::new(first, second))
+}
+
+/// The ranges of a box, in ft.
+#[tactic(auto, unfolding(crate::specs::Spans::ranges_at))]
+pub(crate) fn ranges_at(alloc: Global, table: &Table, path: &[u8]) -> Result<Span, InputFault>
+    ensures value { Gives interval_of result (rules.ranges_at (table_view table.now) path.now) }
+    ensures low { IfOk result (λ s. LEAST_BOX_RANGE ≤ℤ s.least) }
+    ensures high { IfOk result (λ s. s.greatest ≤ℤ GREATEST_BOX_RANGE) }
+{
+    span_at(
+        alloc,
+        table,
+        path,
+        "range",
+        LEAST_BOX_RANGE,
+        GREATEST_BOX_RANGE,
+    )
+}
+
+/// The closing speeds of a box, in ft/s.
+#[tactic(auto, unfolding(crate::specs::Spans::closings_at))]
+pub(crate) fn closings_at(alloc: Global, table: &Table, path: &[u8]) -> Result<Span, InputFault>
+    ensures value { Gives interval_of result (rules.closings_at (table_view table.now) path.now) }
+    ensures low { IfOk result (λ s. pos LEAST_CLOSING ≤ℤ s.least) }
+    ensures high { IfOk result (λ s. s.greatest ≤ℤ pos GREATEST_CLOSING) }
+{
+    span_at(
+        alloc,
+        table,
+        path,
+        "closing",
+        i64::from(LEAST_CLOSING),
+        i64::from(GREATEST_CLOSING),
+    )
+}
+
+/// The altitudes of a box, in ticks.
+#[tactic(auto, unfolding(crate::specs::Spans::altitudes_at))]
+pub(crate) fn altitudes_at(alloc: Global, table: &Table, path: &[u8]) -> Result<Span, InputFault>
+    ensures value { Gives interval_of result (rules.altitudes_at (table_view table.now) path.now) }
+    ensures small { IfOk result (λ s. IsSmall (TICKS_PER_FOOT * unsigned_abs GREATEST_ALTITUDE) (interval_of s)) }
+{
+    let feet = span_at(
+        alloc,
+        table,
+        path,
+        "altitude",
+        LEAST_ALTITUDE,
+        GREATEST_ALTITUDE,
+    )?;
+    Ok(Span::new(feet_to_ticks(feet.least), feet_to_ticks(feet.greatest)))
+}
+
+/// The rates of a box at a key, in ft/min.
+#[tactic(auto, unfolding(crate::specs::Spans::rates_at))]
+pub(crate) fn rates_at(
+    alloc: Global,
+    table: &Table,
+    path: &[u8],
+    key: &str,
+) -> Result<Span, InputFault>
+    ensures value { Gives interval_of result (rules.rates_at (table_view table.now) path.now key.now) }
+    ensures small { IfOk result (λ s. IsSmall (unsigned_abs GREATEST_RATE) (interval_of s)) }
+{
+    span_at(alloc, table, path, key, LEAST_RATE, GREATEST_RATE)
+}

@@ -1,0 +1,3 @@
+pub mod Answers
+pub mod Document
+pub mod Named

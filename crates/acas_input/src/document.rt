@@ -1,0 +1,48 @@
+//! The document of an input's bytes, and its version.
+ghost use Rattle.toml.specs.View.{table_view};
+ghost use Rattle.acas_input.specs.Answers.{Gives};
+ghost use Rattle.acas_input.specs.Document as rules;
+
+use crate::fault::InputFault;
+use acas_doc::whole;
+use std::alloc::Global;
+use toml::Table;
+
+/// The version of the text of boxes and of encounters.
+pub const INPUT_VERSION: i64 = 1;
+
+/// The document of some bytes: a text in UTF-8 that is a TOML document.
+#[tactic(auto, unfolding(crate::specs::Document::document_of))]
+pub fn document_of(alloc: Global, bytes: &[u8]) -> Result<Table, InputFault>
+    ensures { Gives table_view result (rules.document_of bytes.now) }
+{
+    let text = match std::str::from_utf8(bytes) {
+        Ok(text) => text,
+        Err(_) => return Err(InputFault::NotToml),
+    };
+    match toml::table_from_str(alloc, text) {
+        Ok(document) => Ok(document),
+        Err(error) => {
+            if error.is_memory() {
+                Err(InputFault::Memory)
+            } else {
+                Err(InputFault::NotToml)
+            }
+        }
+    }
+}
+
+/// The version of a document, of which there is one.
+#[tactic(auto, unfolding(crate::specs::Document::version_of))]
+pub fn version_of(alloc: Global, document: &Table) -> Result<i64, InputFault>
+    ensures { Gives (λ z. z) result (rules.version_of (table_view document.now)) }
+{
+    Ok(whole(
+        alloc,
+        document,
+        b"",
+        "version",
+        INPUT_VERSION,
+        INPUT_VERSION,
+    )?)
+}

@@ -1,0 +1,10 @@
+pub mod Lengths
+pub mod Appending
+pub mod Counting
+pub mod Steps
+pub mod Carry
+pub mod Ends
+pub mod Whole
+pub mod CellCounts
+pub mod Subjects
+pub mod Begun

@@ -1,0 +1,10 @@
+use Rattle.acas_outside.specs.Frame.{Emits}
+use Rattle.acas_cell.specs.Cells.{below, block_cells}
+use Rattle.acas_report.specs.Plan.{Wrote, plan_of, progress}
+use Rattle.acas_report.proofs.cells.write_layer.Given as goal
+
+abbrev pub invariant-loop-present : goal.invariant-loop-present
+invariant-loop-present g l = record {
+  wrote : Wrote (plan_of l.audit) (progress (g.S.Sink.written l.initial.sink) l.initial.pen) (progress (g.S.Sink.written l.sink) l.pen) (below l.present (λ present. block_cells l.audit.model.now l.n present));
+  frame : Emits g.S.Sink l.initial.sink l.sink ⊥;
+}

@@ -1,0 +1,4 @@
+pub mod Text
+pub mod Report
+pub mod Regions
+pub mod Plan

@@ -1,0 +1,22 @@
+//! The report of an audit and of a box file, line by line to a sink.
+#![tactic(auto)]
+
+mod audit;
+mod cells;
+mod counts;
+mod fields;
+mod laws;
+mod lines;
+mod pen;
+mod regions;
+mod report;
+mod rulings;
+mod witness_fields;
+
+pub use counts::{Counts, ReportFault, Which};
+pub use fields::line_frac;
+pub use laws::{begun_regions_reports_go_on, begun_reports_go_on};
+pub use regions::write_regions;
+pub use report::{write_report, write_report_by};
+pub use rulings::{OneByOne, Rulings};
+pub use witness_fields::line_witness;

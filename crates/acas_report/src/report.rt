@@ -1,0 +1,97 @@
+//! The report of an audit.
+ghost use Rattle.std.specs.Prelude.{◌≡◌, ℕ, List, [], OnOk, OnErr, IfOk, IsErr, IsErrOf};
+ghost use Rattle.acas_base.specs.Advices.{AreAdvicesOf};
+ghost use Rattle.acas_outside.specs.Bytes.{Appends};
+ghost use Rattle.acas_outside.specs.Frame.{Emits};
+ghost use Rattle.acas_report.specs.Report.{IsReport, IsReportBegun};
+
+use crate::audit::Audit;
+use crate::cells::write_cells;
+use crate::counts::{Counts, ReportFault, Which};
+use crate::lines::write_counts;
+use crate::pen::Pen;
+use crate::rulings::{OneByOne, Rulings};
+use acas_base::{Advices, Model};
+use acas_outside::{Failed, Sink};
+use std::alloc::Global;
+
+/// Writes the report of an audit, and answers its counts. It takes all its memory before the first byte goes out.
+pub fn write_report<S: Sink>(
+    alloc: Global,
+    model: &Model,
+    advices: &Advices,
+    sink: &mut S,
+    which: Which,
+) -> Result<Counts, ReportFault>
+    requires { AreAdvicesOf model.now advices.now }
+    ensures report { IfOk result (λ counts. (text : List ℕ)
+        × IsReport model.now advices.now which counts text
+        × Appends (S.written sink.old) (S.written sink.new) text) }
+    ensures part { IsErrOf result ReportFault.Sink →
+        IsReportBegun model.now advices.now which (S.written sink.old) (S.written sink.new) }
+    ensures memory { IsErrOf result ReportFault.Memory → S.written sink.new ≡ S.written sink.old }
+    ensures frame { Emits S.Sink sink.old sink.new (IsErrOf result ReportFault.Sink) }
+{
+    write_report_by(alloc, model, advices, &mut OneByOne, sink, which)
+}
+
+/// Writes the report of an audit, with rulings from a source of them, and answers its counts. It takes all its memory before the
+/// first byte goes out.
+pub fn write_report_by<R: Rulings, S: Sink>(
+    alloc: Global,
+    model: &Model,
+    advices: &Advices,
+    rulings: &mut R,
+    sink: &mut S,
+    which: Which,
+) -> Result<Counts, ReportFault>
+    requires { AreAdvicesOf model.now advices.now }
+    ensures report { IfOk result (λ counts. (text : List ℕ)
+        × IsReport model.now advices.now which counts text
+        × Appends (S.written sink.old) (S.written sink.new) text) }
+    ensures part { IsErrOf result ReportFault.Sink →
+        IsReportBegun model.now advices.now which (S.written sink.old) (S.written sink.new) }
+    ensures memory { IsErrOf result ReportFault.Memory → S.written sink.new ≡ S.written sink.old }
+    ensures frame { Emits S.Sink sink.old sink.new (IsErrOf result ReportFault.Sink) }
+{
+    let Ok(mut pen) = Pen::make(alloc) else {
+        return Err(ReportFault::Memory);
+    };
+    let audit = Audit {
+        model,
+        advices,
+        which,
+    };
+    match write_whole(&audit, rulings, sink, &mut pen) {
+        Ok(()) => Ok(pen.counts),
+        Err(_) => Err(ReportFault::Sink),
+    }
+}
+
+// Writes the lines of all cells, and then the counts, with a pen that has written and counted nothing.
+fn write_whole<R: Rulings, S: Sink>(
+    audit: &Audit<'_>,
+    rulings: &mut R,
+    sink: &mut S,
+    pen: &mut Pen,
+) -> Result<(), Failed>
+    requires advices { AreAdvicesOf audit.now.model.now audit.now.advices.now }
+    requires empty { pen.old.buffer ≡ [] }
+    requires certified { pen.old.counts.certified ≡ 0 }
+    requires reported { pen.old.counts.reported ≡ 0 }
+    requires clear { pen.old.counts.clear ≡ 0 }
+    ensures ok { OnOk result ((text : List ℕ)
+        × IsReport audit.now.model.now audit.now.advices.now audit.now.which pen.new.counts text
+        × Appends (S.written sink.old) (S.written sink.new) text) }
+    ensures err { OnErr result
+        (IsReportBegun audit.now.model.now audit.now.advices.now audit.now.which (S.written sink.old) (S.written sink.new)) }
+    ensures frame { Emits S.Sink sink.old sink.new (IsErr result) }
+{
+    // Opens the model's limits: there is room for the counts.
+    let _ = audit.model.grid();
+    write_cells(audit, rulings, sink, pen)?;
+    let counts = pen.counts;
+    write_counts(&mut pen.line, &counts);
+    pen.end(sink)?;
+    Ok(())
+}
