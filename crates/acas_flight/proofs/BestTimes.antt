@@ -5,9 +5,9 @@ use Rattle.std.proofs.lemmas.Bool.{cases_lt}
 use Rattle.acas_flight.proofs.IntRing.{at, ◌⊖◌, ◌⊗◌, ring}
 use Rattle.acas_flight.proofs.Orders.{mul_le_left, mul_lt_left, le_from_mul_left, by_below}
 use Rattle.acas_flight.proofs.Rising.{scaled_le}
-use Rattle.acas_flight.proofs.Sides.{lift_le, lift_lt, later_by, sooner_by, sooner_at}
+use Rattle.acas_flight.proofs.Borders.{lift_le, lift_lt, later_by, sooner_by, sooner_at}
 use Rattle.acas_flight.specs.Window.{Times, IsDuring}
-use Rattle.acas_flight.specs.Side.{side_of, side_gap, IsGapAt, IsLeastGap, turn, IsLate, IsSoon, IsNearestTime}
+use Rattle.acas_flight.specs.Border.{border_of, border_gap, IsGapAt, IsLeastGap, turn, IsLate, IsSoon, IsNearestTime}
 use Rattle.acas_frac.specs.Fraction.{Fraction}
 
 late_nat : (b g c q s : ℕ) → (g * b + c) * q ≤ b * s → c * (q * q) ≤ (b * q) * (s - g * q)
@@ -68,7 +68,7 @@ module _ (k : ℤ) (b g : ℕ) (h : ℤ) (sb : 0 < b) (d n : ℕ) (sd : 0 < d) w
     some = mul-pos p (omega arith)
 
     later_turned : (x y : ℕ) → y < x → (g * b + (x - y)) * d ≤ b * n → n * q * 1 ≤ t →
-        side_gap (side_of (k -ℤ pos x) k b g h (k -ℤ pos y)) (q * (d * 1)) (n * q * 1) ≤ℤ side_gap (side_of (k -ℤ pos x) k b g h (k -ℤ pos y)) (q * (d * 1)) t
+        border_gap (border_of (k -ℤ pos x) k b g h (k -ℤ pos y)) (q * (d * 1)) (n * q * 1) ≤ℤ border_gap (border_of (k -ℤ pos x) k b g h (k -ℤ pos y)) (q * (d * 1)) t
     later_turned x y l i o =
         later_by k x b g h (k -ℤ pos y) (q * (d * 1)) some sb (n * q * 1) t
         (rw (rate_line y (q * (d * 1)))
@@ -87,7 +87,7 @@ module _ (k : ℤ) (b g : ℕ) (h : ℤ) (sb : 0 < b) (d n : ℕ) (sd : 0 < d) w
             by c e = let z : x - y ≡ c = omega arith in rw (z, e) (omega arith)
 
     sooner_turned : (x y : ℕ) → y < x → b * n ≤ (g * b + (x - y)) * d → t < n * q * 1 →
-        side_gap (side_of (k -ℤ pos x) k b g h (k -ℤ pos y)) (q * (d * 1)) (n * q * 1) <ℤ side_gap (side_of (k -ℤ pos x) k b g h (k -ℤ pos y)) (q * (d * 1)) t
+        border_gap (border_of (k -ℤ pos x) k b g h (k -ℤ pos y)) (q * (d * 1)) (n * q * 1) <ℤ border_gap (border_of (k -ℤ pos x) k b g h (k -ℤ pos y)) (q * (d * 1)) t
     sooner_turned x y l i o =
         ⊎_elim
         (λ (j : (b * (q * (d * 1))) * (n * q * 1 - g * (q * (d * 1))) < (x - y) * ((q * (d * 1)) * (q * (d * 1)))).
@@ -130,23 +130,23 @@ turn_most : (a b d n : ℕ) → (pos b *ℤ pos n) ≤ℤ (pos a *ℤ pos d) →
 turn_most a b d n h = omega (arith, ints)
 
 module _ (k : ℤ) (b g : ℕ) (h : ℤ) (sb : 0 < b) (time : Fraction) (n : ℕ) (en : time.num ≡ pos n) (sd : 0 < time.den) where
-  pub later : (x : ℕ) (w : ℤ) → IsLate (side_of (k -ℤ pos x) k b g h w) time → (q t : ℕ) → 0 < q → n * q * 1 ≤ t →
-      side_gap (side_of (k -ℤ pos x) k b g h w) (q * (time.den * 1)) (n * q * 1) ≤ℤ side_gap (side_of (k -ℤ pos x) k b g h w) (q * (time.den * 1)) t
+  pub later : (x : ℕ) (w : ℤ) → IsLate (border_of (k -ℤ pos x) k b g h w) time → (q t : ℕ) → 0 < q → n * q * 1 ≤ t →
+      border_gap (border_of (k -ℤ pos x) k b g h w) (q * (time.den * 1)) (n * q * 1) ≤ℤ border_gap (border_of (k -ℤ pos x) k b g h w) (q * (time.den * 1)) t
   later x w late q t p o =
       ⊎_elim
       (λ i. later_by k x b g h w (q * (time.den * 1)) (mul-pos p (omega arith)) sb (n * q * 1) t (slow k b g h sb time.den n sd x w (q * (time.den * 1)) ((b * (q * (time.den * 1))) * (n * q * 1 - g * (q * (time.den * 1)))) i) o)
       (λ i. by_below k w i.0.within (λ y e. turned y e i.0.over i.1))
       late
     where
-      turned : (y : ℕ) → w ≡ k -ℤ pos y → (k -ℤ pos x) <ℤ w → (turn (side_of (k -ℤ pos x) k b g h w) *ℤ pos time.den) ≤ℤ (pos b *ℤ time.num) →
-          side_gap (side_of (k -ℤ pos x) k b g h w) (q * (time.den * 1)) (n * q * 1) ≤ℤ side_gap (side_of (k -ℤ pos x) k b g h w) (q * (time.den * 1)) t
+      turned : (y : ℕ) → w ≡ k -ℤ pos y → (k -ℤ pos x) <ℤ w → (turn (border_of (k -ℤ pos x) k b g h w) *ℤ pos time.den) ≤ℤ (pos b *ℤ time.num) →
+          border_gap (border_of (k -ℤ pos x) k b g h w) (q * (time.den * 1)) (n * q * 1) ≤ℤ border_gap (border_of (k -ℤ pos x) k b g h w) (q * (time.den * 1)) t
       turned y e over i =
           let less : y < x = omega (arith, ints) in
           let i' = rw (e, en, turn_nat k x y b g (le_of_lt less)) at i in
           rw e (later_turned k b g h sb time.den n sd q t p x y less (turn_least (g * b + (x - y)) b time.den n i') o)
 
-  pub sooner : (x : ℕ) (w : ℤ) → IsSoon (side_of (k -ℤ pos x) k b g h w) time → (q t : ℕ) → 0 < q → t < n * q * 1 →
-      side_gap (side_of (k -ℤ pos x) k b g h w) (q * (time.den * 1)) (n * q * 1) <ℤ side_gap (side_of (k -ℤ pos x) k b g h w) (q * (time.den * 1)) t
+  pub sooner : (x : ℕ) (w : ℤ) → IsSoon (border_of (k -ℤ pos x) k b g h w) time → (q t : ℕ) → 0 < q → t < n * q * 1 →
+      border_gap (border_of (k -ℤ pos x) k b g h w) (q * (time.den * 1)) (n * q * 1) <ℤ border_gap (border_of (k -ℤ pos x) k b g h w) (q * (time.den * 1)) t
   sooner x w soon q t p o =
       ⊎_elim
       (λ i. sooner_by k x b g h w (q * (time.den * 1)) (mul-pos p (omega arith)) sb (n * q * 1) t (fast (q * (time.den * 1)) (x * ((q * (time.den * 1)) * (q * (time.den * 1))) - (b * (q * (time.den * 1))) * (n * q * 1 - g * (q * (time.den * 1)))) (mul-pos p (omega arith)) i) o)
@@ -165,8 +165,8 @@ module _ (k : ℤ) (b g : ℕ) (h : ℤ) (sb : 0 < b) (time : Fraction) (n : ℕ
               turn_round : (a : ℤ) (m : ℕ) → a *ℤ pos m ≡ pos m *ℤ a
               turn_round a m = ring (a ∷ pos m ∷ []) (at 0 ⊗ at 1) (at 1 ⊗ at 0) refl
 
-      turned : (y : ℕ) → w ≡ k -ℤ pos y → (k -ℤ pos x) <ℤ w → (pos b *ℤ time.num) ≤ℤ (turn (side_of (k -ℤ pos x) k b g h w) *ℤ pos time.den) →
-          side_gap (side_of (k -ℤ pos x) k b g h w) (q * (time.den * 1)) (n * q * 1) <ℤ side_gap (side_of (k -ℤ pos x) k b g h w) (q * (time.den * 1)) t
+      turned : (y : ℕ) → w ≡ k -ℤ pos y → (k -ℤ pos x) <ℤ w → (pos b *ℤ time.num) ≤ℤ (turn (border_of (k -ℤ pos x) k b g h w) *ℤ pos time.den) →
+          border_gap (border_of (k -ℤ pos x) k b g h w) (q * (time.den * 1)) (n * q * 1) <ℤ border_gap (border_of (k -ℤ pos x) k b g h w) (q * (time.den * 1)) t
       turned y e over i =
           let less : y < x = omega (arith, ints) in
           let i' = rw (e, en, turn_nat k x y b g (le_of_lt less)) at i in
@@ -202,17 +202,17 @@ since a c d e q t s h k =
 
 -- The best time's gap is the least, and the time is the earliest.
 pub best_least : (v k : ℤ) (b g : ℕ) (h w : ℤ) (win : Times) (time y : Fraction) (n : ℕ) → v ≤ℤ k → 0 < b → time.num ≡ pos n → 0 < time.den → 0 < win.from.den → 0 < win.to.den → 0 < y.den →
-    IsGapAt (side_of v k b g h w) time y → IsNearestTime (side_of v k b g h w) win time → IsLeastGap (side_of v k b g h w) win time y
+    IsGapAt (border_of v k b g h w) time y → IsNearestTime (border_of v k b g h w) win time → IsLeastGap (border_of v k b g h w) win time y
 best_least v k b g h w win time y n o sb en sd sf st sy val best = by_below k v o (λ x e. rw e (from x (rw e at val) (rw e at best)))
   where
-    from : (x : ℕ) → IsGapAt (side_of (k -ℤ pos x) k b g h w) time y → IsNearestTime (side_of (k -ℤ pos x) k b g h w) win time → IsLeastGap (side_of (k -ℤ pos x) k b g h w) win time y
+    from : (x : ℕ) → IsGapAt (border_of (k -ℤ pos x) k b g h w) time y → IsNearestTime (border_of (k -ℤ pos x) k b g h w) win time → IsLeastGap (border_of (k -ℤ pos x) k b g h w) win time y
     from x val best = record {
       after = best.after;
       before = best.before;
       value = val;
-      least = λ q t p i. lift_le (side_of (k -ℤ pos x) k b g h w) time y val n en q t 1 p (omega arith)
+      least = λ q t p i. lift_le (border_of (k -ℤ pos x) k b g h w) time y val n en q t 1 p (omega arith)
           (⊎_elim (λ (l : t * (time.den * 1) < n * q * 1). weaker _ _ (sooner_in q t p i l)) (λ (l : n * q * 1 ≤ t * (time.den * 1)). later_in q t p i l) (cases_lt (t * (time.den * 1)) (n * q * 1)));
-      earliest = λ q t p i l. lift_lt (side_of (k -ℤ pos x) k b g h w) time y val n en q t 1 p (omega arith) sy (sooner_in q t p i (early q t l));
+      earliest = λ q t p i l. lift_lt (border_of (k -ℤ pos x) k b g h w) time y val n en q t 1 p (omega arith) sy (sooner_in q t p i (early q t l));
     }
       where
         equal : (a : ℤ) → a ≤ℤ a
@@ -225,7 +225,7 @@ best_least v k b g h w win time y n o sb en sd sf st sy val best = by_below k v 
         early q t l = let l' = rw en at l in omega (arith, ints)
 
         sooner_in : (q t : ℕ) → 0 < q → IsDuring q win t → t * (time.den * 1) < n * q * 1 →
-            side_gap (side_of (k -ℤ pos x) k b g h w) (q * (time.den * 1)) (n * q * 1) <ℤ side_gap (side_of (k -ℤ pos x) k b g h w) (q * (time.den * 1)) (t * (time.den * 1))
+            border_gap (border_of (k -ℤ pos x) k b g h w) (q * (time.den * 1)) (n * q * 1) <ℤ border_gap (border_of (k -ℤ pos x) k b g h w) (q * (time.den * 1)) (t * (time.den * 1))
         sooner_in q t p i l =
             ⊎_elim
             (λ s. sooner k b g h sb time n en sd x w s q (t * (time.den * 1)) p l)
@@ -233,12 +233,12 @@ best_least v k b g h w win time y n o sb en sd sf st sy val best = by_below k v 
             best.soon
 
         later_in : (q t : ℕ) → 0 < q → IsDuring q win t → n * q * 1 ≤ t * (time.den * 1) →
-            side_gap (side_of (k -ℤ pos x) k b g h w) (q * (time.den * 1)) (n * q * 1) ≤ℤ side_gap (side_of (k -ℤ pos x) k b g h w) (q * (time.den * 1)) (t * (time.den * 1))
+            border_gap (border_of (k -ℤ pos x) k b g h w) (q * (time.den * 1)) (n * q * 1) ≤ℤ border_gap (border_of (k -ℤ pos x) k b g h w) (q * (time.den * 1)) (t * (time.den * 1))
         later_in q t p i l =
             ⊎_elim
             (λ s. later k b g h sb time n en sd x w s q (t * (time.den * 1)) p l)
             (λ (a : (win.to.num *ℤ pos time.den) ≤ℤ (time.num *ℤ pos win.to.den)).
             let c = rw en at (upto win.to.num time.num time.den win.to.den q t st i.1 a) in
             let same : n * q * 1 ≡ t * (time.den * 1) = (let m : t * time.den ≤ n * q = omega (arith, ints) in omega arith) in
-            rw same (equal (side_gap (side_of (k -ℤ pos x) k b g h w) (q * (time.den * 1)) (t * (time.den * 1)))))
+            rw same (equal (border_gap (border_of (k -ℤ pos x) k b g h w) (q * (time.den * 1)) (t * (time.den * 1)))))
             best.late

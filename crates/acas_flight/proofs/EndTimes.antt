@@ -6,11 +6,11 @@ use Rattle.acas_flight.proofs.IntRing.{at, ◌⊕◌, ◌⊗◌, ring}
 use Rattle.acas_flight.proofs.Orders.{mul_le_left, mul_lt_left, le_from_mul_left, lt_from_mul_left, by_above}
 use Rattle.acas_flight.proofs.Holding.{held-none}
 use Rattle.acas_flight.proofs.Tangents.{gap, least_at_an_end, least_at_an_end_strict}
-use Rattle.acas_flight.proofs.Sides.{lift_le, lift_lt, side_gap-gap}
+use Rattle.acas_flight.proofs.Borders.{lift_le, lift_lt, border_gap-gap}
 use Rattle.acas_flight.specs.Curves.{approach, held}
 use Rattle.acas_flight.specs.Window.{Times, IsDuring}
 use Rattle.acas_flight.specs.Values.{IsAtMost}
-use Rattle.acas_flight.specs.Side.{side_of, side_gap, IsGapAt, IsLeastGap}
+use Rattle.acas_flight.specs.Border.{border_of, border_gap, IsGapAt, IsLeastGap}
 use Rattle.acas_frac.specs.Fraction.{Fraction}
 
 -- two gaps over one denominator, by their values
@@ -33,10 +33,10 @@ gaps_lt c a m b n d e pc f g h =
     (mul_lt_left c (m *ℤ pos e) (n *ℤ pos d) pc h))
 
 module _ (k : ℤ) (u b : ℕ) (h w : ℤ) (q : ℕ) where
-  gap_high : (t : ℕ) → side_gap (side_of (k +ℤ pos u) k b 0 h w) q t
+  gap_high : (t : ℕ) → border_gap (border_of (k +ℤ pos u) k b 0 h w) q t
       ≡ gap (approach ((k *ℤ pos (q * q)) +ℤ pos (u * (q * q))) (k *ℤ pos (q * q)) (b * q) t) (w *ℤ pos (q * q)) (b * q) t -ℤ (pos (b * q) *ℤ ((h *ℤ pos q) *ℤ pos (q * q)))
   gap_high t =
-      side_gap-gap (side_of (k +ℤ pos u) k b 0 h w) q t
+      border_gap-gap (border_of (k +ℤ pos u) k b 0 h w) q t
       ∙ ap (λ z. gap z (w *ℤ pos (q * q)) (b * q) t -ℤ (pos (b * q) *ℤ ((h *ℤ pos q) *ℤ pos (q * q))))
       (ap (λ n. held ((k +ℤ pos u) *ℤ pos (q * q)) (k *ℤ pos (q * q)) (b * q) n t) none
       ∙ held-none ((k +ℤ pos u) *ℤ pos (q * q)) (k *ℤ pos (q * q)) (b * q) t
@@ -52,8 +52,8 @@ module _ (k : ℤ) (u b : ℕ) (h w : ℤ) (q : ℕ) where
   lt_by a b x y c e f h = omega (arith, ints)
 
   at_ends : (from t to : ℕ) → from ≤ t → t ≤ to →
-      (side_gap (side_of (k +ℤ pos u) k b 0 h w) q from ≤ℤ side_gap (side_of (k +ℤ pos u) k b 0 h w) q t)
-      ⊎ (side_gap (side_of (k +ℤ pos u) k b 0 h w) q to ≤ℤ side_gap (side_of (k +ℤ pos u) k b 0 h w) q t)
+      (border_gap (border_of (k +ℤ pos u) k b 0 h w) q from ≤ℤ border_gap (border_of (k +ℤ pos u) k b 0 h w) q t)
+      ⊎ (border_gap (border_of (k +ℤ pos u) k b 0 h w) q to ≤ℤ border_gap (border_of (k +ℤ pos u) k b 0 h w) q t)
   at_ends from t to i j =
       ⊎_elim
       (λ l. inl (le_by _ _ _ _ (pos (b * q) *ℤ ((h *ℤ pos q) *ℤ pos (q * q))) (gap_high from) (gap_high t) l))
@@ -61,8 +61,8 @@ module _ (k : ℤ) (u b : ℕ) (h w : ℤ) (q : ℕ) where
       (least_at_an_end (k *ℤ pos (q * q)) (u * (q * q)) (b * q) (w *ℤ pos (q * q)) from t to i j)
 
   before_end : 0 < b * q → (from t to : ℕ) → from ≤ t → t < to →
-      (side_gap (side_of (k +ℤ pos u) k b 0 h w) q from ≤ℤ side_gap (side_of (k +ℤ pos u) k b 0 h w) q t)
-      ⊎ (side_gap (side_of (k +ℤ pos u) k b 0 h w) q to <ℤ side_gap (side_of (k +ℤ pos u) k b 0 h w) q t)
+      (border_gap (border_of (k +ℤ pos u) k b 0 h w) q from ≤ℤ border_gap (border_of (k +ℤ pos u) k b 0 h w) q t)
+      ⊎ (border_gap (border_of (k +ℤ pos u) k b 0 h w) q to <ℤ border_gap (border_of (k +ℤ pos u) k b 0 h w) q t)
   before_end p from t to i j =
       ⊎_elim
       (λ l. inl (le_by _ _ _ _ (pos (b * q) *ℤ ((h *ℤ pos q) *ℤ pos (q * q))) (gap_high from) (gap_high t) l))
@@ -72,7 +72,7 @@ module _ (k : ℤ) (u b : ℕ) (h w : ℤ) (q : ℕ) where
 -- the two ends over a common denominator, and a time of the window
 module _ (v k : ℤ) (b : ℕ) (h w : ℤ) (win : Times) (y z : Fraction) (m n : ℕ) (o : k ≤ℤ v) (sb : 0 < b)
     (em : win.from.num ≡ pos m) (en : win.to.num ≡ pos n) (sf : 0 < win.from.den) (st : 0 < win.to.den) (sy : 0 < y.den) (sz : 0 < z.den)
-    (valf : IsGapAt (side_of v k b 0 h w) win.from y) (valt : IsGapAt (side_of v k b 0 h w) win.to z) (ends : IsAtMost win.from win.to) where
+    (valf : IsGapAt (border_of v k b 0 h w) win.from y) (valt : IsGapAt (border_of v k b 0 h w) win.to z) (ends : IsAtMost win.from win.to) where
   abbrev F : ℕ
   F = win.from.den
 
@@ -82,11 +82,11 @@ module _ (v k : ℤ) (b : ℕ) (h w : ℤ) (win : Times) (y z : Fraction) (m n :
   abbrev C : ℕ → ℕ
   C q = q * q * q * (b * q)
 
-  first_at : (q : ℕ) → 0 < q → y.num *ℤ pos (C (q * (F * T))) ≡ side_gap (side_of v k b 0 h w) (q * (F * T)) (m * q * T) *ℤ pos y.den
+  first_at : (q : ℕ) → 0 < q → y.num *ℤ pos (C (q * (F * T))) ≡ border_gap (border_of v k b 0 h w) (q * (F * T)) (m * q * T) *ℤ pos y.den
   first_at q p = valf.over (q * (F * T)) (m * q * T) (mul-pos p (mul-pos sf st))
       (ring (pos m ∷ pos q ∷ pos T ∷ pos F ∷ []) (((at 0 ⊗ at 1) ⊗ at 2) ⊗ at 3) (at 0 ⊗ (at 1 ⊗ (at 3 ⊗ at 2))) refl ∙ ap (λ c. c *ℤ pos (q * (F * T))) (sym em))
 
-  last_at : (q : ℕ) → 0 < q → z.num *ℤ pos (C (q * (F * T))) ≡ side_gap (side_of v k b 0 h w) (q * (F * T)) (n * q * F) *ℤ pos z.den
+  last_at : (q : ℕ) → 0 < q → z.num *ℤ pos (C (q * (F * T))) ≡ border_gap (border_of v k b 0 h w) (q * (F * T)) (n * q * F) *ℤ pos z.den
   last_at q p = valt.over (q * (F * T)) (n * q * F) (mul-pos p (mul-pos sf st))
       (ring (pos n ∷ pos q ∷ pos F ∷ pos T ∷ []) (((at 0 ⊗ at 1) ⊗ at 2) ⊗ at 3) (at 0 ⊗ (at 1 ⊗ (at 2 ⊗ at 3))) refl ∙ ap (λ c. c *ℤ pos (q * (F * T))) (sym en))
 
@@ -97,8 +97,8 @@ module _ (v k : ℤ) (b : ℕ) (h w : ℤ) (win : Times) (y z : Fraction) (m n :
   to_last q t i = let a = rw en at i.1 in let c : t * T ≤ n * q = omega (arith, ints) in omega (arith, mul-le-mul_right F c)
 
   least_of : (q t : ℕ) → IsDuring q win t →
-      (side_gap (side_of v k b 0 h w) (q * (F * T)) (m * q * T) ≤ℤ side_gap (side_of v k b 0 h w) (q * (F * T)) (t * (F * T)))
-      ⊎ (side_gap (side_of v k b 0 h w) (q * (F * T)) (n * q * F) ≤ℤ side_gap (side_of v k b 0 h w) (q * (F * T)) (t * (F * T)))
+      (border_gap (border_of v k b 0 h w) (q * (F * T)) (m * q * T) ≤ℤ border_gap (border_of v k b 0 h w) (q * (F * T)) (t * (F * T)))
+      ⊎ (border_gap (border_of v k b 0 h w) (q * (F * T)) (n * q * F) ≤ℤ border_gap (border_of v k b 0 h w) (q * (F * T)) (t * (F * T)))
   least_of q t i = by_above k v o (λ u e. rw e (at_ends k u b h w (q * (F * T)) (m * q * T) (t * (F * T)) (n * q * F) (from_first q t i) (to_last q t i)))
 
   trans : (a b c : ℤ) → a ≤ℤ b → b ≤ℤ c → a ≤ℤ c
@@ -110,12 +110,12 @@ module _ (v k : ℤ) (b : ℕ) (h w : ℤ) (win : Times) (y z : Fraction) (m n :
   same : (a : ℤ) → a ≤ℤ a
   same a = omega (arith, ints)
 
-  pub first_least : (y.num *ℤ pos z.den) ≤ℤ (z.num *ℤ pos y.den) → IsLeastGap (side_of v k b 0 h w) win win.from y
+  pub first_least : (y.num *ℤ pos z.den) ≤ℤ (z.num *ℤ pos y.den) → IsLeastGap (border_of v k b 0 h w) win win.from y
   first_least l = record {
     after = same (win.from.num *ℤ pos win.from.den);
     before = ends;
     value = valf;
-    least = λ q t p i. lift_le (side_of v k b 0 h w) win.from y valf m em q t T p (mul-pos sf st)
+    least = λ q t p i. lift_le (border_of v k b 0 h w) win.from y valf m em q t T p (mul-pos sf st)
         (⊎_elim (λ a. a)
         (λ a. trans _ _ _ (gaps_le (C (q * (F * T))) _ y.num _ z.num y.den z.den sy sz (first_at q p) (last_at q p) l) a)
         (least_of q t i));
@@ -123,7 +123,7 @@ module _ (v k : ℤ) (b : ℕ) (h w : ℤ) (win : Times) (y z : Fraction) (m n :
   }
 
   -- the last end, where its gap is less than the first's
-  last_below : (z.num *ℤ pos y.den) <ℤ (y.num *ℤ pos z.den) → (q : ℕ) → 0 < q → side_gap (side_of v k b 0 h w) (q * (F * T)) (n * q * F) <ℤ side_gap (side_of v k b 0 h w) (q * (F * T)) (m * q * T)
+  last_below : (z.num *ℤ pos y.den) <ℤ (y.num *ℤ pos z.den) → (q : ℕ) → 0 < q → border_gap (border_of v k b 0 h w) (q * (F * T)) (n * q * F) <ℤ border_gap (border_of v k b 0 h w) (q * (F * T)) (m * q * T)
   last_below l q p = gaps_lt (C (q * (F * T))) _ z.num _ y.num z.den y.den (mul-pos (mul-pos (mul-pos some some) some) (mul-pos sb some)) (last_at q p) (first_at q p) l
     where
       some : 0 < q * (F * T)
@@ -132,18 +132,18 @@ module _ (v k : ℤ) (b : ℕ) (h w : ℤ) (win : Times) (y z : Fraction) (m n :
   turned : F * T ≡ T * F
   turned = omega arith
 
-  pub last_least : (z.num *ℤ pos y.den) <ℤ (y.num *ℤ pos z.den) → IsLeastGap (side_of v k b 0 h w) win win.to z
+  pub last_least : (z.num *ℤ pos y.den) <ℤ (y.num *ℤ pos z.den) → IsLeastGap (border_of v k b 0 h w) win win.to z
   last_least l = record {
     after = ends;
     before = same (win.to.num *ℤ pos win.to.den);
     value = valt;
-    least = λ q t p i. lift_le (side_of v k b 0 h w) win.to z valt n en q t F p (mul-pos st sf)
+    least = λ q t p i. lift_le (border_of v k b 0 h w) win.to z valt n en q t F p (mul-pos st sf)
         (rw (← turned)
         (⊎_elim
         (λ a. weaker _ _ (trans_lt _ _ _ (last_below l q p) a))
         (λ a. a)
         (least_of q t i)));
-    earliest = λ q t p i j. lift_lt (side_of v k b 0 h w) win.to z valt n en q t F p (mul-pos st sf) sz
+    earliest = λ q t p i j. lift_lt (border_of v k b 0 h w) win.to z valt n en q t F p (mul-pos st sf) sz
         (rw (← turned)
         (⊎_elim
         (λ a. trans_lt _ _ _ (last_below l q p) a)
@@ -158,6 +158,6 @@ module _ (v k : ℤ) (b : ℕ) (h w : ℤ) (win : Times) (y z : Fraction) (m n :
       early q t j = let c = rw en at j in let d : t * T < n * q = omega (arith, ints) in omega (arith, mul-lt-mul_of_pos_left {m = t * T} {n = n * q} {k = F} d sf)
 
       strict : (q t : ℕ) → 0 < q → IsDuring q win t → t * (F * T) < n * q * F →
-          (side_gap (side_of v k b 0 h w) (q * (F * T)) (m * q * T) ≤ℤ side_gap (side_of v k b 0 h w) (q * (F * T)) (t * (F * T)))
-          ⊎ (side_gap (side_of v k b 0 h w) (q * (F * T)) (n * q * F) <ℤ side_gap (side_of v k b 0 h w) (q * (F * T)) (t * (F * T)))
+          (border_gap (border_of v k b 0 h w) (q * (F * T)) (m * q * T) ≤ℤ border_gap (border_of v k b 0 h w) (q * (F * T)) (t * (F * T)))
+          ⊎ (border_gap (border_of v k b 0 h w) (q * (F * T)) (n * q * F) <ℤ border_gap (border_of v k b 0 h w) (q * (F * T)) (t * (F * T)))
       strict q t p i j = by_above k v o (λ u e. rw e (before_end k u b h w (q * (F * T)) (mul-pos sb (mul-pos p (mul-pos sf st))) (m * q * T) (t * (F * T)) (n * q * F) (from_first q t i) j))

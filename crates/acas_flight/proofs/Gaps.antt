@@ -1,4 +1,4 @@
--- Gaps from whole numbers; the sides of a box; clear boxes by their extremes.
+-- Gaps from whole numbers; the borders of a box; clear boxes by their extremes.
 use Rattle.std.proofs.Common.{◌≡◌, ℕ, ◌*◌, ◌<◌, ⊎_elim, refl, sym, ap, ap₂, ◌∙◌, arith, Bool, true, false, cond, [], ◌∷◌, ℤ, pos, neg_ℤ, ◌+ℤ◌, ◌-ℤ◌, ◌*ℤ◌, ◌≤ℤ◌, ◌<ℤ◌, int_lt, mul-pos}
 use Rattle.std.proofs.lemmas.Int.{ints}
 use lib.IntN.{*ℤ_comm}
@@ -14,11 +14,11 @@ use Rattle.acas_flight.specs.Curves.{held, low_pull, low_hold, high_pull, high_h
 use Rattle.acas_flight.specs.Window.{Times}
 use Rattle.acas_flight.specs.Clear.{Area, low_pull_of, high_pull_of, least_gap, greatest_gap}
 use Rattle.acas_flight.specs.Values.{negated}
-use Rattle.acas_flight.specs.Side.{Side, side_gap, IsGapAt, IsLeastGap, low_side_of, high_side_of, gap_number}
+use Rattle.acas_flight.specs.Border.{Border, border_gap, IsGapAt, IsLeastGap, low_border_of, high_border_of, gap_number}
 use Rattle.acas_flight.specs.Extremes.{IsLowExtreme, IsHighExtreme}
 use Rattle.acas_frac.specs.Fraction.{Fraction}
 
-module _ (s : Side) (d n q t : ℕ) (e : t * d ≡ n * q) where
+module _ (s : Border) (d n q t : ℕ) (e : t * d ≡ n * q) where
   climbs : held (s.start *ℤ pos (q * q)) (s.aim *ℤ pos (q * q)) (s.pull * q) (s.hold * q) t *ℤ pos ((d * d) * (d * d))
       ≡ held (s.start *ℤ pos d) (s.aim *ℤ pos d) s.pull (s.hold * d) n *ℤ pos (((q * d) * q) * ((q * d) * q))
   climbs =
@@ -50,7 +50,7 @@ module _ (s : Side) (d n q t : ℕ) (e : t * d ≡ n * q) where
       ((((at 2 ⊗ at 5) ⊕ ((num (pos 2) ⊗ at 3) ⊗ at 4)) ⊗ (at 5 ⊗ at 0)) ⊗ (((at 1 ⊗ at 5) ⊗ at 1) ⊗ ((at 1 ⊗ at 5) ⊗ at 1)))
       refl
 
-  gaps : side_gap s q t *ℤ pos ((d * d) * (d * d)) ≡ gap_number s d n *ℤ pos (((q * d) * q) * ((q * d) * q))
+  gaps : border_gap s q t *ℤ pos ((d * d) * (d * d)) ≡ gap_number s d n *ℤ pos (((q * d) * q) * ((q * d) * q))
   gaps = split (held (s.start *ℤ pos (q * q)) (s.aim *ℤ pos (q * q)) (s.pull * q) (s.hold * q) t) (pos (s.pull * q) *ℤ vertical_separation q (s.height *ℤ pos q) (s.rate *ℤ pos q) t (pos 0)) (pos ((d * d) * (d * d)))
       ∙ ap₂ (λ (a b : ℤ). a -ℤ b) climbs lines
       ∙ sym (split (held (s.start *ℤ pos d) (s.aim *ℤ pos d) s.pull (s.hold * d) n) (((s.height *ℤ pos d) +ℤ ((pos 2 *ℤ s.rate) *ℤ pos n)) *ℤ pos (d * s.pull)) (pos (((q * d) * q) * ((q * d) * q))))
@@ -59,12 +59,12 @@ module _ (s : Side) (d n q t : ℕ) (e : t * d ≡ n * q) where
       split a b c = ring (a ∷ b ∷ c ∷ []) ((at 0 ⊖ at 1) ⊗ at 2) ((at 0 ⊗ at 2) ⊖ (at 1 ⊗ at 2)) refl
 
 -- A fraction whose value is the gap number over d*d and the pull is the gap.
-pub IsGapAt-of : (s : Side) (time y : Fraction) (n : ℕ) → time.num ≡ pos n → 0 < time.den → y.num *ℤ pos (time.den * time.den * s.pull) ≡ gap_number s time.den n *ℤ pos y.den → IsGapAt s time y
+pub IsGapAt-of : (s : Border) (time y : Fraction) (n : ℕ) → time.num ≡ pos n → 0 < time.den → y.num *ℤ pos (time.den * time.den * s.pull) ≡ gap_number s time.den n *ℤ pos y.den → IsGapAt s time y
 IsGapAt-of s time y n en sd e = record { over = λ q t p it. at_q q t p (pos_inj (t * time.den) (n * q) (it ∙ ap (λ z. z *ℤ pos q) en)) }
   where
-    at_q : (q t : ℕ) → 0 < q → t * time.den ≡ n * q → y.num *ℤ pos (q * q * q * (s.pull * q)) ≡ side_gap s q t *ℤ pos y.den
+    at_q : (q t : ℕ) → 0 < q → t * time.den ≡ n * q → y.num *ℤ pos (q * q * q * (s.pull * q)) ≡ border_gap s q t *ℤ pos y.den
     at_q q t p f =
-        cancel_left ((time.den * time.den) * (time.den * time.den)) (y.num *ℤ pos (q * q * q * (s.pull * q))) (side_gap s q t *ℤ pos y.den) (mul-pos (mul-pos sd sd) (mul-pos sd sd))
+        cancel_left ((time.den * time.den) * (time.den * time.den)) (y.num *ℤ pos (q * q * q * (s.pull * q))) (border_gap s q t *ℤ pos y.den) (mul-pos (mul-pos sd sd) (mul-pos sd sd))
         (ring (pos time.den ∷ y.num ∷ pos q ∷ pos s.pull ∷ [])
         (((at 0 ⊗ at 0) ⊗ (at 0 ⊗ at 0)) ⊗ (at 1 ⊗ (((at 2 ⊗ at 2) ⊗ at 2) ⊗ (at 3 ⊗ at 2))))
         ((at 1 ⊗ ((at 0 ⊗ at 0) ⊗ at 3)) ⊗ (((at 2 ⊗ at 0) ⊗ at 2) ⊗ ((at 2 ⊗ at 0) ⊗ at 2)))
@@ -72,7 +72,7 @@ IsGapAt-of s time y n en sd e = record { over = λ q t p it. at_q q t p (pos_inj
         ∙ ap (λ z. z *ℤ pos (((q * time.den) * q) * ((q * time.den) * q))) e
         ∙ swap (gap_number s time.den n) (pos y.den) (pos (((q * time.den) * q) * ((q * time.den) * q)))
         ∙ ap (λ z. z *ℤ pos y.den) (sym (gaps s time.den n q t f))
-        ∙ back (side_gap s q t) (pos ((time.den * time.den) * (time.den * time.den))) (pos y.den))
+        ∙ back (border_gap s q t) (pos ((time.den * time.den) * (time.den * time.den))) (pos y.den))
       where
         swap : (a b c : ℤ) → (a *ℤ b) *ℤ c ≡ (a *ℤ c) *ℤ b
         swap a b c = ring (a ∷ b ∷ c ∷ []) ((at 0 ⊗ at 1) ⊗ at 2) ((at 0 ⊗ at 2) ⊗ at 1) refl
@@ -80,7 +80,7 @@ IsGapAt-of s time y n en sd e = record { over = λ q t p it. at_q q t p (pos_inj
         back : (a c b : ℤ) → (a *ℤ c) *ℤ b ≡ c *ℤ (a *ℤ b)
         back a c b = ring (a ∷ c ∷ b ∷ []) ((at 0 ⊗ at 1) ⊗ at 2) (at 1 ⊗ (at 0 ⊗ at 2)) refl
 
--- ---- the sides of a box
+-- ---- the borders of a box
 
 test_scaled : (a b : ℤ) (n : ℕ) → 0 < n → int_lt (a *ℤ pos n) (b *ℤ pos n) ≡ int_lt a b
 test_scaled a b n p =
@@ -101,28 +101,28 @@ module _ (a : Demand) (box : Area) (q : ℕ) (p : 0 < q) where
   low_test : int_lt (box.own.least *ℤ pos (q * q)) (a.lo *ℤ pos (q * q)) ≡ int_lt box.own.least a.lo
   low_test = test_scaled box.own.least a.lo (q * q) (mul-pos p p)
 
-  pub low_pull-side : low_pull_of q a box ≡ low_pull a box.own.least * q
-  low_pull-side = ap (λ t. cond t (a.pull * q) (a.limit * q)) low_test ∙ cond_times (int_lt box.own.least a.lo) a.pull a.limit q
+  pub low_pull-border : low_pull_of q a box ≡ low_pull a box.own.least * q
+  low_pull-border = ap (λ t. cond t (a.pull * q) (a.limit * q)) low_test ∙ cond_times (int_lt box.own.least a.lo) a.pull a.limit q
 
-  low_hold-side : low_hold (scaled q a) (box.own.least *ℤ pos (q * q)) ≡ low_hold a box.own.least * q
-  low_hold-side = ap (λ t. cond t (a.delay * q) 0) low_test ∙ cond_none (int_lt box.own.least a.lo) a.delay q
+  low_hold-border : low_hold (scaled q a) (box.own.least *ℤ pos (q * q)) ≡ low_hold a box.own.least * q
+  low_hold-border = ap (λ t. cond t (a.delay * q) 0) low_test ∙ cond_none (int_lt box.own.least a.lo) a.delay q
 
-  pub least_gap-side : (t : ℕ) → least_gap q a box t ≡ side_gap (low_side_of a box) q t
-  least_gap-side t =
-      ap₂ (λ (b g : ℕ). held (box.own.least *ℤ pos (q * q)) (a.lo *ℤ pos (q * q)) b g t -ℤ (pos b *ℤ vertical_separation q (box.altitude.greatest *ℤ pos q) (box.intruder.greatest *ℤ pos q) t (pos 0))) low_pull-side low_hold-side
+  pub least_gap-border : (t : ℕ) → least_gap q a box t ≡ border_gap (low_border_of a box) q t
+  least_gap-border t =
+      ap₂ (λ (b g : ℕ). held (box.own.least *ℤ pos (q * q)) (a.lo *ℤ pos (q * q)) b g t -ℤ (pos b *ℤ vertical_separation q (box.altitude.greatest *ℤ pos q) (box.intruder.greatest *ℤ pos q) t (pos 0))) low_pull-border low_hold-border
 
   high_test : int_lt (a.hi *ℤ pos (q * q)) (box.own.greatest *ℤ pos (q * q)) ≡ int_lt a.hi box.own.greatest
   high_test = test_scaled a.hi box.own.greatest (q * q) (mul-pos p p)
 
-  pub high_pull-side : high_pull_of q a box ≡ high_pull a box.own.greatest * q
-  high_pull-side = ap (λ t. cond t (a.pull * q) (a.limit * q)) high_test ∙ cond_times (int_lt a.hi box.own.greatest) a.pull a.limit q
+  pub high_pull-border : high_pull_of q a box ≡ high_pull a box.own.greatest * q
+  high_pull-border = ap (λ t. cond t (a.pull * q) (a.limit * q)) high_test ∙ cond_times (int_lt a.hi box.own.greatest) a.pull a.limit q
 
-  high_hold-side : high_hold (scaled q a) (box.own.greatest *ℤ pos (q * q)) ≡ high_hold a box.own.greatest * q
-  high_hold-side = ap (λ t. cond t (a.delay * q) 0) high_test ∙ cond_none (int_lt a.hi box.own.greatest) a.delay q
+  high_hold-border : high_hold (scaled q a) (box.own.greatest *ℤ pos (q * q)) ≡ high_hold a box.own.greatest * q
+  high_hold-border = ap (λ t. cond t (a.delay * q) 0) high_test ∙ cond_none (int_lt a.hi box.own.greatest) a.delay q
 
-  pub greatest_gap-side : (t : ℕ) → greatest_gap q a box t ≡ neg_ℤ (side_gap (high_side_of a box) q t)
-  greatest_gap-side t =
-      ap₂ (λ (b g : ℕ). held (box.own.greatest *ℤ pos (q * q)) (a.hi *ℤ pos (q * q)) b g t -ℤ (pos b *ℤ vertical_separation q (box.altitude.least *ℤ pos q) (box.intruder.least *ℤ pos q) t (pos 0))) high_pull-side high_hold-side
+  pub greatest_gap-border : (t : ℕ) → greatest_gap q a box t ≡ neg_ℤ (border_gap (high_border_of a box) q t)
+  greatest_gap-border t =
+      ap₂ (λ (b g : ℕ). held (box.own.greatest *ℤ pos (q * q)) (a.hi *ℤ pos (q * q)) b g t -ℤ (pos b *ℤ vertical_separation q (box.altitude.least *ℤ pos q) (box.intruder.least *ℤ pos q) t (pos 0))) high_pull-border high_hold-border
       ∙ turned (high_pull a box.own.greatest * q) (high_hold a box.own.greatest * q)
     where
       line : (c l c' l' : ℤ) → c' ≡ neg_ℤ c → l' ≡ neg_ℤ l → c -ℤ l ≡ neg_ℤ (c' -ℤ l')
@@ -146,14 +146,14 @@ module _ (a : Demand) (box : Area) (q : ℕ) (p : 0 < q) where
           (ap₂ (λ (v k : ℤ). held v k b g t) (neg_mul_ℤ box.own.greatest (pos (q * q))) (neg_mul_ℤ a.hi (pos (q * q))) ∙ turned_held (box.own.greatest *ℤ pos (q * q)) (a.hi *ℤ pos (q * q)) b g t)
           (opposite b box.altitude.least box.intruder.least)
 
--- The extremes of a box are those of its sides.
-pub low_extreme_of : (a : Demand) (box : Area) (w : Times) (time y : Fraction) → IsLeastGap (low_side_of a box) w time y → IsLowExtreme a box w time y
+-- The extremes of a box are those of its borders.
+pub low_extreme_of : (a : Demand) (box : Area) (w : Times) (time y : Fraction) → IsLeastGap (low_border_of a box) w time y → IsLowExtreme a box w time y
 low_extreme_of a box w time y l = record {
   after = l.after;
   before = l.before;
-  value = λ q t p i. rw (least_gap-side a box q p t, low_pull-side a box q p) (l.value.over q t p i);
-  least = λ q t p i. rw (least_gap-side a box q p t, low_pull-side a box q p) (l.least q t p i);
-  earliest = λ q t p i j. rw (least_gap-side a box q p t, low_pull-side a box q p) (l.earliest q t p i j);
+  value = λ q t p i. rw (least_gap-border a box q p t, low_pull-border a box q p) (l.value.over q t p i);
+  least = λ q t p i. rw (least_gap-border a box q p t, low_pull-border a box q p) (l.least q t p i);
+  earliest = λ q t p i j. rw (least_gap-border a box q p t, low_pull-border a box q p) (l.earliest q t p i j);
 }
 
 neg_value : (y g : ℤ) (c d : ℕ) → y *ℤ pos c ≡ g *ℤ pos d → neg_ℤ y *ℤ pos c ≡ neg_ℤ g *ℤ pos d
@@ -171,11 +171,11 @@ neg_lt y g c d h = rw (neg_mul_ℤ y (pos c), neg_mul_ℤ g (pos d)) (line (y *�
     line : (a b : ℤ) → a <ℤ b → neg_ℤ b <ℤ neg_ℤ a
     line a b h = omega (arith, ints)
 
-pub high_extreme_of : (a : Demand) (box : Area) (w : Times) (time y : Fraction) → IsLeastGap (high_side_of a box) w time y → IsHighExtreme a box w time (negated y)
+pub high_extreme_of : (a : Demand) (box : Area) (w : Times) (time y : Fraction) → IsLeastGap (high_border_of a box) w time y → IsHighExtreme a box w time (negated y)
 high_extreme_of a box w time y l = record {
   after = l.after;
   before = l.before;
-  value = λ q t p i. rw (greatest_gap-side a box q p t, high_pull-side a box q p) (neg_value y.num (side_gap (high_side_of a box) q t) (q * q * q * (high_pull a box.own.greatest * q)) y.den (l.value.over q t p i));
-  greatest = λ q t p i. rw (greatest_gap-side a box q p t, high_pull-side a box q p) (neg_le y.num (side_gap (high_side_of a box) q t) (q * q * q * (high_pull a box.own.greatest * q)) y.den (l.least q t p i));
-  earliest = λ q t p i j. rw (greatest_gap-side a box q p t, high_pull-side a box q p) (neg_lt y.num (side_gap (high_side_of a box) q t) (q * q * q * (high_pull a box.own.greatest * q)) y.den (l.earliest q t p i j));
+  value = λ q t p i. rw (greatest_gap-border a box q p t, high_pull-border a box q p) (neg_value y.num (border_gap (high_border_of a box) q t) (q * q * q * (high_pull a box.own.greatest * q)) y.den (l.value.over q t p i));
+  greatest = λ q t p i. rw (greatest_gap-border a box q p t, high_pull-border a box q p) (neg_le y.num (border_gap (high_border_of a box) q t) (q * q * q * (high_pull a box.own.greatest * q)) y.den (l.least q t p i));
+  earliest = λ q t p i j. rw (greatest_gap-border a box q p t, high_pull-border a box q p) (neg_lt y.num (border_gap (high_border_of a box) q t) (q * q * q * (high_pull a box.own.greatest * q)) y.den (l.earliest q t p i j));
 }

@@ -13,7 +13,7 @@ pub mod Scales
 pub mod Windows
 pub mod Held
 pub mod BoxWindows
-pub mod Sides
+pub mod Borders
 pub mod BestTimes
 pub mod EndTimes
 pub mod Gaps

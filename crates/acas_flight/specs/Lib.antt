@@ -6,5 +6,5 @@ pub mod Curves
 pub mod Window
 pub mod Clear
 pub mod Values
-pub mod Side
+pub mod Border
 pub mod Extremes

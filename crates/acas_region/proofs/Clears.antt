@@ -7,23 +7,23 @@ use Rattle.acas_frac.specs.Fraction.{Fraction}
 use Rattle.acas_flight.specs.Response.{Demand}
 use Rattle.acas_flight.specs.Window.{Times, IsDuring}
 use Rattle.acas_flight.specs.Clear.{Area, IsClear, IsClearAbove, IsClearBelow}
-use Rattle.acas_flight.specs.Side.{Side, side_of, side_gap, gap_number, low_side_of, high_side_of, IsGapAt, IsLeastGap, IsNearestTime}
+use Rattle.acas_flight.specs.Border.{Border, border_of, border_gap, gap_number, low_border_of, high_border_of, IsGapAt, IsLeastGap, IsNearestTime}
 use Rattle.acas_flight.proofs.IntRing.{at, ◌⊗◌, ring, mul_neg_ℤ}
 use Rattle.acas_flight.proofs.Orders.{mul_lt_left, lt_from_mul_left, cases_lt_ℤ}
 use Rattle.acas_flight.proofs.EndTimes.{first_least, last_least}
-use Rattle.acas_flight.proofs.Gaps.{IsGapAt-of, low_pull-side, high_pull-side, least_gap-side, greatest_gap-side}
+use Rattle.acas_flight.proofs.Gaps.{IsGapAt-of, low_pull-border, high_pull-border, least_gap-border, greatest_gap-border}
 use Rattle.acas_region.specs.Chases.{StaysOver}
 use Rattle.acas_region.specs.Limits.{AreEnds}
 use Rattle.acas_region.proofs.LeastGaps.{least_of_nearest}
 
 -- the gap at the time n/d, over d*d times the pull
-abbrev gap_at : Side → ℕ → ℕ → Fraction
+abbrev gap_at : Border → ℕ → ℕ → Fraction
 gap_at s d n = record { num = gap_number s d n; den = d * d * s.pull }
 
 abbrev time : ℕ → ℕ → Fraction
 time d n = record { num = pos n; den = d }
 
-is_gap : (s : Side) (d n : ℕ) → 0 < d → IsGapAt s (time d n) (gap_at s d n)
+is_gap : (s : Border) (d n : ℕ) → 0 < d → IsGapAt s (time d n) (gap_at s d n)
 is_gap s d n p = IsGapAt-of s (time d n) (gap_at s d n) n refl p refl
 
 turned : (half d q P : ℕ) → pos (q * q * q * P) *ℤ pos (half * d) ≡ pos d *ℤ (pos P *ℤ pos (half * (q * q * q)))
@@ -33,20 +33,20 @@ less_le : (a b c : ℤ) → a <ℤ b → b ≤ℤ c → a <ℤ c
 less_le a b c h k = omega (arith, ints)
 
 -- a least gap of more than the half height is so at each time
-above : (half : ℕ) (s : Side) (w : Times) (time y : Fraction) → 0 < s.pull → IsLeastGap s w time y → pos (half * y.den) <ℤ y.num → StaysOver half s w
+above : (half : ℕ) (s : Border) (w : Times) (time y : Fraction) → 0 < s.pull → IsLeastGap s w time y → pos (half * y.den) <ℤ y.num → StaysOver half s w
 above half s w time y b l h q t p i =
-    lt_from_mul_left y.den (pos (s.pull * q) *ℤ pos (half * (q * q * q))) (side_gap s q t)
-    (rw (← turned half y.den q (s.pull * q), *ℤ_comm (pos y.den) (side_gap s q t))
+    lt_from_mul_left y.den (pos (s.pull * q) *ℤ pos (half * (q * q * q))) (border_gap s q t)
+    (rw (← turned half y.den q (s.pull * q), *ℤ_comm (pos y.den) (border_gap s q t))
     (less_le _ _ _ (mul_lt_left (q * q * q * (s.pull * q)) (pos (half * y.den)) y.num (mul-pos (mul-pos (mul-pos p p) p) (mul-pos b p)) h)
     (rw (*ℤ_comm (pos (q * q * q * (s.pull * q))) y.num) (l.least q t p i))))
 
 -- a gap at one of the times
-at_time : (half : ℕ) (s : Side) (w : Times) (d n : ℕ) → 0 < d → 0 < s.pull → IsDuring d w n → StaysOver half s w → pos (half * (d * d * s.pull)) <ℤ gap_number s d n
+at_time : (half : ℕ) (s : Border) (w : Times) (d n : ℕ) → 0 < d → 0 < s.pull → IsDuring d w n → StaysOver half s w → pos (half * (d * d * s.pull)) <ℤ gap_number s d n
 at_time half s w d n p b i over =
     let y = is_gap s d n p in
     lt_from_mul_left (d * d * d * (s.pull * d)) (pos (half * (d * d * s.pull))) (gap_number s d n)
-    (rw (turned half (d * d * s.pull) d (s.pull * d), *ℤ_comm (pos (d * d * d * (s.pull * d))) (gap_number s d n) ∙ y.over d n p refl ∙ *ℤ_comm (side_gap s d n) (pos (d * d * s.pull)))
-    (mul_lt_left (d * d * s.pull) (pos (s.pull * d) *ℤ pos (half * (d * d * d))) (side_gap s d n) (mul-pos (mul-pos p p) b) (over d n p i)))
+    (rw (turned half (d * d * s.pull) d (s.pull * d), *ℤ_comm (pos (d * d * d * (s.pull * d))) (gap_number s d n) ∙ y.over d n p refl ∙ *ℤ_comm (border_gap s d n) (pos (d * d * s.pull)))
+    (mul_lt_left (d * d * s.pull) (pos (s.pull * d) *ℤ pos (half * (d * d * d))) (border_gap s d n) (mul-pos (mul-pos p p) b) (over d n p i)))
 
 test_of : (a b : ℤ) (r : Bool) → r ≡ int_lt a b → IsTrue r → a <ℤ b
 test_of a b r e t = let h : int_lt a b ≡ true = sym e ∙ t in omega (arith, ints)
@@ -56,25 +56,25 @@ of_test a b r e h = let t : true ≡ int_lt a b = omega (arith, ints) in e ∙ s
 
 -- a rising curve, at its nearest time n/d
 pub nearest_decides : (half : ℕ) (v k : ℤ) (b g : ℕ) (h x : ℤ) (w : Times) (d n : ℕ) (r : Bool) → v <ℤ k → 0 < b → AreEnds w → 0 < d →
-    IsNearestTime (side_of v k b g h x) w (time d n) → r ≡ int_lt (pos (half * (d * d * b))) (gap_number (side_of v k b g h x) d n) → IsTrue r ↔ StaysOver half (side_of v k b g h x) w
+    IsNearestTime (border_of v k b g h x) w (time d n) → r ≡ int_lt (pos (half * (d * d * b))) (gap_number (border_of v k b g h x) d n) → IsTrue r ↔ StaysOver half (border_of v k b g h x) w
 nearest_decides half v k b g h x w d n r o sb ends p near e = (
-  λ t. above half (side_of v k b g h x) w (time d n) (gap_at (side_of v k b g h x) d n) sb
-      (least_of_nearest v k b g h x w (time d n) (gap_at (side_of v k b g h x) d n) n o sb ends refl p (mul-pos (mul-pos p p) sb) (is_gap (side_of v k b g h x) d n p) near)
+  λ t. above half (border_of v k b g h x) w (time d n) (gap_at (border_of v k b g h x) d n) sb
+      (least_of_nearest v k b g h x w (time d n) (gap_at (border_of v k b g h x) d n) n o sb ends refl p (mul-pos (mul-pos p p) sb) (is_gap (border_of v k b g h x) d n p) near)
       (test_of _ _ r e t),
-  λ over. of_test _ _ r e (at_time half (side_of v k b g h x) w d n p sb (near.after, near.before) over),
+  λ over. of_test _ _ r e (at_time half (border_of v k b g h x) w d n p sb (near.after, near.before) over),
 )
 
-at_first : (half : ℕ) (v k : ℤ) (b : ℕ) (h x : ℤ) (w : Times) (m : ℕ) → 0 < b → AreEnds w → w.from.num ≡ pos m → StaysOver half (side_of v k b 0 h x) w →
-    pos (half * (w.from.den * w.from.den * b)) <ℤ gap_number (side_of v k b 0 h x) w.from.den m
-at_first half v k b h x w m sb ends em over = at_time half (side_of v k b 0 h x) w w.from.den m ends.from.some sb (rw em (omega (arith, ints)), rw em at ends.order) over
+at_first : (half : ℕ) (v k : ℤ) (b : ℕ) (h x : ℤ) (w : Times) (m : ℕ) → 0 < b → AreEnds w → w.from.num ≡ pos m → StaysOver half (border_of v k b 0 h x) w →
+    pos (half * (w.from.den * w.from.den * b)) <ℤ gap_number (border_of v k b 0 h x) w.from.den m
+at_first half v k b h x w m sb ends em over = at_time half (border_of v k b 0 h x) w w.from.den m ends.from.some sb (rw em (omega (arith, ints)), rw em at ends.order) over
 
 -- a curve that does not rise, at the two ends
 module _ (half : ℕ) (v k : ℤ) (b : ℕ) (h x : ℤ) (w : Times) (m n : ℕ) (o : k ≤ℤ v) (sb : 0 < b) (ends : AreEnds w) (em : w.from.num ≡ pos m) (en : w.to.num ≡ pos n) where
   abbrev first : Fraction
-  first = gap_at (side_of v k b 0 h x) w.from.den m
+  first = gap_at (border_of v k b 0 h x) w.from.den m
 
   abbrev last : Fraction
-  last = gap_at (side_of v k b 0 h x) w.to.den n
+  last = gap_at (border_of v k b 0 h x) w.to.den n
 
   some_first : 0 < w.from.den * w.from.den * b
   some_first = mul-pos (mul-pos ends.from.some ends.from.some) sb
@@ -82,30 +82,30 @@ module _ (half : ℕ) (v k : ℤ) (b : ℕ) (h x : ℤ) (w : Times) (m n : ℕ) 
   some_last : 0 < w.to.den * w.to.den * b
   some_last = mul-pos (mul-pos ends.to.some ends.to.some) sb
 
-  first_gap : IsGapAt (side_of v k b 0 h x) w.from (gap_at (side_of v k b 0 h x) w.from.den m)
-  first_gap = IsGapAt-of (side_of v k b 0 h x) w.from (gap_at (side_of v k b 0 h x) w.from.den m) m em ends.from.some refl
+  first_gap : IsGapAt (border_of v k b 0 h x) w.from (gap_at (border_of v k b 0 h x) w.from.den m)
+  first_gap = IsGapAt-of (border_of v k b 0 h x) w.from (gap_at (border_of v k b 0 h x) w.from.den m) m em ends.from.some refl
 
-  last_gap : IsGapAt (side_of v k b 0 h x) w.to (gap_at (side_of v k b 0 h x) w.to.den n)
-  last_gap = IsGapAt-of (side_of v k b 0 h x) w.to (gap_at (side_of v k b 0 h x) w.to.den n) n en ends.to.some refl
+  last_gap : IsGapAt (border_of v k b 0 h x) w.to (gap_at (border_of v k b 0 h x) w.to.den n)
+  last_gap = IsGapAt-of (border_of v k b 0 h x) w.to (gap_at (border_of v k b 0 h x) w.to.den n) n en ends.to.some refl
 
-  over_at_both : pos (half * (w.from.den * w.from.den * b)) <ℤ gap_number (side_of v k b 0 h x) w.from.den m →
-      pos (half * (w.to.den * w.to.den * b)) <ℤ gap_number (side_of v k b 0 h x) w.to.den n → StaysOver half (side_of v k b 0 h x) w
+  over_at_both : pos (half * (w.from.den * w.from.den * b)) <ℤ gap_number (border_of v k b 0 h x) w.from.den m →
+      pos (half * (w.to.den * w.to.den * b)) <ℤ gap_number (border_of v k b 0 h x) w.to.den n → StaysOver half (border_of v k b 0 h x) w
   over_at_both i j =
       ⊎_elim
-      (λ l. above half (side_of v k b 0 h x) w w.to last sb
+      (λ l. above half (border_of v k b 0 h x) w w.to last sb
       (last_least v k b h x w first last m n o sb em en ends.from.some ends.to.some some_first some_last first_gap last_gap ends.order l) j)
-      (λ l. above half (side_of v k b 0 h x) w w.from first sb
+      (λ l. above half (border_of v k b 0 h x) w w.from first sb
       (first_least v k b h x w first last m n o sb em en ends.from.some ends.to.some some_first some_last first_gap last_gap ends.order l) i)
       (cases_lt_ℤ (last.num *ℤ pos first.den) (first.num *ℤ pos last.den))
 
-  over_last : StaysOver half (side_of v k b 0 h x) w → pos (half * (w.to.den * w.to.den * b)) <ℤ gap_number (side_of v k b 0 h x) w.to.den n
-  over_last over = at_time half (side_of v k b 0 h x) w w.to.den n ends.to.some sb (rw en at ends.order, rw en (omega (arith, ints))) over
+  over_last : StaysOver half (border_of v k b 0 h x) w → pos (half * (w.to.den * w.to.den * b)) <ℤ gap_number (border_of v k b 0 h x) w.to.den n
+  over_last over = at_time half (border_of v k b 0 h x) w w.to.den n ends.to.some sb (rw en at ends.order, rw en (omega (arith, ints))) over
 
 -- the test at an end, in the numbers of its fraction
 test_at : (half b g : ℕ) (v k h x : ℤ) (f : Fraction) (d m : ℕ) (r : Bool) → f.den ≡ d → g ≡ 0 →
-    r ≡ int_lt (pos (half * (d * d * b))) (gap_number (side_of v k b g h x) d m) → r ≡ int_lt (pos (half * (f.den * f.den * b))) (gap_number (side_of v k b 0 h x) f.den m)
+    r ≡ int_lt (pos (half * (d * d * b))) (gap_number (border_of v k b g h x) d m) → r ≡ int_lt (pos (half * (f.den * f.den * b))) (gap_number (border_of v k b 0 h x) f.den m)
 test_at half b g v k h x f d m r ed eg e =
-    let one : r ≡ int_lt (pos (half * (f.den * f.den * b))) (gap_number (side_of v k b g h x) f.den m) = rw ed e in
+    let one : r ≡ int_lt (pos (half * (f.den * f.den * b))) (gap_number (border_of v k b g h x) f.den m) = rw ed e in
     rw eg at one
 
 pub not_both : (r : Bool) → r ≡ false → IsTrue r → ⊥
@@ -115,8 +115,8 @@ module _ (half : ℕ) (v k : ℤ) (b g : ℕ) (h x : ℤ) (w : Times) (d m : ℕ
   -- over at the first end, the answer at the last decides
   pub both_decide : (e n : ℕ) (p r : Bool) → k ≤ℤ v → g ≡ 0 → 0 < b → AreEnds w →
       w.from.num ≡ pos m → w.from.den ≡ d → w.to.num ≡ pos n → w.to.den ≡ e →
-      p ≡ int_lt (pos (half * (d * d * b))) (gap_number (side_of v k b g h x) d m) → r ≡ int_lt (pos (half * (e * e * b))) (gap_number (side_of v k b g h x) e n) →
-      p ≡ true → IsTrue r ↔ StaysOver half (side_of v k b g h x) w
+      p ≡ int_lt (pos (half * (d * d * b))) (gap_number (border_of v k b g h x) d m) → r ≡ int_lt (pos (half * (e * e * b))) (gap_number (border_of v k b g h x) e n) →
+      p ≡ true → IsTrue r ↔ StaysOver half (border_of v k b g h x) w
   both_decide e n p r o eg sb ends em ed en ee ep er t =
       let first_test = test_at half b g v k h x w.from d m p ed eg ep in
       let last_test = test_at half b g v k h x w.to e n r ee eg er in
@@ -127,7 +127,7 @@ module _ (half : ℕ) (v k : ℤ) (b g : ℕ) (h x : ℤ) (w : Times) (d m : ℕ
 
   -- not over at the first end
   pub first_decides : (p : Bool) → k ≤ℤ v → g ≡ 0 → 0 < b → AreEnds w → w.from.num ≡ pos m → w.from.den ≡ d →
-      p ≡ int_lt (pos (half * (d * d * b))) (gap_number (side_of v k b g h x) d m) → p ≡ false → IsTrue p ↔ StaysOver half (side_of v k b g h x) w
+      p ≡ int_lt (pos (half * (d * d * b))) (gap_number (border_of v k b g h x) d m) → p ≡ false → IsTrue p ↔ StaysOver half (border_of v k b g h x) w
   first_decides p o eg sb ends em ed ep f =
       let first_test = test_at half b g v k h x w.from d m p ed eg ep in
       rw eg (
@@ -137,10 +137,10 @@ module _ (half : ℕ) (v k : ℤ) (b g : ℕ) (h x : ℤ) (w : Times) (d m : ℕ
 
 -- ---- boxes
 
-clear_above : (half : ℕ) (a : Demand) (area : Area) (w : Times) → StaysOver half (low_side_of a area) w ↔ IsClearAbove half a area w
+clear_above : (half : ℕ) (a : Demand) (area : Area) (w : Times) → StaysOver half (low_border_of a area) w ↔ IsClearAbove half a area w
 clear_above half a area w = (
-  λ o q t p i. rw (least_gap-side a area q p t, low_pull-side a area q p) (o q t p i),
-  λ o q t p i. rw (least_gap-side a area q p t, low_pull-side a area q p) at (o q t p i),
+  λ o q t p i. rw (least_gap-border a area q p t, low_pull-border a area q p) (o q t p i),
+  λ o q t p i. rw (least_gap-border a area q p t, low_pull-border a area q p) at (o q t p i),
 )
 
 under : (a b : ℤ) → a <ℤ b → neg_ℤ b <ℤ neg_ℤ a
@@ -149,21 +149,21 @@ under a b h = omega (arith, ints)
 over_again : (a b : ℤ) → neg_ℤ b <ℤ neg_ℤ a → a <ℤ b
 over_again a b h = omega (arith, ints)
 
-clear_below : (half : ℕ) (a : Demand) (area : Area) (w : Times) → StaysOver half (high_side_of a area) w ↔ IsClearBelow half a area w
+clear_below : (half : ℕ) (a : Demand) (area : Area) (w : Times) → StaysOver half (high_border_of a area) w ↔ IsClearBelow half a area w
 clear_below half a area w = (
-  λ o q t p i. rw (greatest_gap-side a area q p t, high_pull-side a area q p, mul_neg_ℤ (pos ((high_side_of a area).pull * q)) (pos (half * (q * q * q)))) (under _ _ (o q t p i)),
-  λ o q t p i. over_again _ _ (rw (greatest_gap-side a area q p t, high_pull-side a area q p, mul_neg_ℤ (pos ((high_side_of a area).pull * q)) (pos (half * (q * q * q)))) at (o q t p i)),
+  λ o q t p i. rw (greatest_gap-border a area q p t, high_pull-border a area q p, mul_neg_ℤ (pos ((high_border_of a area).pull * q)) (pos (half * (q * q * q)))) (under _ _ (o q t p i)),
+  λ o q t p i. over_again _ _ (rw (greatest_gap-border a area q p t, high_pull-border a area q p, mul_neg_ℤ (pos ((high_border_of a area).pull * q)) (pos (half * (q * q * q)))) at (o q t p i)),
 )
 
--- what is answered of a side of the area
-pub above_by : (half : ℕ) (a : Demand) (area : Area) (w : Times) (s : Side) (r : Bool) → s ≡ low_side_of a area → IsTrue r ↔ StaysOver half s w → IsTrue r ↔ IsClearAbove half a area w
+-- what is answered of a border of the area
+pub above_by : (half : ℕ) (a : Demand) (area : Area) (w : Times) (s : Border) (r : Bool) → s ≡ low_border_of a area → IsTrue r ↔ StaysOver half s w → IsTrue r ↔ IsClearAbove half a area w
 above_by half a area w s r e k =
-    let stays : IsTrue r ↔ StaysOver half (low_side_of a area) w = subst (λ (x : Side). IsTrue r ↔ StaysOver half x w) e k in
+    let stays : IsTrue r ↔ StaysOver half (low_border_of a area) w = subst (λ (x : Border). IsTrue r ↔ StaysOver half x w) e k in
     (λ t. (clear_above half a area w).0 (stays.0 t), λ c. stays.1 ((clear_above half a area w).1 c))
 
-pub below_by : (half : ℕ) (a : Demand) (area : Area) (w : Times) (s : Side) (r : Bool) → s ≡ high_side_of a area → IsTrue r ↔ StaysOver half s w → IsTrue r ↔ IsClearBelow half a area w
+pub below_by : (half : ℕ) (a : Demand) (area : Area) (w : Times) (s : Border) (r : Bool) → s ≡ high_border_of a area → IsTrue r ↔ StaysOver half s w → IsTrue r ↔ IsClearBelow half a area w
 below_by half a area w s r e k =
-    let stays : IsTrue r ↔ StaysOver half (high_side_of a area) w = subst (λ (x : Side). IsTrue r ↔ StaysOver half x w) e k in
+    let stays : IsTrue r ↔ StaysOver half (high_border_of a area) w = subst (λ (x : Border). IsTrue r ↔ StaysOver half x w) e k in
     (λ t. (clear_below half a area w).0 (stays.0 t), λ c. stays.1 ((clear_below half a area w).1 c))
 
 -- what the second of two answers says where the first is no

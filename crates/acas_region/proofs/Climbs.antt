@@ -47,13 +47,13 @@ rate_test' q vn k v p s e =
     (ring (pos v.den ∷ k ∷ pos q ∷ []) (at 0 ⊗ (at 1 ⊗ (at 2 ⊗ at 2))) ((at 2 ⊗ at 2) ⊗ (at 1 ⊗ at 0)) refl)
     (ring (pos v.den ∷ vn ∷ []) (at 0 ⊗ at 1) (at 1 ⊗ at 0) refl ∙ e ∙ ring (v.num ∷ pos q ∷ []) (at 0 ⊗ (at 1 ⊗ at 1)) ((at 1 ⊗ at 1) ⊗ at 0) refl)
 
--- the pull and the hold of a side, in numbers over q
+-- the pull and the hold of a border, in numbers over q
 sided : (t : Bool) (b : ℕ) (c : ℕ) (d : ℕ) → Type 0
 sided t b c d = cond t b c ≡ d
 
 module _ (a : Demand) (v t y : Fraction) (s : 0 < v.den) where
-  low_side : (b : Bool) → int_lt v.num (a.lo *ℤ pos v.den) ≡ b → IsHeld v (whole_of a.lo) (whole_of (pos (cond b a.pull a.limit))) (whole_of (pos (cond b a.delay 0))) t y → IsLowestClimb a v t y
-  low_side b e h = record { over = λ q vn tn p iv it. at_q q vn tn p iv it }
+  low_border : (b : Bool) → int_lt v.num (a.lo *ℤ pos v.den) ≡ b → IsHeld v (whole_of a.lo) (whole_of (pos (cond b a.pull a.limit))) (whole_of (pos (cond b a.delay 0))) t y → IsLowestClimb a v t y
+  low_border b e h = record { over = λ q vn tn p iv it. at_q q vn tn p iv it }
     where
       scaled_pull : (b : Bool) (q : ℕ) → cond b a.pull a.limit * q ≡ cond b (a.pull * q) (a.limit * q)
       scaled_pull true q = refl
@@ -70,8 +70,8 @@ module _ (a : Demand) (v t y : Fraction) (s : 0 < v.den) where
           let one = h.over q vn (a.lo *ℤ pos (q * q)) (cond b a.pull a.limit * q) (cond b a.delay 0 * q) tn p iv (whole_over (q * q) a.lo) (whole_over q (pos (cond b a.pull a.limit))) (whole_over q (pos (cond b a.delay 0))) it in
           rw test (rw (scaled_pull b q, scaled_hold b q) at one)
 
-  high_side : (b : Bool) → int_lt (a.hi *ℤ pos v.den) v.num ≡ b → IsHeld v (whole_of a.hi) (whole_of (pos (cond b a.pull a.limit))) (whole_of (pos (cond b a.delay 0))) t y → IsHighestClimb a v t y
-  high_side b e h = record { over = λ q vn tn p iv it. at_q q vn tn p iv it }
+  high_border : (b : Bool) → int_lt (a.hi *ℤ pos v.den) v.num ≡ b → IsHeld v (whole_of a.hi) (whole_of (pos (cond b a.pull a.limit))) (whole_of (pos (cond b a.delay 0))) t y → IsHighestClimb a v t y
+  high_border b e h = record { over = λ q vn tn p iv it. at_q q vn tn p iv it }
     where
       scaled_pull : (b : Bool) (q : ℕ) → cond b a.pull a.limit * q ≡ cond b (a.pull * q) (a.limit * q)
       scaled_pull true q = refl
@@ -89,16 +89,16 @@ module _ (a : Demand) (v t y : Fraction) (s : 0 < v.den) where
           rw test (rw (scaled_pull b q, scaled_hold b q) at one)
 
   pub low_under : int_lt v.num (a.lo *ℤ pos v.den) ≡ true → IsHeld v (whole_of a.lo) (whole_of (pos a.pull)) (whole_of (pos a.delay)) t y → IsLowestClimb a v t y
-  low_under e h = low_side true e h
+  low_under e h = low_border true e h
 
   pub low_from : int_lt v.num (a.lo *ℤ pos v.den) ≡ false → IsHeld v (whole_of a.lo) (whole_of (pos a.limit)) (whole_of (pos 0)) t y → IsLowestClimb a v t y
-  low_from e h = low_side false e h
+  low_from e h = low_border false e h
 
   pub high_over : int_lt (a.hi *ℤ pos v.den) v.num ≡ true → IsHeld v (whole_of a.hi) (whole_of (pos a.pull)) (whole_of (pos a.delay)) t y → IsHighestClimb a v t y
-  high_over e h = high_side true e h
+  high_over e h = high_border true e h
 
   pub high_from : int_lt (a.hi *ℤ pos v.den) v.num ≡ false → IsHeld v (whole_of a.hi) (whole_of (pos a.limit)) (whole_of (pos 0)) t y → IsHighestClimb a v t y
-  high_from e h = high_side false e h
+  high_from e h = high_border false e h
 
 pub whole_limits : (v t : Fraction) (k : ℤ) (b g : ℕ) → IsStart v t → unsigned_abs k ≤ unsigned_abs GREATEST_RATE → 0 < b → b ≤ GREATEST_LIMIT → g ≤ GREATEST_DELAY → IsHeldCurve v (whole_of k) (whole_of (pos b)) (whole_of (pos g)) t
 whole_limits v t k b g s hk sb hb hg = record {

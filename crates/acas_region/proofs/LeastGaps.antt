@@ -1,4 +1,4 @@
--- The least gap of a side, from the numbers of the search.
+-- The least gap of a border, from the numbers of the search.
 use Rattle.std.proofs.Common.{◌≡◌, ℕ, ◌*◌, ◌<◌, refl, sym, subst, ap, ap₂, ◌∙◌, arith, true, false, ℤ, pos, neg_ℤ, unsigned_abs, ◌+ℤ◌, ◌*ℤ◌, ◌<ℤ◌, ◌≤ℤ◌, int_le}
 use Rattle.std.proofs.lemmas.Int.{ints, unsigned_abs-mul}
 use lib.IntN.{*ℤ_comm}
@@ -7,7 +7,7 @@ use Rattle.acas_frac.proofs.Lowest.{same_lowest, ReducesWithinBounds-over}
 use Rattle.acas_flight.specs.Response.{Demand}
 use Rattle.acas_flight.specs.Window.{Times}
 use Rattle.acas_flight.specs.Clear.{Area}
-use Rattle.acas_flight.specs.Side.{high_side_of, side_of, IsNearestTime, IsGapAt, IsLeastGap}
+use Rattle.acas_flight.specs.Border.{high_border_of, border_of, IsNearestTime, IsGapAt, IsLeastGap}
 use Rattle.acas_flight.specs.Extremes.{IsHighExtreme}
 use Rattle.acas_flight.proofs.Orders.{by_above}
 use Rattle.acas_flight.proofs.Scales.{cancel_left}
@@ -26,7 +26,7 @@ natural z h f = by_above (pos 0) z h (λ n e. f n (e ∙ plain n))
     plain n = omega (arith, ints)
 
 pub first_of_ends : (v k : ℤ) (b g : ℕ) (h w : ℤ) (win : Times) (y z : Fraction) → k ≤ℤ v → g ≡ 0 → 0 < b → AreEnds win → IsFrac y → IsFrac z →
-    IsGapAt (side_of v k b g h w) win.from y → IsGapAt (side_of v k b g h w) win.to z → int_le (y.num *ℤ pos z.den) (z.num *ℤ pos y.den) ≡ true → IsLeastGap (side_of v k b g h w) win win.from y
+    IsGapAt (border_of v k b g h w) win.from y → IsGapAt (border_of v k b g h w) win.to z → int_le (y.num *ℤ pos z.den) (z.num *ℤ pos y.den) ≡ true → IsLeastGap (border_of v k b g h w) win win.from y
 first_of_ends v k b g h w win y z o eg sb e fy fz vy vz t =
     rw eg (natural win.from.num e.from.least (λ m em. natural win.to.num e.to.least (λ n en.
     first_least v k b h w win y z m n o sb em en e.from.some e.to.some fy.some fz.some (rw eg at vy) (rw eg at vz) e.order (test_true (y.num *ℤ pos z.den) (z.num *ℤ pos y.den) t))))
@@ -35,14 +35,14 @@ strictly : (a b : ℤ) → int_le a b ≡ false → b <ℤ a
 strictly a b e = omega (arith, ints)
 
 pub last_of_ends : (v k : ℤ) (b g : ℕ) (h w : ℤ) (win : Times) (y z : Fraction) → k ≤ℤ v → g ≡ 0 → 0 < b → AreEnds win → IsFrac y → IsFrac z →
-    IsGapAt (side_of v k b g h w) win.from y → IsGapAt (side_of v k b g h w) win.to z → int_le (y.num *ℤ pos z.den) (z.num *ℤ pos y.den) ≡ false → IsLeastGap (side_of v k b g h w) win win.to z
+    IsGapAt (border_of v k b g h w) win.from y → IsGapAt (border_of v k b g h w) win.to z → int_le (y.num *ℤ pos z.den) (z.num *ℤ pos y.den) ≡ false → IsLeastGap (border_of v k b g h w) win win.to z
 last_of_ends v k b g h w win y z o eg sb e fy fz vy vz t =
     rw eg (natural win.from.num e.from.least (λ m em. natural win.to.num e.to.least (λ n en.
     last_least v k b h w win y z m n o sb em en e.from.some e.to.some fy.some fz.some (rw eg at vy) (rw eg at vz) e.order (strictly (y.num *ℤ pos z.den) (z.num *ℤ pos y.den) t))))
 
 -- a rising curve, at its nearest time
 pub least_of_nearest : (v k : ℤ) (b g : ℕ) (h x : ℤ) (w : Times) (time y : Fraction) (n : ℕ) → v <ℤ k → 0 < b → AreEnds w → time.num ≡ pos n → 0 < time.den → 0 < y.den →
-    IsGapAt (side_of v k b g h x) time y → IsNearestTime (side_of v k b g h x) w time → IsLeastGap (side_of v k b g h x) w time y
+    IsGapAt (border_of v k b g h x) time y → IsNearestTime (border_of v k b g h x) w time → IsLeastGap (border_of v k b g h x) w time y
 least_of_nearest v k b g h x w time y n o sb e en sd sy vy near =
     best_least v k b g h x w time y n (let le : v ≤ℤ k = omega (arith, ints) in le) sb en sd e.from.some e.to.some sy vy near
 
@@ -62,5 +62,5 @@ opposite_reduces y f = let size : unsigned_abs (neg_ℤ y.num) ≡ unsigned_abs 
 abbrev the_fraction : ℤ → ℕ → Fraction
 the_fraction n d = record { num = n; den = d }
 
-pub high_of : (a : Demand) (box : Area) (w : Times) (time y r : Fraction) → IsLeastGap (high_side_of a box) w time y → (r.num ≡ neg_ℤ y.num) × (r.den ≡ y.den) → IsHighExtreme a box w time r
+pub high_of : (a : Demand) (box : Area) (w : Times) (time y r : Fraction) → IsLeastGap (high_border_of a box) w time y → (r.num ≡ neg_ℤ y.num) × (r.den ≡ y.den) → IsHighExtreme a box w time r
 high_of a box w time y r l e = subst (λ (f : Fraction). IsHighExtreme a box w time f) (ap₂ (λ (n : ℤ) (d : ℕ). the_fraction n d) (sym e.0) (sym e.1)) (high_extreme_of a box w time y l)

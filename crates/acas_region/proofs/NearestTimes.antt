@@ -6,7 +6,7 @@ use native.Mathlib.Nat.{le_of_mul-le-mul_left}
 use Rattle.acas_units.specs.declared.limits.TheConstants.{WINDOW_SECONDS}
 use Rattle.acas_frac.specs.Fraction.{Fraction}
 use Rattle.acas_flight.specs.Window.{Times}
-use Rattle.acas_flight.specs.Side.{Side, turn, IsLate, IsSoon, IsOnTheWay, IsNearestTime}
+use Rattle.acas_flight.specs.Border.{Border, turn, IsLate, IsSoon, IsOnTheWay, IsNearestTime}
 use Rattle.acas_flight.proofs.IntRing.{at, ◌⊗◌, ring}
 use Rattle.acas_flight.proofs.Orders.{mul_le_left, le_from_mul_left}
 use Rattle.acas_region.specs.Limits.{AreEnds}
@@ -21,7 +21,7 @@ fraction n d = record { num = n; den = d }
 pub of_parts : (P : Fraction → Type 0) (f : Fraction) (n d : ℕ) → f.num ≡ pos n → f.den ≡ d → P f → P (record { num = pos n; den = d })
 of_parts P f n d en ed h = subst (λ (m : ℤ). P (fraction m d)) en (subst (λ (e : ℕ). P (fraction f.num e)) ed h)
 
-module _ (s : Side) (w : Times) (e : AreEnds w) where
+module _ (s : Border) (w : Times) (e : AreEnds w) where
   pub at_first : s.rate ≤ℤ s.start → IsNearestTime s w w.from
   at_first h = record { after = same (w.from.num *ℤ pos w.from.den); before = e.order; late = inl (inl h); soon = inr (same (w.from.num *ℤ pos w.from.den)) }
 
@@ -67,7 +67,7 @@ module _ (f g : Fraction) (p : 0 < g.den) (e : f.num *ℤ pos g.den ≡ g.num *�
   below : (g.num *ℤ c) ≤ℤ (a *ℤ pos g.den) → (f.num *ℤ c) ≤ℤ (a *ℤ pos f.den)
   below h = le_from_mul_left g.den (f.num *ℤ c) (a *ℤ pos f.den) p (rw (left, right) (mul_le_left f.den (g.num *ℤ c) (a *ℤ pos g.den) h))
 
-pub nearest_same : (s : Side) (w : Times) (f g : Fraction) → 0 < g.den → f.num *ℤ pos g.den ≡ g.num *ℤ pos f.den → IsNearestTime s w g → IsNearestTime s w f
+pub nearest_same : (s : Border) (w : Times) (f g : Fraction) → 0 < g.den → f.num *ℤ pos g.den ≡ g.num *ℤ pos f.den → IsNearestTime s w g → IsNearestTime s w f
 nearest_same s w f g p e n = record {
   after = above f g p e w.from.num (pos w.from.den) n.after;
   before = below f g p e w.to.num (pos w.to.den) n.before;

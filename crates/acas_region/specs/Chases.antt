@@ -1,9 +1,9 @@
--- What an advisory asks and a curve's side, within the limits, and when the curve stays over the intruder.
+-- What an advisory asks and a border of an area, within the limits, and when the curve stays over the intruder.
 use Rattle.std.specs.Prelude.{◌≡◌, ℕ, ◌*◌, ◌<◌, ◌≤◌, ℤ, pos, ◌*ℤ◌, ◌<ℤ◌, ◌≤ℤ◌, unsigned_abs}
 use Rattle.acas_units.specs.declared.limits.TheConstants.{GREATEST_RATE, GREATEST_LIMIT, GREATEST_DELAY}
 use Rattle.acas_flight.specs.Response.{Demand}
 use Rattle.acas_flight.specs.Window.{Times, IsDuring}
-use Rattle.acas_flight.specs.Side.{Side, side_gap}
+use Rattle.acas_flight.specs.Border.{Border, border_gap}
 use Rattle.acas_region.specs.Sizes.{altitude_size}
 
 abbrev pub demand_from : ℤ → ℤ → ℕ → ℕ → ℕ → Demand
@@ -19,8 +19,8 @@ pub record IsAsked (a : Demand) : Type 0 where
   pub limit : a.limit ≤ GREATEST_LIMIT
   pub delay : a.delay ≤ GREATEST_DELAY
 
--- the numbers of a side; a curve that does not rise begins at once
-pub record IsChase (s : Side) : Type 0 where
+-- the numbers of a border; a curve that does not rise begins at once
+pub record IsChase (s : Border) : Type 0 where
   pub start : unsigned_abs s.start ≤ unsigned_abs GREATEST_RATE
   pub aim : unsigned_abs s.aim ≤ unsigned_abs GREATEST_RATE
   pub some : 0 < s.pull
@@ -31,5 +31,5 @@ pub record IsChase (s : Side) : Type 0 where
   pub at_once : s.aim ≤ℤ s.start → s.hold ≡ 0
 
 -- the curve is more than the half height over the intruder at each of the times
-abbrev pub StaysOver : ℕ → Side → Times → Type 0
-StaysOver half s w = (q t : ℕ) → 0 < q → IsDuring q w t → (pos (s.pull * q) *ℤ pos (half * (q * q * q))) <ℤ side_gap s q t
+abbrev pub StaysOver : ℕ → Border → Times → Type 0
+StaysOver half s w = (q t : ℕ) → 0 < q → IsDuring q w t → (pos (s.pull * q) *ℤ pos (half * (q * q * q))) <ℤ border_gap s q t

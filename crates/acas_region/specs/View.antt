@@ -4,7 +4,7 @@ use Rattle.acas_frac.specs.Fraction.{Fraction}
 use Rattle.acas_flight.specs.Response.{Demand}
 use Rattle.acas_flight.specs.Window.{Times}
 use Rattle.acas_flight.specs.Clear.{Area}
-use Rattle.acas_flight.specs.Side.{Side, side_of}
+use Rattle.acas_flight.specs.Border.{Border, border_of}
 use Rattle.acas_region.specs.Limits.{area_from, times_from}
 use Rattle.acas_region.specs.Chases.{demand_from}
 use Rattle.acas_region.specs.declared.parts.Window.{Window}
@@ -22,8 +22,8 @@ area_of b = area_from b.h b.v0 b.v1
 abbrev pub demand_in : Asked → Demand
 demand_in a = demand_from a.lo a.hi a.pull a.limit a.delay
 
-abbrev pub side_in : Chase → Side
-side_in c = side_of c.start c.aim c.pull c.hold c.height c.rate
+abbrev pub border_in : Chase → Border
+border_in c = border_of c.start c.aim c.pull c.hold c.height c.rate
 
 abbrev pub time_at : Moment → Fraction
 time_at t = record { num = pos t.num; den = t.den }

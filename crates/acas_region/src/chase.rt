@@ -2,10 +2,10 @@
 ghost use Rattle.std.specs.Prelude.{◌≡◌, ℕ, ◌*◌, ◌^◌, ◌≤◌, pos, ◌+ℤ◌, ◌-ℤ◌, ◌*ℤ◌, unsigned_abs};
 ghost use Rattle.acas_frac.specs.Fraction.{Fraction};
 ghost use Rattle.acas_flight.specs.Curves.{held};
-ghost use Rattle.acas_flight.specs.Side.{gap_number};
+ghost use Rattle.acas_flight.specs.Border.{gap_number};
 ghost use Rattle.acas_region.specs.Limits.{IsEnd};
 ghost use Rattle.acas_region.specs.Sizes.{altitude_size};
-ghost use Rattle.acas_region.specs.View.{side_in};
+ghost use Rattle.acas_region.specs.View.{border_in};
 
 use crate::curve::numerator;
 use crate::parts::{Chase, Moment};
@@ -85,7 +85,7 @@ fn less(climb: i128, altitude: i64) -> i128
 
 /// The curve's climb less the intruder's altitude at a time, over the square of the time's denominator and the pull.
 pub(crate) fn gap_number(chase: &Chase, at: &Moment) -> i128
-    ensures value { result ≡ gap_number (side_in chase.now) at.now.den at.now.num }
+    ensures value { result ≡ gap_number (border_in chase.now) at.now.den at.now.num }
     ensures size { unsigned_abs result ≤ 2 * 10 ^ 20 }
 {
     let climb = climb_of(chase, at.num, at.den);

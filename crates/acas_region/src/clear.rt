@@ -2,23 +2,23 @@
 ghost use Rattle.std.specs.Prelude.{◌≡◌, ◌*◌, ◌<◌, ◌≤◌, ◌↔◌, pos, ◌<ℤ◌, ◌≤ℤ◌, IsTrue, int_lt};
 ghost use Rattle.acas_flight.specs.Response.{demand_of};
 ghost use Rattle.acas_flight.specs.Clear.{IsClear, IsClearAbove, IsClearBelow, IsEndangeredDuring};
-ghost use Rattle.acas_flight.specs.Side.{gap_number};
+ghost use Rattle.acas_flight.specs.Border.{gap_number};
 ghost use Rattle.acas_region.specs.Chases.{StaysOver};
-ghost use Rattle.acas_region.specs.View.{area_of, demand_in, side_in, times_of};
+ghost use Rattle.acas_region.specs.View.{area_of, demand_in, border_in, times_of};
 
+use crate::borders::{high_chase, low_chase};
 use crate::chase::{gap_number, moment_of, scale};
 use crate::demand::asked_by;
 use crate::nearest::nearest;
 use crate::numbers::natural;
 use crate::parts::{Asked, BoxState, Chase, Moment, Window};
-use crate::sides::{high_chase, low_chase};
 use acas_base::Model;
 use acas_units::{GREATEST_HALF_HEIGHT, TICKS_PER_FOOT};
 
 // Whether the curve is more than the half height over the intruder at a time.
 fn is_over(chase: &Chase, at: &Moment, half: u64) -> bool
     requires { half ≤ TICKS_PER_FOOT * GREATEST_HALF_HEIGHT }
-    ensures { result ≡ int_lt (pos (half * (at.now.den * at.now.den * chase.now.pull))) (gap_number (side_in chase.now) at.now.den at.now.num) }
+    ensures { result ≡ int_lt (pos (half * (at.now.den * at.now.den * chase.now.pull))) (gap_number (border_in chase.now) at.now.den at.now.num) }
 {
     i128::from(half * scale(chase, at)) < gap_number(chase, at)
 }
@@ -27,7 +27,7 @@ fn is_over(chase: &Chase, at: &Moment, half: u64) -> bool
 fn is_over_nearest(chase: &Chase, window: &Window, half: u64) -> bool
     requires rising { chase.now.start <ℤ chase.now.aim }
     requires half { half ≤ TICKS_PER_FOOT * GREATEST_HALF_HEIGHT }
-    ensures { IsTrue result ↔ StaysOver half (side_in chase.now) (times_of window.now) }
+    ensures { IsTrue result ↔ StaysOver half (border_in chase.now) (times_of window.now) }
 {
     is_over(chase, &nearest(chase, window), half)
 }
@@ -36,7 +36,7 @@ fn is_over_nearest(chase: &Chase, window: &Window, half: u64) -> bool
 fn is_over_ends(chase: &Chase, window: &Window, half: u64) -> bool
     requires falling { chase.now.aim ≤ℤ chase.now.start }
     requires half { half ≤ TICKS_PER_FOOT * GREATEST_HALF_HEIGHT }
-    ensures { IsTrue result ↔ StaysOver half (side_in chase.now) (times_of window.now) }
+    ensures { IsTrue result ↔ StaysOver half (border_in chase.now) (times_of window.now) }
 {
     is_over(chase, &moment_of(&window.from), half) && is_over(chase, &moment_of(&window.to), half)
 }
@@ -44,7 +44,7 @@ fn is_over_ends(chase: &Chase, window: &Window, half: u64) -> bool
 // Whether the curve stays more than the half height over the intruder.
 fn stays_over(chase: &Chase, window: &Window, half: u64) -> bool
     requires { half ≤ TICKS_PER_FOOT * GREATEST_HALF_HEIGHT }
-    ensures { IsTrue result ↔ StaysOver half (side_in chase.now) (times_of window.now) }
+    ensures { IsTrue result ↔ StaysOver half (border_in chase.now) (times_of window.now) }
 {
     if chase.start < chase.aim {
         is_over_nearest(chase, window, half)

@@ -6,11 +6,11 @@ ghost use Rattle.acas_flight.specs.Extremes.{IsHighExtreme, IsLowExtreme};
 ghost use Rattle.acas_region.specs.Limits.{IsEnd};
 ghost use Rattle.acas_region.specs.View.{area_of, demand_in, times_of};
 
+use crate::borders::{high_chase, low_chase};
 use crate::demand::asked_by;
 use crate::least::least;
 use crate::numbers::negate;
 use crate::parts::{Asked, BoxState, Extreme, Window};
-use crate::sides::{high_chase, low_chase};
 use acas_base::Model;
 
 // The least gap under what an advisory asks.

@@ -1,9 +1,9 @@
 //! The least gap between a curve and an intruder that flies at a steady rate, as an exact fraction.
 ghost use Rattle.std.specs.Prelude.{◌≡◌, ◌^◌, ◌<◌, ◌≤◌, pos, ◌*◌, ◌*ℤ◌, ◌<ℤ◌, ◌≤ℤ◌, unsigned_abs};
 ghost use Rattle.acas_frac.specs.Fraction.{Fraction, IsFrac};
-ghost use Rattle.acas_flight.specs.Side.{IsGapAt, IsLeastGap};
+ghost use Rattle.acas_flight.specs.Border.{IsGapAt, IsLeastGap};
 ghost use Rattle.acas_region.specs.Limits.{IsEnd};
-ghost use Rattle.acas_region.specs.View.{side_in, times_of};
+ghost use Rattle.acas_region.specs.View.{border_in, times_of};
 
 use crate::chase::{gap_number, moment_of, scale};
 use crate::nearest::nearest;
@@ -28,7 +28,7 @@ fn quotient(num: i128, den: u64) -> Frac
 // The gap at a time.
 fn gap(chase: &Chase, time: &Frac) -> Frac
     requires { IsEnd time.now }
-    ensures value { IsGapAt (side_in chase.now) time.now result }
+    ensures value { IsGapAt (border_in chase.now) time.now result }
     ensures lowest { IsFrac result }
 {
     let at = moment_of(time);
@@ -38,7 +38,7 @@ fn gap(chase: &Chase, time: &Frac) -> Frac
 // The least gap of a curve that does not rise: at an end.
 fn at_ends(chase: &Chase, window: &Window) -> Extreme
     requires { chase.now.aim ≤ℤ chase.now.start }
-    ensures least { IsLeastGap (side_in chase.now) (times_of window.now) result.time result.value }
+    ensures least { IsLeastGap (border_in chase.now) (times_of window.now) result.time result.value }
     ensures end { IsEnd result.time }
     ensures lowest { IsFrac result.value }
 {
@@ -60,7 +60,7 @@ fn at_ends(chase: &Chase, window: &Window) -> Extreme
 // The least gap of a rising curve.
 fn at_nearest(chase: &Chase, window: &Window) -> Extreme
     requires { chase.now.start <ℤ chase.now.aim }
-    ensures least { IsLeastGap (side_in chase.now) (times_of window.now) result.time result.value }
+    ensures least { IsLeastGap (border_in chase.now) (times_of window.now) result.time result.value }
     ensures end { IsEnd result.time }
     ensures lowest { IsFrac result.value }
 {
@@ -74,7 +74,7 @@ fn at_nearest(chase: &Chase, window: &Window) -> Extreme
 
 /// The least gap in the window, at its earliest time.
 pub(crate) fn least(chase: &Chase, window: &Window) -> Extreme
-    ensures least { IsLeastGap (side_in chase.now) (times_of window.now) result.time result.value }
+    ensures least { IsLeastGap (border_in chase.now) (times_of window.now) result.time result.value }
     ensures end { IsEnd result.time }
     ensures lowest { IsFrac result.value }
 {

@@ -2,6 +2,7 @@
 //! all flights that meet the advisory, and the least and greatest gaps to the intruder.
 #![tactic(auto)]
 
+mod borders;
 mod chase;
 mod clear;
 mod curve;
@@ -12,7 +13,6 @@ mod least;
 mod nearest;
 mod numbers;
 mod parts;
-mod sides;
 mod window;
 
 pub use clear::is_clear;

@@ -1,7 +1,7 @@
 //! The time at which a rising curve is nearest the intruder, found without a division.
 ghost use Rattle.std.specs.Prelude.{◌≡◌, ◌+◌, ◌*◌, ◌≤◌, pos, ◌<ℤ◌, unsigned_abs};
-ghost use Rattle.acas_flight.specs.Side.{IsNearestTime, IsOnTheWay, turn};
-ghost use Rattle.acas_region.specs.View.{side_in, time_at, times_of};
+ghost use Rattle.acas_flight.specs.Border.{IsNearestTime, IsOnTheWay, turn};
+ghost use Rattle.acas_region.specs.View.{border_in, time_at, times_of};
 
 use crate::chase::moment_of;
 use crate::parts::{Chase, Moment, Window};
@@ -9,8 +9,8 @@ use acas_units::{GREATEST_DELAY, GREATEST_LIMIT, GREATEST_RATE};
 
 // The pull times the time at which the curve is as fast as the intruder.
 fn turn_of(chase: &Chase) -> u64
-    requires { IsOnTheWay (side_in chase.now) }
-    ensures value { pos result ≡ turn (side_in chase.now) }
+    requires { IsOnTheWay (border_in chase.now) }
+    ensures value { pos result ≡ turn (border_in chase.now) }
     ensures size { result ≤ GREATEST_DELAY * GREATEST_LIMIT + 2 * unsigned_abs GREATEST_RATE }
 {
     chase.hold * chase.pull + (chase.rate - chase.start) as u64
@@ -19,8 +19,8 @@ fn turn_of(chase: &Chase) -> u64
 // Where the intruder's rate is one of those on the way: when the curve has it, or the end of the window next to that.
 #[tactic(auto, using(crate::proofs::NearestTimes::before_end))]
 fn at_turn(chase: &Chase, window: &Window) -> Moment
-    requires { IsOnTheWay (side_in chase.now) }
-    ensures { IsNearestTime (side_in chase.now) (times_of window.now) (time_at result) }
+    requires { IsOnTheWay (border_in chase.now) }
+    ensures { IsNearestTime (border_in chase.now) (times_of window.now) (time_at result) }
 {
     let from = moment_of(&window.from);
     let to = moment_of(&window.to);
@@ -40,7 +40,7 @@ fn at_turn(chase: &Chase, window: &Window) -> Moment
 /// The time in the window at which a rising curve is nearest the intruder, as the number of an end or over the pull.
 pub(crate) fn nearest(chase: &Chase, window: &Window) -> Moment
     requires { chase.now.start <ℤ chase.now.aim }
-    ensures { IsNearestTime (side_in chase.now) (times_of window.now) (time_at result) }
+    ensures { IsNearestTime (border_in chase.now) (times_of window.now) (time_at result) }
 {
     if chase.rate <= chase.start {
         moment_of(&window.from)

@@ -1,5 +1,5 @@
 //! Windows and boxes, what is found in them, and what the search of it takes.
-ghost use Rattle.acas_flight.specs.Side.{side_of};
+ghost use Rattle.acas_flight.specs.Border.{border_of};
 ghost use Rattle.acas_region.specs.Chases.{IsAsked, IsChase, demand_from};
 ghost use Rattle.acas_region.specs.Limits.{AreEnds, IsArea, area_from, times_from};
 ghost use Rattle.acas_region.specs.Sizes.{IsMoment};
@@ -54,7 +54,7 @@ pub(crate) struct Chase {
     pub hold: u64,
     pub height: i64,
     pub rate: i64,
-    ghost fits: { IsChase (side_of start aim pull hold height rate) },
+    ghost fits: { IsChase (border_of start aim pull hold height rate) },
 }
 
 /// A time of num/den seconds, from 0 to 600, with a denominator from 1 to 5000. It need not be in lowest terms.

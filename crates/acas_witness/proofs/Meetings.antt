@@ -3,7 +3,7 @@ use Rattle.std.proofs.Common.{subst, ◌≡◌, ◌↔◌, IsTrue, ℕ, ◌*◌,
 use Rattle.std.proofs.lemmas.Int.{ints}
 use Rattle.acas_flight.proofs.IntRing.{at, num, ◌⊕◌, ◌⊖◌, ◌⊗◌, ring, mul_neg_ℤ}
 use Rattle.acas_flight.proofs.Orders.{mul_le_left, mul_lt_left, le_from_mul_left, lt_from_mul_left, cases_lt_ℤ}
-use Rattle.acas_flight.proofs.Gaps.{low_pull-side, high_pull-side}
+use Rattle.acas_flight.proofs.Gaps.{low_pull-border, high_pull-border}
 use Rattle.acas_frac.specs.Fraction.{Fraction, Same}
 use Rattle.acas_passes.specs.Value.{is_below, IsWithinHalf}
 use Rattle.acas_passes.proofs.Halvings.{IsWithin-Same}
@@ -40,7 +40,7 @@ not_below half y n d D p e h = le_from_mul_left d (neg_ℤ (pos (half * D))) n p
 -- ---- the low side: an area whose least gap is above the puck is clear
 
 low_pull_some : (a : Demand) (area : Area) (q : ℕ) → 0 < q → CanBeMet a → 0 < low_pull_of q a area
-low_pull_some a area q p f = rw (low_pull-side a area q p) (mul-pos (by (int_lt area.own.least a.lo)) p)
+low_pull_some a area q p f = rw (low_pull-border a area q p) (mul-pos (by (int_lt area.own.least a.lo)) p)
   where
     by : (t : Bool) → 0 < cond t a.pull a.limit
     by true = f.some_pull
@@ -62,7 +62,7 @@ above_low half a area w time y f low h q t p i =
 -- ---- the high side: a area whose greatest gap is below the puck is clear
 
 pull_some : (a : Demand) (area : Area) (q : ℕ) → 0 < q → CanBeMet a → 0 < high_pull_of q a area
-pull_some a area q p f = rw (high_pull-side a area q p) (mul-pos (by (int_lt a.hi area.own.greatest)) p)
+pull_some a area q p f = rw (high_pull-border a area q p) (mul-pos (by (int_lt a.hi area.own.greatest)) p)
   where
     by : (t : Bool) → 0 < cond t a.pull a.limit
     by true = f.some_pull

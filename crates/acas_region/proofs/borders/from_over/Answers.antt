@@ -1,7 +1,7 @@
 use Rattle.std.proofs.Common.{◌≡◌, neg_ℤ, to_z, of_z, arith}
 use Rattle.std.specs.Int.{w64}
 use Rattle.std.proofs.lemmas.Int.{ints}
-use Rattle.acas_region.proofs.sides.from_over.Goals as goal
+use Rattle.acas_region.proofs.borders.from_over.Goals as goal
 
 pub invariant_of-result : goal.invariant_of-result
 invariant_of-result c =

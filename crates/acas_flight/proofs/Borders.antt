@@ -1,4 +1,4 @@
--- The least gap of a side, over every denominator, from the numbers of one.
+-- The least gap of a border, over every denominator, from the numbers of one.
 use Rattle.std.proofs.Common.{◌≡◌, ℕ, ◌-◌, ◌*◌, ◌<◌, ◌≤◌, refl, sym, ap, ap₂, ◌∙◌, arith, [], ◌∷◌, ℤ, pos, ◌-ℤ◌, ◌*ℤ◌, ◌≤ℤ◌, ◌<ℤ◌, mul-pos}
 use Rattle.std.proofs.lemmas.Int.{ints}
 use lib.IntN.{*ℤ_comm}
@@ -8,14 +8,14 @@ use Rattle.acas_flight.proofs.Held.{held-scaled}
 use Rattle.acas_flight.proofs.Tangents.{gap, least_of_later, earlier_is_greater, earlier_than_slower}
 use Rattle.acas_flight.specs.Contact.{vertical_separation}
 use Rattle.acas_flight.specs.Curves.{held}
-use Rattle.acas_flight.specs.Side.{Side, side_of, side_gap, IsGapAt}
+use Rattle.acas_flight.specs.Border.{Border, border_of, border_gap, IsGapAt}
 use Rattle.acas_frac.specs.Fraction.{Fraction}
 
-abbrev curve : Side → ℕ → ℕ → ℤ
+abbrev curve : Border → ℕ → ℕ → ℤ
 curve s q t = held (s.start *ℤ pos (q * q)) (s.aim *ℤ pos (q * q)) (s.pull * q) (s.hold * q) t
 
-pub side_gap-gap : (s : Side) (q t : ℕ) → side_gap s q t ≡ gap (curve s q t) (s.rate *ℤ pos (q * q)) (s.pull * q) t -ℤ (pos (s.pull * q) *ℤ ((s.height *ℤ pos q) *ℤ pos (q * q)))
-side_gap-gap s q t = ring (curve s q t ∷ pos s.pull ∷ pos q ∷ s.height ∷ s.rate ∷ pos t ∷ [])
+pub border_gap-gap : (s : Border) (q t : ℕ) → border_gap s q t ≡ gap (curve s q t) (s.rate *ℤ pos (q * q)) (s.pull * q) t -ℤ (pos (s.pull * q) *ℤ ((s.height *ℤ pos q) *ℤ pos (q * q)))
+border_gap-gap s q t = ring (curve s q t ∷ pos s.pull ∷ pos q ∷ s.height ∷ s.rate ∷ pos t ∷ [])
     (at 0 ⊖ ((at 1 ⊗ at 2) ⊗ ((((at 3 ⊗ at 2) ⊗ (at 2 ⊗ at 2)) ⊕ (((num (pos 2) ⊗ (at 4 ⊗ at 2)) ⊗ at 5) ⊗ at 2)) ⊖ num (pos 0))))
     ((at 0 ⊖ (((num (pos 2) ⊗ (at 4 ⊗ (at 2 ⊗ at 2))) ⊗ at 5) ⊗ (at 1 ⊗ at 2))) ⊖ ((at 1 ⊗ at 2) ⊗ ((at 3 ⊗ at 2) ⊗ (at 2 ⊗ at 2))))
     refl
@@ -28,8 +28,8 @@ lt_by a b x y c e f h = omega (arith, ints)
 
 -- ---- scales
 
-side_gap-scaled : (s : Side) (q t m : ℕ) → side_gap s (q * m) (t * m) ≡ side_gap s q t *ℤ pos ((m * m) * (m * m))
-side_gap-scaled s q t m =
+border_gap-scaled : (s : Border) (q t m : ℕ) → border_gap s (q * m) (t * m) ≡ border_gap s q t *ℤ pos ((m * m) * (m * m))
+border_gap-scaled s q t m =
     ap₂ (λ (a b : ℤ). a -ℤ b)
     (ap₂ (λ (v k : ℤ). held v k (s.pull * (q * m)) (s.hold * (q * m)) (t * m)) (out s.start) (out s.aim)
     ∙ ap₂ (λ (b g : ℕ). held ((s.start *ℤ pos (q * q)) *ℤ pos (m * m)) ((s.aim *ℤ pos (q * q)) *ℤ pos (m * m)) b g (t * m)) (along s.pull) (along s.hold)
@@ -50,8 +50,8 @@ side_gap-scaled s q t m =
     split a b c = ring (a ∷ b ∷ c ∷ []) ((at 0 ⊗ at 2) ⊖ (at 1 ⊗ at 2)) ((at 0 ⊖ at 1) ⊗ at 2) refl
 
 -- what holds of the numbers over q * m holds over q
-module _ (s : Side) (time y : Fraction) (val : IsGapAt s time y) (n : ℕ) (en : time.num ≡ pos n) where
-  at_time : (q e : ℕ) → 0 < q * (time.den * e) → y.num *ℤ pos ((q * (time.den * e)) * (q * (time.den * e)) * (q * (time.den * e)) * (s.pull * (q * (time.den * e)))) ≡ side_gap s (q * (time.den * e)) (n * q * e) *ℤ pos y.den
+module _ (s : Border) (time y : Fraction) (val : IsGapAt s time y) (n : ℕ) (en : time.num ≡ pos n) where
+  at_time : (q e : ℕ) → 0 < q * (time.den * e) → y.num *ℤ pos ((q * (time.den * e)) * (q * (time.den * e)) * (q * (time.den * e)) * (s.pull * (q * (time.den * e)))) ≡ border_gap s (q * (time.den * e)) (n * q * e) *ℤ pos y.den
   at_time q e p = val.over (q * (time.den * e)) (n * q * e) p
       (ring (pos n ∷ pos q ∷ pos e ∷ pos time.den ∷ []) (((at 0 ⊗ at 1) ⊗ at 2) ⊗ at 3) (at 0 ⊗ (at 1 ⊗ (at 3 ⊗ at 2))) refl ∙ ap (λ z. z *ℤ pos (q * (time.den * e))) (sym en))
 
@@ -61,49 +61,49 @@ module _ (s : Side) (time y : Fraction) (val : IsGapAt s time y) (n : ℕ) (en :
       (at 0 ⊗ ((((at 1 ⊗ at 2) ⊗ (at 1 ⊗ at 2)) ⊗ (at 1 ⊗ at 2)) ⊗ (at 3 ⊗ (at 1 ⊗ at 2))))
       refl
 
-  far : (q t m : ℕ) → pos ((m * m) * (m * m)) *ℤ (side_gap s q t *ℤ pos y.den) ≡ pos y.den *ℤ side_gap s (q * m) (t * m)
+  far : (q t m : ℕ) → pos ((m * m) * (m * m)) *ℤ (border_gap s q t *ℤ pos y.den) ≡ pos y.den *ℤ border_gap s (q * m) (t * m)
   far q t m =
-      ring (pos m ∷ side_gap s q t ∷ pos y.den ∷ []) (((at 0 ⊗ at 0) ⊗ (at 0 ⊗ at 0)) ⊗ (at 1 ⊗ at 2)) (at 2 ⊗ (at 1 ⊗ ((at 0 ⊗ at 0) ⊗ (at 0 ⊗ at 0)))) refl
-      ∙ ap (λ z. pos y.den *ℤ z) (sym (side_gap-scaled s q t m))
+      ring (pos m ∷ border_gap s q t ∷ pos y.den ∷ []) (((at 0 ⊗ at 0) ⊗ (at 0 ⊗ at 0)) ⊗ (at 1 ⊗ at 2)) (at 2 ⊗ (at 1 ⊗ ((at 0 ⊗ at 0) ⊗ (at 0 ⊗ at 0)))) refl
+      ∙ ap (λ z. pos y.den *ℤ z) (sym (border_gap-scaled s q t m))
 
-  near : (q e : ℕ) → 0 < q * (time.den * e) → pos (((time.den * e) * (time.den * e)) * ((time.den * e) * (time.den * e))) *ℤ (y.num *ℤ pos (q * q * q * (s.pull * q))) ≡ pos y.den *ℤ side_gap s (q * (time.den * e)) (n * q * e)
-  near q e p = wide q (time.den * e) ∙ at_time q e p ∙ *ℤ_comm (side_gap s (q * (time.den * e)) (n * q * e)) (pos y.den)
+  near : (q e : ℕ) → 0 < q * (time.den * e) → pos (((time.den * e) * (time.den * e)) * ((time.den * e) * (time.den * e))) *ℤ (y.num *ℤ pos (q * q * q * (s.pull * q))) ≡ pos y.den *ℤ border_gap s (q * (time.den * e)) (n * q * e)
+  near q e p = wide q (time.den * e) ∙ at_time q e p ∙ *ℤ_comm (border_gap s (q * (time.den * e)) (n * q * e)) (pos y.den)
 
-  pub lift_le : (q t e : ℕ) → 0 < q → 0 < time.den * e → side_gap s (q * (time.den * e)) (n * q * e) ≤ℤ side_gap s (q * (time.den * e)) (t * (time.den * e)) →
-      (y.num *ℤ pos (q * q * q * (s.pull * q))) ≤ℤ (side_gap s q t *ℤ pos y.den)
+  pub lift_le : (q t e : ℕ) → 0 < q → 0 < time.den * e → border_gap s (q * (time.den * e)) (n * q * e) ≤ℤ border_gap s (q * (time.den * e)) (t * (time.den * e)) →
+      (y.num *ℤ pos (q * q * q * (s.pull * q))) ≤ℤ (border_gap s q t *ℤ pos y.den)
   lift_le q t e p pm h =
-      le_from_mul_left (((time.den * e) * (time.den * e)) * ((time.den * e) * (time.den * e))) (y.num *ℤ pos (q * q * q * (s.pull * q))) (side_gap s q t *ℤ pos y.den) (mul-pos (mul-pos pm pm) (mul-pos pm pm))
-      (rw (near q e (mul-pos p pm), far q t (time.den * e)) (mul_le_left y.den (side_gap s (q * (time.den * e)) (n * q * e)) (side_gap s (q * (time.den * e)) (t * (time.den * e))) h))
+      le_from_mul_left (((time.den * e) * (time.den * e)) * ((time.den * e) * (time.den * e))) (y.num *ℤ pos (q * q * q * (s.pull * q))) (border_gap s q t *ℤ pos y.den) (mul-pos (mul-pos pm pm) (mul-pos pm pm))
+      (rw (near q e (mul-pos p pm), far q t (time.den * e)) (mul_le_left y.den (border_gap s (q * (time.den * e)) (n * q * e)) (border_gap s (q * (time.den * e)) (t * (time.den * e))) h))
 
-  pub lift_lt : (q t e : ℕ) → 0 < q → 0 < time.den * e → 0 < y.den → side_gap s (q * (time.den * e)) (n * q * e) <ℤ side_gap s (q * (time.den * e)) (t * (time.den * e)) →
-      (y.num *ℤ pos (q * q * q * (s.pull * q))) <ℤ (side_gap s q t *ℤ pos y.den)
+  pub lift_lt : (q t e : ℕ) → 0 < q → 0 < time.den * e → 0 < y.den → border_gap s (q * (time.den * e)) (n * q * e) <ℤ border_gap s (q * (time.den * e)) (t * (time.den * e)) →
+      (y.num *ℤ pos (q * q * q * (s.pull * q))) <ℤ (border_gap s q t *ℤ pos y.den)
   lift_lt q t e p pm py h =
-      lt_from_mul_left (((time.den * e) * (time.den * e)) * ((time.den * e) * (time.den * e))) (y.num *ℤ pos (q * q * q * (s.pull * q))) (side_gap s q t *ℤ pos y.den)
-      (rw (near q e (mul-pos p pm), far q t (time.den * e)) (mul_lt_left y.den (side_gap s (q * (time.den * e)) (n * q * e)) (side_gap s (q * (time.den * e)) (t * (time.den * e))) py h))
+      lt_from_mul_left (((time.den * e) * (time.den * e)) * ((time.den * e) * (time.den * e))) (y.num *ℤ pos (q * q * q * (s.pull * q))) (border_gap s q t *ℤ pos y.den)
+      (rw (near q e (mul-pos p pm), far q t (time.den * e)) (mul_lt_left y.den (border_gap s (q * (time.den * e)) (n * q * e)) (border_gap s (q * (time.den * e)) (t * (time.den * e))) py h))
 
 -- ---- a rising curve, over one denominator q
 
 module _ (k : ℤ) (x b g : ℕ) (h w : ℤ) (q : ℕ) (sq : 0 < q) (sb : 0 < b) where
-  abbrev side : Side
-  side = side_of (k -ℤ pos x) k b g h w
+  abbrev border : Border
+  border = border_of (k -ℤ pos x) k b g h w
 
   abbrev K : ℤ
   K = k *ℤ pos (q * q)
 
-  low : (t : ℕ) → curve (side_of (k -ℤ pos x) k b g h w) q t ≡ held ((k *ℤ pos (q * q)) -ℤ pos (x * (q * q))) (k *ℤ pos (q * q)) (b * q) (g * q) t
+  low : (t : ℕ) → curve (border_of (k -ℤ pos x) k b g h w) q t ≡ held ((k *ℤ pos (q * q)) -ℤ pos (x * (q * q))) (k *ℤ pos (q * q)) (b * q) (g * q) t
   low t = ap (λ v. held v (k *ℤ pos (q * q)) (b * q) (g * q) t) (ring (k ∷ pos x ∷ pos q ∷ []) ((at 0 ⊖ at 1) ⊗ (at 2 ⊗ at 2)) ((at 0 ⊗ (at 2 ⊗ at 2)) ⊖ (at 1 ⊗ (at 2 ⊗ at 2))) refl)
 
-  gap_low : (t : ℕ) → side_gap (side_of (k -ℤ pos x) k b g h w) q t ≡ gap (held ((k *ℤ pos (q * q)) -ℤ pos (x * (q * q))) (k *ℤ pos (q * q)) (b * q) (g * q) t) (w *ℤ pos (q * q)) (b * q) t -ℤ (pos (b * q) *ℤ ((h *ℤ pos q) *ℤ pos (q * q)))
-  gap_low t = side_gap-gap (side_of (k -ℤ pos x) k b g h w) q t ∙ ap (λ z. gap z (w *ℤ pos (q * q)) (b * q) t -ℤ (pos (b * q) *ℤ ((h *ℤ pos q) *ℤ pos (q * q)))) (low t)
+  gap_low : (t : ℕ) → border_gap (border_of (k -ℤ pos x) k b g h w) q t ≡ gap (held ((k *ℤ pos (q * q)) -ℤ pos (x * (q * q))) (k *ℤ pos (q * q)) (b * q) (g * q) t) (w *ℤ pos (q * q)) (b * q) t -ℤ (pos (b * q) *ℤ ((h *ℤ pos q) *ℤ pos (q * q)))
+  gap_low t = border_gap-gap (border_of (k -ℤ pos x) k b g h w) q t ∙ ap (λ z. gap z (w *ℤ pos (q * q)) (b * q) t -ℤ (pos (b * q) *ℤ ((h *ℤ pos q) *ℤ pos (q * q)))) (low t)
 
-  pub later_by : (s t : ℕ) → (w *ℤ pos (q * q)) ≤ℤ ((k *ℤ pos (q * q)) -ℤ pos (x * (q * q) - (b * q) * (s - g * q))) → s ≤ t → side_gap (side_of (k -ℤ pos x) k b g h w) q s ≤ℤ side_gap (side_of (k -ℤ pos x) k b g h w) q t
+  pub later_by : (s t : ℕ) → (w *ℤ pos (q * q)) ≤ℤ ((k *ℤ pos (q * q)) -ℤ pos (x * (q * q) - (b * q) * (s - g * q))) → s ≤ t → border_gap (border_of (k -ℤ pos x) k b g h w) q s ≤ℤ border_gap (border_of (k -ℤ pos x) k b g h w) q t
   later_by s t i l = le_by _ _ _ _ (pos (b * q) *ℤ ((h *ℤ pos q) *ℤ pos (q * q))) (gap_low s) (gap_low t) (least_of_later (k *ℤ pos (q * q)) (x * (q * q)) (b * q) (g * q) (w *ℤ pos (q * q)) s t i l)
 
-  pub sooner_by : (s t : ℕ) → ((k *ℤ pos (q * q)) -ℤ pos (x * (q * q) - (b * q) * (s - g * q))) <ℤ (w *ℤ pos (q * q)) → t < s → side_gap (side_of (k -ℤ pos x) k b g h w) q s <ℤ side_gap (side_of (k -ℤ pos x) k b g h w) q t
+  pub sooner_by : (s t : ℕ) → ((k *ℤ pos (q * q)) -ℤ pos (x * (q * q) - (b * q) * (s - g * q))) <ℤ (w *ℤ pos (q * q)) → t < s → border_gap (border_of (k -ℤ pos x) k b g h w) q s <ℤ border_gap (border_of (k -ℤ pos x) k b g h w) q t
   sooner_by s t i l = lt_by _ _ _ _ (pos (b * q) *ℤ ((h *ℤ pos q) *ℤ pos (q * q))) (gap_low s) (gap_low t) (earlier_than_slower (k *ℤ pos (q * q)) (x * (q * q)) (b * q) (g * q) (w *ℤ pos (q * q)) s t (mul-pos sb sq) i l)
 
   pub sooner_at : (s t : ℕ) → w *ℤ pos (q * q) ≡ (k *ℤ pos (q * q)) -ℤ pos (x * (q * q) - (b * q) * (s - g * q)) → g * q < s → (b * q) * (s - g * q) ≤ x * (q * q) → t < s →
-      side_gap (side_of (k -ℤ pos x) k b g h w) q s <ℤ side_gap (side_of (k -ℤ pos x) k b g h w) q t
+      border_gap (border_of (k -ℤ pos x) k b g h w) q s <ℤ border_gap (border_of (k -ℤ pos x) k b g h w) q t
   sooner_at s t e i j l =
       lt_by _ _ _ _ (pos (b * q) *ℤ ((h *ℤ pos q) *ℤ pos (q * q))) (gap_low s) (gap_low t)
       (rw e (earlier_is_greater (k *ℤ pos (q * q)) (x * (q * q)) (b * q) (g * q) s t (mul-pos sb sq) i j l))

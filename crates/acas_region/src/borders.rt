@@ -1,14 +1,14 @@
 //! The two curves of a box against its intruders.
 ghost use Rattle.std.specs.Prelude.{◌≡◌, ◌<ℤ◌, ◌≤ℤ◌};
-ghost use Rattle.acas_flight.specs.Side.{high_side_of, low_side_of};
-ghost use Rattle.acas_region.specs.View.{area_of, demand_in, side_in};
+ghost use Rattle.acas_flight.specs.Border.{high_border_of, low_border_of};
+ghost use Rattle.acas_region.specs.View.{area_of, demand_in, border_in};
 
 use crate::numbers::minus;
 use crate::parts::{Asked, BoxState, Chase};
 
 /// The low curve of a box against its highest intruder.
 pub(crate) fn low_chase(asked: &Asked, area: &BoxState) -> Chase
-    ensures { side_in result ≡ low_side_of (demand_in asked.now) (area_of area.now) }
+    ensures { border_in result ≡ low_border_of (demand_in asked.now) (area_of area.now) }
 {
     if area.v0.least < asked.lo {
         Chase {
@@ -34,7 +34,7 @@ pub(crate) fn low_chase(asked: &Asked, area: &BoxState) -> Chase
 // The high curve from above hi, turned upside down.
 fn from_over(asked: &Asked, area: &BoxState) -> Chase
     requires { asked.now.hi <ℤ area.now.v0.greatest }
-    ensures { side_in result ≡ high_side_of (demand_in asked.now) (area_of area.now) }
+    ensures { border_in result ≡ high_border_of (demand_in asked.now) (area_of area.now) }
 {
     Chase {
         start: minus(area.v0.greatest),
@@ -49,7 +49,7 @@ fn from_over(asked: &Asked, area: &BoxState) -> Chase
 // The high curve from hi or below, turned upside down.
 fn from_under(asked: &Asked, area: &BoxState) -> Chase
     requires { area.now.v0.greatest ≤ℤ asked.now.hi }
-    ensures { side_in result ≡ high_side_of (demand_in asked.now) (area_of area.now) }
+    ensures { border_in result ≡ high_border_of (demand_in asked.now) (area_of area.now) }
 {
     Chase {
         start: minus(area.v0.greatest),
@@ -63,7 +63,7 @@ fn from_under(asked: &Asked, area: &BoxState) -> Chase
 
 /// The high curve of a box against its lowest intruder, turned upside down.
 pub(crate) fn high_chase(asked: &Asked, area: &BoxState) -> Chase
-    ensures { side_in result ≡ high_side_of (demand_in asked.now) (area_of area.now) }
+    ensures { border_in result ≡ high_border_of (demand_in asked.now) (area_of area.now) }
 {
     if asked.hi < area.v0.greatest {
         from_over(asked, area)

@@ -2,7 +2,7 @@ use Rattle.std.proofs.Common.{◌≡◌, refl, neg_ℤ, to_z, of_z, arith}
 use Rattle.std.specs.Int.{w64}
 use Rattle.std.proofs.lemmas.Int.{ints}
 use Rattle.acas_flight.proofs.Between.{test_ge}
-use Rattle.acas_region.proofs.sides.from_under.Goals as goal
+use Rattle.acas_region.proofs.borders.from_under.Goals as goal
 
 pub invariant_of-result : goal.invariant_of-result
 invariant_of-result c =
