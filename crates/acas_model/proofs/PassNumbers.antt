@@ -1,10 +1,10 @@
 -- A document that says a model within its limits passes the rules of its numbers and axes.
-use Rattle.std.proofs.Common.{◌≡◌, ℕ, ◌-◌, ◌^◌, ◌<◌, ◌≤◌, false, List, [], length, map, take, get_or, codes, ℤ, pos, negsuc, ◌≤ℤ◌, Some, Ok, refl, sym, subst, ap, ◌∙◌, arith}
-use Rattle.std.proofs.lemmas.Bool.{le-leb, leb-true, false≢true}
+use Rattle.std.proofs.Common.{◌≡◌, ℕ, ◌-◌, ◌^◌, ◌<◌, ◌≤◌, nat_le, false, List, [], length, map, take, get_or, codes, ℤ, pos, negsuc, ◌≤ℤ◌, Some, Ok, refl, sym, subst, ap, ◌∙◌, inl, inr, arith}
+use Rattle.std.proofs.lemmas.Bool.{cases_Bool, le-leb, leb-true, leb-false, false≢true}
 use Rattle.std.proofs.lemmas.Int.{ints}
 use Rattle.std.proofs.lemmas.List.{get_or-map, length-map}
 use Rattle.toml.specs.Data.{Members, integer, boolean, table, get_member}
-use Rattle.acas_units.specs.declared.limits.TheConstants.{LEAST_RADIUS, GREATEST_RADIUS, LEAST_HALF_HEIGHT, GREATEST_HALF_HEIGHT, LEAST_CLOSING, GREATEST_CLOSING, LEAST_PULL, GREATEST_LIMIT, LEAST_COST, GREATEST_COST}
+use Rattle.acas_units.specs.declared.limits.TheConstants.{LEAST_RADIUS, GREATEST_RADIUS, LEAST_HALF_HEIGHT, GREATEST_HALF_HEIGHT, LEAST_CLOSING, GREATEST_CLOSING, LEAST_PULL, GREATEST_LIMIT, GREATEST_DELAY, LEAST_COST, GREATEST_COST}
 use Rattle.acas_spec.specs.Axis.{IsAxis, IsBetween, IsWithin, place_value}
 use Rattle.acas_spec.specs.Model.{ModelData}
 use Rattle.acas_spec.specs.Limits.{IsModel}
@@ -19,10 +19,11 @@ use Rattle.acas_base.specs.declared.numbers.Puck.{Puck}
 use Rattle.acas_base.specs.declared.numbers.Closing.{Closing}
 use Rattle.acas_base.specs.declared.numbers.Pilot.{Pilot}
 use Rattle.acas_base.specs.declared.numbers.Numbers.{Numbers}
+use Rattle.acas_model.specs.declared.numbers.TheConstants.{DELAY_VERSION}
 use Rattle.acas_model.specs.Document.{in_doc, number_at, closed_table}
 use Rattle.acas_model.specs.Axes.{least_on, greatest_on, in_model, axis_item, axis_items, axis_at, grid_table, altitudes, own_rates, intruder_rates, axes_of}
-use Rattle.acas_model.specs.Numbers.{puck_table, half_height, puck_of, closing_of, pilot_of, contact_of, numbers_of}
-use Rattle.acas_model.specs.Text.{HasOnly, HoldsWhole, HoldsAxis, IsDocumentText}
+use Rattle.acas_model.specs.Numbers.{puck_table, half_height, puck_of, closing_of, pilot_keys, delay_of, pilot_of, contact_of, numbers_of}
+use Rattle.acas_model.specs.Text.{HasOnly, HoldsWhole, HoldsAxis, IsPilotText, IsDocumentText}
 use Rattle.acas_model.proofs.Places.{each_from}
 use Rattle.acas_model.proofs.ReadAxes.{IsOn}
 use Rattle.acas_model.proofs.Rising.{is_axis}
@@ -146,17 +147,26 @@ closing_passes doc m says valid =
     ) refl
 
 abbrev pub pilot_in : ModelData → Pilot
-pilot_in m = record { pull = m.pull; limit = m.limit; delay = 0 }
+pilot_in m = record { pull = m.pull; limit = m.limit; delay = m.delay }
 
-pilot_passes : (doc : Members) (m : ModelData) → IsDocumentText m doc → IsModel m → pilot_of doc ≡ Ok (pilot_in m)
+delay_passes : (pilot : Members) (m : ModelData) (version : ℕ) → IsPilotText m version pilot → IsModel m → delay_of pilot version ≡ Ok m.delay
+unfolding delay_of
+delay_passes pilot m version says valid =
+    elim (cases_Bool (nat_le DELAY_VERSION version)) [
+      | inl has ↦ rw has (number_passes pilot (codes "pilot") (codes "delay") 0 GREATEST_DELAY m.delay (says.delay (leb-true DELAY_VERSION version has)) (omega arith) valid.delay)
+      | inr none ↦ rw none (ap Ok (sym (says.no_delay (leb-false DELAY_VERSION version none))))
+    ]
+
+pilot_passes : (doc : Members) (m : ModelData) (says : IsDocumentText m doc) → IsModel m → pilot_of doc says.version ≡ Ok (pilot_in m)
 unfolding pilot_of
 pilot_passes doc m says valid =
     let t = says.pilot.inner in
     let p = says.pilot.says in
     rw (
-      table_passes doc (codes "pilot") (codes "pull limit") t says.pilot.there says.pilot.keys,
+      table_passes doc (codes "pilot") (pilot_keys says.version) t says.pilot.there says.pilot.keys,
       number_passes t (codes "pilot") (codes "pull") LEAST_PULL GREATEST_LIMIT m.pull p.pull valid.some_pull (omega (arith, valid.pull_within, valid.limit)),
       number_passes t (codes "pilot") (codes "limit") m.pull GREATEST_LIMIT m.limit p.limit valid.pull_within valid.limit,
+      delay_passes t m says.version p valid,
     ) refl
 
 contact_passes : (doc : Members) (m : ModelData) → IsDocumentText m doc → IsModel m → contact_of doc ≡ Ok m.contact
@@ -171,6 +181,6 @@ contact_passes doc m says valid =
 abbrev pub numbers_in : ModelData → Numbers
 numbers_in m = record { puck = puck_in m; closing = closing_in m; pilot = pilot_in m; contact = m.contact }
 
-pub numbers_pass : (doc : Members) (m : ModelData) → IsDocumentText m doc → IsModel m → numbers_of doc ≡ Ok (numbers_in m)
+pub numbers_pass : (doc : Members) (m : ModelData) (says : IsDocumentText m doc) → IsModel m → numbers_of doc says.version ≡ Ok (numbers_in m)
 unfolding numbers_of
 numbers_pass doc m says valid = rw (puck_passes doc m says valid, closing_passes doc m says valid, pilot_passes doc m says valid, contact_passes doc m says valid) refl

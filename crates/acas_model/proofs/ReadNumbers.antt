@@ -1,7 +1,8 @@
 -- The numbers of the tables `puck`, `closing`, `pilot` and `cost`, and the keys of each table.
-use Rattle.std.proofs.Common.{◌≡◌, ℕ, ◌*◌, ◌≤◌, List, [], codes, ℤ, pos, unsigned_abs, Some, Result, Ok, Err, refl, sym, subst, ap, ◌∙◌}
+use Rattle.std.proofs.Common.{◌≡◌, ℕ, ◌*◌, ◌<◌, ◌≤◌, nat_le, List, [], codes, ℤ, pos, unsigned_abs, Some, Result, Ok, Err, refl, sym, subst, ap, ◌∙◌, inl, inr, arith}
+use Rattle.std.proofs.lemmas.Bool.{cases_Bool, leb-true, leb-false}
 use Rattle.toml.specs.Data.{Members, table, get_member}
-use Rattle.acas_units.specs.declared.limits.TheConstants.{LEAST_RADIUS, GREATEST_RADIUS, LEAST_HALF_HEIGHT, GREATEST_HALF_HEIGHT, LEAST_CLOSING, GREATEST_CLOSING, LEAST_PULL, GREATEST_LIMIT, LEAST_COST, GREATEST_COST}
+use Rattle.acas_units.specs.declared.limits.TheConstants.{LEAST_RADIUS, GREATEST_RADIUS, LEAST_HALF_HEIGHT, GREATEST_HALF_HEIGHT, LEAST_CLOSING, GREATEST_CLOSING, LEAST_PULL, GREATEST_LIMIT, GREATEST_DELAY, LEAST_COST, GREATEST_COST}
 use Rattle.acas_units.specs.declared.ticks.TheConstants.{TICKS_PER_FOOT}
 use Rattle.acas_spec.specs.Axis.{IsBetween}
 use Rattle.acas_spec.specs.Steps.{◌>>◌}
@@ -11,12 +12,13 @@ use Rattle.acas_doc.specs.Known.{only_known}
 use Rattle.acas_doc.proofs.Holds.{fault_as_ok, whole_at_ok, table_at_ok}
 use Rattle.acas_doc.proofs.LeastUnknown.{only_known_passes}
 use Rattle.acas_model.specs.declared.fault.ModelFault.{ModelFault}
+use Rattle.acas_model.specs.declared.numbers.TheConstants.{DELAY_VERSION}
 use Rattle.acas_base.specs.declared.numbers.Puck.{Puck}
 use Rattle.acas_base.specs.declared.numbers.Closing.{Closing}
 use Rattle.acas_base.specs.declared.numbers.Pilot.{Pilot}
 use Rattle.acas_base.specs.declared.numbers.Numbers.{Numbers}
 use Rattle.acas_model.specs.Document.{in_doc, number_at, closed_table}
-use Rattle.acas_model.specs.Numbers.{puck_table, half_height, puck_of, closing_of, pilot_of, contact_of, numbers_of}
+use Rattle.acas_model.specs.Numbers.{puck_table, half_height, puck_of, closing_of, pilot_keys, delay_of, pilot_of, contact_of, numbers_of}
 use Rattle.acas_model.specs.Text.{HasOnly, HoldsWhole}
 use Rattle.acas_model.proofs.Numerals.{abs_between}
 
@@ -113,27 +115,46 @@ closing_ok doc c e =
       greatest = number_ok b.0 (codes "closing") (codes "greatest") l.0 GREATEST_CLOSING g.0 g.1;
     })
 
-pub record IsReadPilot (doc : Members) (p : Pilot) : Type 0 where
+-- a delay that was read, or that the version does not say
+pub record IsReadDelay (pilot : Members) (version n : ℕ) : Type 0 where
+  pub unsaid : version < DELAY_VERSION → n ≡ 0
+  pub said : DELAY_VERSION ≤ version → HoldsWhole pilot (codes "delay") (pos n)
+  pub high : n ≤ GREATEST_DELAY
+
+delay_ok : (pilot : Members) (version n : ℕ) → delay_of pilot version ≡ Ok n → IsReadDelay pilot version n
+unfolding delay_of
+delay_ok pilot version n e =
+    elim (cases_Bool (nat_le DELAY_VERSION version)) [
+      | inl has ↦
+          let r = number_ok pilot (codes "pilot") (codes "delay") 0 GREATEST_DELAY n (rw has at e) in
+          record { unsaid = λ before. absurd (omega (arith, before, leb-true DELAY_VERSION version has)); said = λ h. r.holds; high = r.high }
+      | inr none ↦
+          let zero_is : 0 ≡ n = same_ok {E = ModelFault} 0 n (rw none at e) in
+          record { unsaid = λ h. sym zero_is; said = λ from. absurd (omega (arith, from, leb-false DELAY_VERSION version none)); high = omega (arith, zero_is) }
+    ]
+
+pub record IsReadPilot (doc : Members) (version : ℕ) (p : Pilot) : Type 0 where
   pub inner : Members
-  pub is_table : IsTable doc (codes "pilot") (codes "pull limit") inner
+  pub is_table : IsTable doc (codes "pilot") (pilot_keys version) inner
   pub pull : IsNumber inner (codes "pull") LEAST_PULL GREATEST_LIMIT p.pull
   pub limit : IsNumber inner (codes "limit") p.pull GREATEST_LIMIT p.limit
-  pub no_delay : p.delay ≡ 0
+  pub delay : IsReadDelay inner version p.delay
 
-pub pilot_ok : (doc : Members) (p : Pilot) → pilot_of doc ≡ Ok p → IsReadPilot doc p
+pub pilot_ok : (doc : Members) (version : ℕ) (p : Pilot) → pilot_of doc version ≡ Ok p → IsReadPilot doc version p
 unfolding pilot_of
-pilot_ok doc p e =
-    let b = bind_ok (closed_table doc (codes "pilot") (codes "pull limit")) _ p e in
+pilot_ok doc version p e =
+    let b = bind_ok (closed_table doc (codes "pilot") (pilot_keys version)) _ p e in
     let l = bind_ok (number_at b.0 (codes "pilot") (codes "pull") LEAST_PULL GREATEST_LIMIT) _ p b.2 in
     let g = bind_ok (number_at b.0 (codes "pilot") (codes "limit") l.0 GREATEST_LIMIT) _ p l.2 in
-    let made : Pilot = record { pull = l.0; limit = g.0; delay = 0 } in
-    let same : made ≡ p = same_ok {E = ModelFault} _ _ g.2 in
-    subst (IsReadPilot doc) same (record {
+    let d = bind_ok (delay_of b.0 version) _ p g.2 in
+    let made : Pilot = record { pull = l.0; limit = g.0; delay = d.0 } in
+    let same : made ≡ p = same_ok {E = ModelFault} _ _ d.2 in
+    subst (IsReadPilot doc version) same (record {
       inner = b.0;
-      is_table = table_ok doc (codes "pilot") (codes "pull limit") b.0 b.1;
+      is_table = table_ok doc (codes "pilot") (pilot_keys version) b.0 b.1;
       pull = number_ok b.0 (codes "pilot") (codes "pull") LEAST_PULL GREATEST_LIMIT l.0 l.1;
       limit = number_ok b.0 (codes "pilot") (codes "limit") l.0 GREATEST_LIMIT g.0 g.1;
-      no_delay = refl;
+      delay = delay_ok b.0 version d.0 d.1;
     })
 
 pub record IsReadContact (doc : Members) (z : ℤ) : Type 0 where
@@ -154,24 +175,24 @@ contact_ok doc z e =
       within = record { low = w.1; high = w.2 };
     }
 
-pub record IsReadNumbers (doc : Members) (n : Numbers) : Type 0 where
+pub record IsReadNumbers (doc : Members) (version : ℕ) (n : Numbers) : Type 0 where
   pub puck : IsReadPuck doc n.puck
   pub closing : IsReadClosing doc n.closing
-  pub pilot : IsReadPilot doc n.pilot
+  pub pilot : IsReadPilot doc version n.pilot
   pub contact : IsReadContact doc n.contact
 
-pub numbers_ok : (doc : Members) (n : Numbers) → numbers_of doc ≡ Ok n → IsReadNumbers doc n
+pub numbers_ok : (doc : Members) (version : ℕ) (n : Numbers) → numbers_of doc version ≡ Ok n → IsReadNumbers doc version n
 unfolding numbers_of
-numbers_ok doc n e =
+numbers_ok doc version n e =
     let p = bind_ok (puck_of doc) _ n e in
     let c = bind_ok (closing_of doc) _ n p.2 in
-    let l = bind_ok (pilot_of doc) _ n c.2 in
+    let l = bind_ok (pilot_of doc version) _ n c.2 in
     let z = bind_ok (contact_of doc) _ n l.2 in
     let made : Numbers = record { puck = p.0; closing = c.0; pilot = l.0; contact = z.0 } in
     let same : made ≡ n = same_ok {E = ModelFault} _ _ z.2 in
-    subst (IsReadNumbers doc) same (record {
+    subst (IsReadNumbers doc version) same (record {
       puck = puck_ok doc p.0 p.1;
       closing = closing_ok doc c.0 c.1;
-      pilot = pilot_ok doc l.0 l.1;
+      pilot = pilot_ok doc version l.0 l.1;
       contact = contact_ok doc z.0 z.1;
     })

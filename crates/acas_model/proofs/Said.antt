@@ -1,5 +1,5 @@
 -- A text that is read says its model.
-use Rattle.std.proofs.Common.{◌≡◌, ℕ, ◌<◌, false, List, [], length, map, get_or, codes, pos, IsUtf8, Option, Some, None, Result, Ok, Err, refl, sym, subst, ap, ◌∙◌, inl, inr, arith}
+use Rattle.std.proofs.Common.{◌≡◌, ℕ, ◌<◌, false, List, [], length, map, get_or, codes, pos, IsUtf8, Option, Some, None, Result, Ok, Err, sym, subst, ap, ◌∙◌, inl, inr, arith}
 use Rattle.std.specs.Str.{is_utf8}
 use Rattle.std.proofs.lemmas.Bool.{cases_Bool}
 use Rattle.std.proofs.lemmas.List.{get_or-map, length-map}
@@ -7,7 +7,7 @@ use Rattle.std.proofs.lemmas.Str.{IsUtf8-from_is_utf8}
 use Rattle.toml.specs.Data.{Data, Members, no_members, table, boolean}
 use Rattle.toml.specs.Data as datum
 use Rattle.toml.specs.Parse.{parse_document}
-use Rattle.acas_units.specs.declared.limits.TheConstants.{MODEL_VERSION}
+use Rattle.acas_units.specs.declared.limits.TheConstants.{LEAST_MODEL_VERSION, GREATEST_MODEL_VERSION}
 use Rattle.acas_spec.specs.Model.{ModelData}
 use Rattle.acas_spec.specs.declared.parts.SigmaPoint.{SigmaPoint}
 use Rattle.acas_spec.proofs.Each.{bind_ok, same_ok}
@@ -17,14 +17,14 @@ use Rattle.acas_model.specs.declared.fault.ModelFault.{ModelFault}
 use Rattle.acas_model.specs.declared.fault.ModelFault.TheVariants.{NotToml}
 use Rattle.acas_model.specs.Document.{or_not_toml, document_of}
 use Rattle.acas_model.specs.Axes.{axes_of}
-use Rattle.acas_model.specs.Numbers.{numbers_of}
+use Rattle.acas_model.specs.Numbers.{pilot_keys, numbers_of}
 use Rattle.acas_model.specs.Choices.{Advised, advised_of}
 use Rattle.acas_model.specs.Noise.{sigmas_of, weights}
 use Rattle.acas_base.specs.View.{model_with}
 use Rattle.acas_model.specs.Whole.{top_keys, version_of, horizon_of, window, few_entries, grid_from, model_in, model_of}
 use Rattle.acas_model.specs.Text.{HasOnly, HoldsWhole, HoldsList, HoldsTable, HoldsTables, IsGridText, IsPuckText, IsClosingText, IsPilotText, IsCostText, IsAdvisoryText, IsSigmaText, IsDocumentText, IsModelText}
 use Rattle.acas_model.proofs.Places.{same_lists}
-use Rattle.acas_model.proofs.ReadNumbers.{step_ok, passed_ok, only_ok, number_ok, IsTable, IsReadNumbers, numbers_ok}
+use Rattle.acas_model.proofs.ReadNumbers.{step_ok, only_ok, IsNumber, number_ok, IsTable, IsReadNumbers, numbers_ok}
 use Rattle.acas_model.proofs.ReadAxes.{IsReadAxes, axes_ok}
 use Rattle.acas_model.proofs.ReadChoices.{IsReadChoices}
 use Rattle.acas_model.proofs.ReadNoise.{AreReadSigmas, sigmas_ok, weights_ok}
@@ -129,32 +129,32 @@ sigmas_say doc m read = record {
       subst (IsSigmaText m k) (table_there read.items k item.inner in_items item.there) (record { weight = item.says.weight; own = item.says.own; intruder = item.says.intruder });
 }
 
--- the version, which is read and not kept
-version_said : (doc : Members) (n : ℕ) → version_of doc ≡ Ok n → HoldsWhole doc (codes "version") (pos MODEL_VERSION)
+version_said : (doc : Members) (n : ℕ) → version_of doc ≡ Ok n → IsNumber doc (codes "version") LEAST_MODEL_VERSION GREATEST_MODEL_VERSION n
 unfolding version_of
-version_said doc n e =
-    let r = number_ok doc [] (codes "version") MODEL_VERSION MODEL_VERSION n e in
-    let one : n ≡ MODEL_VERSION = omega (arith, r.low, r.high) in
-    subst (λ k. HoldsWhole doc (codes "version") (pos k)) one r.holds
+version_said doc n e = number_ok doc [] (codes "version") LEAST_MODEL_VERSION GREATEST_MODEL_VERSION n e
 
 keys_said : (doc : Members) → top_keys doc ≡ Ok tt → HasOnly (codes "version horizon grid puck closing pilot cost advisory sigma") doc
 unfolding top_keys
 keys_said doc e = only_ok [] (codes "version horizon grid puck closing pilot cost advisory sigma") doc e
 
-document_says : (doc : Members) (horizon : ℕ) (axes : Axes) (numbers : Numbers) (advised : Advised) (sigmas : List SigmaPoint)
-    → HasOnly (codes "version horizon grid puck closing pilot cost advisory sigma") doc → HoldsWhole doc (codes "version") (pos MODEL_VERSION) → HoldsWhole doc (codes "horizon") (pos horizon)
-    → IsReadAxes doc axes → IsReadNumbers doc numbers → IsReadAdvised doc advised → AreReadSigmas doc sigmas
+document_says : (doc : Members) (version horizon : ℕ) (axes : Axes) (numbers : Numbers) (advised : Advised) (sigmas : List SigmaPoint)
+    → HasOnly (codes "version horizon grid puck closing pilot cost advisory sigma") doc → IsNumber doc (codes "version") LEAST_MODEL_VERSION GREATEST_MODEL_VERSION version → HoldsWhole doc (codes "horizon") (pos horizon)
+    → IsReadAxes doc axes → IsReadNumbers doc version numbers → IsReadAdvised doc advised → AreReadSigmas doc sigmas
     → IsDocumentText (model_with (grid_from horizon axes advised) numbers advised.advisories advised.choices sigmas) doc
-document_says doc horizon axes numbers advised sigmas keys version seconds axis number given sigma =
+document_says doc version horizon axes numbers advised sigmas keys edition seconds axis number given sigma =
     let m = model_with (grid_from horizon axes advised) numbers advised.advisories advised.choices sigmas in
     record {
       keys = keys;
       version = version;
+      says_version = edition.holds;
+      least_version = edition.low;
+      greatest_version = edition.high;
       horizon = seconds;
       grid = table_says doc (codes "grid") (codes "altitude own_rate intruder_rate") axis.inner (IsGridText m) axis.is_table (record { altitude = axis.h.holds; own_rate = axis.v0.holds; intruder_rate = axis.v1.holds });
       puck = table_says doc (codes "puck") (codes "radius half_height") number.puck.inner (IsPuckText m) number.puck.is_table (record { radius = number.puck.radius.holds; feet = number.puck.feet; half_height = number.puck.half_height.holds; half = number.puck.half });
       closing = table_says doc (codes "closing") (codes "least greatest") number.closing.inner (IsClosingText m) number.closing.is_table (record { least = number.closing.least.holds; greatest = number.closing.greatest.holds });
-      pilot = table_says doc (codes "pilot") (codes "pull limit") number.pilot.inner (IsPilotText m) number.pilot.is_table (record { pull = number.pilot.pull.holds; limit = number.pilot.limit.holds });
+      pilot = table_says doc (codes "pilot") (pilot_keys version) number.pilot.inner (IsPilotText m version) number.pilot.is_table
+          (record { pull = number.pilot.pull.holds; limit = number.pilot.limit.holds; no_delay = number.pilot.delay.unsaid; delay = number.pilot.delay.said });
       cost = table_says doc (codes "cost") (codes "contact") number.contact.inner (IsCostText m) number.contact.is_table (record { contact = number.contact.contact });
       advisory = advisories_say doc horizon axes numbers advised sigmas given;
       sigma = sigmas_say doc m sigma;
@@ -167,10 +167,10 @@ said bytes m e =
     let doc = d.0 in
     let is_doc = document_ok bytes doc d.1 in
     let k = step_ok (top_keys doc) _ m d.2 in
-    let v = passed_ok (version_of doc) _ m k.1 in
+    let v = bind_ok (version_of doc) _ m k.1 in
     let h = bind_ok (horizon_of doc) _ m v.2 in
     let a = bind_ok (axes_of doc) _ m h.2 in
-    let n = bind_ok (numbers_of doc) _ m a.2 in
+    let n = bind_ok (numbers_of doc v.0) _ m a.2 in
     let g = bind_ok (advised_of doc) _ m n.2 in
     let p = bind_ok (sigmas_of doc) _ m g.2 in
     let w = step_ok (weights p.0) _ m p.2 in
@@ -180,14 +180,13 @@ said bytes m e =
     let same : made ≡ m = same_ok {E = ModelFault} _ _ f.1 in
     let seconds = horizon_ok doc h.0 h.1 in
     let axis = axes_ok doc a.0 a.1 in
-    let number = numbers_ok doc n.0 n.1 in
+    let number = numbers_ok doc v.0 n.0 n.1 in
     let given = advised_ok doc g.0 g.1 in
     let sigma = sigmas_ok doc p.0 p.1 in
     subst (IsModelText bytes) same (record {
       text = is_doc.text;
       doc = doc;
       toml = is_doc.toml;
-      keys = document_says doc h.0 a.0 n.0 g.0 p.0 (keys_said doc k.0) (version_said doc v.0 v.1) seconds.holds axis number given sigma;
-      within = within_limits doc h.0 a.0 n.0 g.0 p.0 seconds axis number given sigma (weights_ok p.0 w.0) (window_ok h.0 n.0.puck.radius n.0.closing.least t.0) (entries_ok (grid_from h.0 a.0 g.0) f.0);
-      no_delay = number.pilot.no_delay;
+      keys = document_says doc v.0 h.0 a.0 n.0 g.0 p.0 (keys_said doc k.0) (version_said doc v.0 v.1) seconds.holds axis number given sigma;
+      within = within_limits doc v.0 h.0 a.0 n.0 g.0 p.0 seconds axis number given sigma (weights_ok p.0 w.0) (window_ok h.0 n.0.puck.radius n.0.closing.least t.0) (entries_ok (grid_from h.0 a.0 g.0) f.0);
     })

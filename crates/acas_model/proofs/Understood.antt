@@ -1,8 +1,8 @@
 -- A text that says a model within its limits is accepted with that model.
-use Rattle.std.proofs.Common.{◌≡◌, ℕ, ◌≤◌, List, codes, sum_by, Ok, refl, sym, subst, ap, ◌∙◌, arith}
+use Rattle.std.proofs.Common.{◌≡◌, ℕ, ◌≤◌, List, codes, sum_by, Ok, refl, sym, subst, ap}
 use Rattle.std.proofs.lemmas.Bool.{le-leb}
 use Rattle.toml.specs.Data.{Members}
-use Rattle.acas_units.specs.declared.limits.TheConstants.{MODEL_VERSION, LEAST_HORIZON, GREATEST_HORIZON, GREATEST_TOTAL_WEIGHT, GREATEST_ENTRIES}
+use Rattle.acas_units.specs.declared.limits.TheConstants.{LEAST_MODEL_VERSION, GREATEST_MODEL_VERSION, LEAST_HORIZON, GREATEST_HORIZON, GREATEST_TOTAL_WEIGHT, GREATEST_ENTRIES}
 use Rattle.acas_spec.specs.Model.{ModelData, GridData, entries, weight_of}
 use Rattle.acas_spec.specs.Limits.{IsModel}
 use Rattle.acas_model.specs.Noise.{weights}
@@ -17,9 +17,9 @@ keys_pass : (doc : Members) (m : ModelData) → IsDocumentText m doc → top_key
 unfolding top_keys
 keys_pass doc m says = only_passes _ (codes "version horizon grid puck closing pilot cost advisory sigma") doc says.keys
 
-version_passes : (doc : Members) (m : ModelData) → IsDocumentText m doc → version_of doc ≡ Ok MODEL_VERSION
+version_passes : (doc : Members) (m : ModelData) (says : IsDocumentText m doc) → version_of doc ≡ Ok says.version
 unfolding version_of
-version_passes doc m says = number_passes doc _ (codes "version") MODEL_VERSION MODEL_VERSION MODEL_VERSION says.version (omega arith) (omega arith)
+version_passes doc m says = number_passes doc _ (codes "version") LEAST_MODEL_VERSION GREATEST_MODEL_VERSION says.version says.says_version says.least_version says.greatest_version
 
 horizon_passes : (doc : Members) (m : ModelData) → IsDocumentText m doc → IsModel m → horizon_of doc ≡ Ok m.grid.horizon
 unfolding horizon_of
@@ -41,22 +41,6 @@ entries_pass : (g : GridData) → entries g ≤ GREATEST_ENTRIES → few_entries
 unfolding few_entries
 entries_pass g h = rw (le-leb (entries g) GREATEST_ENTRIES h) refl
 
-model_again : (m : ModelData) → m.delay ≡ 0 → model_with m.grid (numbers_in m) m.advisories m.choices m.sigmas ≡ m
-model_again m none = λ i. record {
-  grid = m.grid;
-  advisories = m.advisories;
-  choices = m.choices;
-  sigmas = m.sigmas;
-  pull = m.pull;
-  limit = m.limit;
-  delay = (sym none) i;
-  radius = m.radius;
-  half = m.half;
-  least_closing = m.least_closing;
-  greatest_closing = m.greatest_closing;
-  contact = m.contact;
-}
-
 pub understood : (bytes : List ℕ) (m : ModelData) → IsModelText bytes m → model_of bytes ≡ Ok m
 unfolding model_of model_in
 understood bytes m says =
@@ -65,7 +49,7 @@ understood bytes m says =
     let grid = grid_again m valid in
     let few : few_entries (grid_from m.grid.horizon (axes_in m) (advised_in m)) ≡ Ok tt = entries_pass _ (subst (λ g. entries g ≤ GREATEST_ENTRIES) (sym grid) valid.grid.entries) in
     let built : model_with (grid_from m.grid.horizon (axes_in m) (advised_in m)) (numbers_in m) m.advisories m.choices m.sigmas ≡ m =
-    ap (λ g. model_with g (numbers_in m) m.advisories m.choices m.sigmas) grid ∙ model_again m says.no_delay in
+    ap (λ g. model_with g (numbers_in m) m.advisories m.choices m.sigmas) grid in
     rw (
       document_read bytes doc says.text says.toml,
       keys_pass doc m says.keys,

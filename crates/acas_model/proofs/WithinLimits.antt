@@ -70,11 +70,11 @@ pub entries_ok : (g : GridData) → few_entries g ≡ Ok tt → entries g ≤ GR
 unfolding few_entries
 entries_ok g e = leb-true (entries g) GREATEST_ENTRIES (test_ok (nat_le (entries g) GREATEST_ENTRIES) tt tt (TooManyEntries (entries g)) e).0
 
-pub within_limits : (doc : Members) (horizon : ℕ) (axes : Axes) (numbers : Numbers) (advised : Advised) (sigmas : List SigmaPoint)
-    → IsNumber doc (codes "horizon") LEAST_HORIZON GREATEST_HORIZON horizon → IsReadAxes doc axes → IsReadNumbers doc numbers → IsReadAdvised doc advised → AreReadSigmas doc sigmas
+pub within_limits : (doc : Members) (version horizon : ℕ) (axes : Axes) (numbers : Numbers) (advised : Advised) (sigmas : List SigmaPoint)
+    → IsNumber doc (codes "horizon") LEAST_HORIZON GREATEST_HORIZON horizon → IsReadAxes doc axes → IsReadNumbers doc version numbers → IsReadAdvised doc advised → AreReadSigmas doc sigmas
     → sum_by weight_of sigmas ≤ GREATEST_TOTAL_WEIGHT → horizon * numbers.closing.least + 2 * numbers.puck.radius ≤ WINDOW_SECONDS * numbers.closing.least → entries (grid_from horizon axes advised) ≤ GREATEST_ENTRIES
     → IsModel (model_with (grid_from horizon axes advised) numbers advised.advisories advised.choices sigmas)
-within_limits doc horizon axes numbers advised sigmas seconds axis number given sigma light fits few = record {
+within_limits doc version horizon axes numbers advised sigmas seconds axis number given sigma light fits few = record {
   grid = record {
     altitudes = axis.h.is_axis;
     own_rates = axis.v0.is_axis;
@@ -100,7 +100,7 @@ within_limits doc horizon axes numbers advised sigmas seconds axis number given 
   some_pull = number.pilot.pull.low;
   pull_within = number.pilot.limit.low;
   limit = number.pilot.limit.high;
-  delay = omega (arith, number.pilot.no_delay);
+  delay = number.pilot.delay.high;
   some_radius = number.puck.radius.low;
   radius = number.puck.radius.high;
   some_half = omega (arith, number.puck.half, number.puck.half_height.low);
@@ -112,10 +112,10 @@ within_limits doc horizon axes numbers advised sigmas seconds axis number given 
   window = fits;
 }
 
-pub parts_within_limits : (doc : Members) (horizon : ℕ) (axes : Axes) (numbers : Numbers) (advised : Advised) (sigmas : List SigmaPoint)
-    → horizon_of doc ≡ Ok horizon → axes_of doc ≡ Ok axes → numbers_of doc ≡ Ok numbers → advised_of doc ≡ Ok advised → sigmas_of doc ≡ Ok sigmas
+pub parts_within_limits : (doc : Members) (version horizon : ℕ) (axes : Axes) (numbers : Numbers) (advised : Advised) (sigmas : List SigmaPoint)
+    → horizon_of doc ≡ Ok horizon → axes_of doc ≡ Ok axes → numbers_of doc version ≡ Ok numbers → advised_of doc ≡ Ok advised → sigmas_of doc ≡ Ok sigmas
     → weights sigmas ≡ Ok tt → window horizon numbers.puck.radius numbers.closing.least ≡ Ok tt → few_entries (grid_from horizon axes advised) ≡ Ok tt
     → IsModel (model_with (grid_from horizon axes advised) numbers advised.advisories advised.choices sigmas)
-parts_within_limits doc horizon axes numbers advised sigmas h a n d p w t f =
-    within_limits doc horizon axes numbers advised sigmas (horizon_ok doc horizon h) (axes_ok doc axes a) (numbers_ok doc numbers n) (advised_ok doc advised d) (sigmas_ok doc sigmas p)
+parts_within_limits doc version horizon axes numbers advised sigmas h a n d p w t f =
+    within_limits doc version horizon axes numbers advised sigmas (horizon_ok doc horizon h) (axes_ok doc axes a) (numbers_ok doc version numbers n) (advised_ok doc advised d) (sigmas_ok doc sigmas p)
     (weights_ok sigmas w) (window_ok horizon numbers.puck.radius numbers.closing.least t) (entries_ok (grid_from horizon axes advised) f)

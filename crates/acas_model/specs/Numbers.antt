@@ -1,11 +1,12 @@
 -- The tables `puck`, `closing`, `pilot` and `cost`.
-use Rattle.std.specs.Prelude.{ℕ, ◌*◌, codes, ℤ, Result, Ok}
+use Rattle.std.specs.Prelude.{ℕ, ◌*◌, nat_le, List, codes, ℤ, if◌then◌else◌, Result, Ok}
 use Rattle.toml.specs.Data.{Members}
-use Rattle.acas_units.specs.declared.limits.TheConstants.{LEAST_RADIUS, GREATEST_RADIUS, LEAST_HALF_HEIGHT, GREATEST_HALF_HEIGHT, LEAST_CLOSING, GREATEST_CLOSING, LEAST_PULL, GREATEST_LIMIT, LEAST_COST, GREATEST_COST}
+use Rattle.acas_units.specs.declared.limits.TheConstants.{LEAST_RADIUS, GREATEST_RADIUS, LEAST_HALF_HEIGHT, GREATEST_HALF_HEIGHT, LEAST_CLOSING, GREATEST_CLOSING, LEAST_PULL, GREATEST_LIMIT, GREATEST_DELAY, LEAST_COST, GREATEST_COST}
 use Rattle.acas_units.specs.declared.ticks.TheConstants.{TICKS_PER_FOOT}
 use Rattle.acas_spec.specs.Steps.{◌>>=◌}
 use Rattle.acas_doc.specs.Keys.{whole_at}
 use Rattle.acas_model.specs.declared.fault.ModelFault.{ModelFault}
+use Rattle.acas_model.specs.declared.numbers.TheConstants.{DELAY_VERSION}
 use Rattle.acas_base.specs.declared.numbers.Puck.{Puck}
 use Rattle.acas_base.specs.declared.numbers.Closing.{Closing}
 use Rattle.acas_base.specs.declared.numbers.Pilot.{Pilot}
@@ -36,13 +37,23 @@ closing_of doc = do
   greatest ← number_at closing (codes "closing") (codes "greatest") least GREATEST_CLOSING
   Ok (record { least = least; greatest = greatest })
 
--- the least acceleration of a pilot who follows an advisory, then the greatest, which is not below it; no file says a delay
-unfoldable pub pilot_of : Members → Result Pilot ModelFault
-pilot_of doc = do
-  pilot ← closed_table doc (codes "pilot") (codes "pull limit")
+-- the keys of `pilot` in a text of this version
+abbrev pub pilot_keys : ℕ → List ℕ
+pilot_keys version = if nat_le DELAY_VERSION version then codes "pull limit delay" else codes "pull limit"
+
+-- how long the pilot may hold the rate before following, in seconds, which is 0 where the version has no key for it
+unfoldable pub delay_of : Members → ℕ → Result ℕ ModelFault
+delay_of pilot version =
+    if nat_le DELAY_VERSION version then number_at pilot (codes "pilot") (codes "delay") 0 GREATEST_DELAY else Ok 0
+
+-- the least acceleration of a pilot who follows an advisory, then the greatest, which is not below it, then the delay
+unfoldable pub pilot_of : Members → ℕ → Result Pilot ModelFault
+pilot_of doc version = do
+  pilot ← closed_table doc (codes "pilot") (pilot_keys version)
   pull ← number_at pilot (codes "pilot") (codes "pull") LEAST_PULL GREATEST_LIMIT
   limit ← number_at pilot (codes "pilot") (codes "limit") pull GREATEST_LIMIT
-  Ok (record { pull = pull; limit = limit; delay = 0 })
+  delay ← delay_of pilot version
+  Ok (record { pull = pull; limit = limit; delay = delay })
 
 -- the cost of contact, in units
 unfoldable pub contact_of : Members → Result ℤ ModelFault
@@ -51,10 +62,10 @@ contact_of doc = do
   in_doc (whole_at cost (codes "cost") (codes "contact") LEAST_COST GREATEST_COST)
 
 -- the four tables, each in turn
-unfoldable pub numbers_of : Members → Result Numbers ModelFault
-numbers_of doc = do
+unfoldable pub numbers_of : Members → ℕ → Result Numbers ModelFault
+numbers_of doc version = do
   puck ← puck_of doc
   closing ← closing_of doc
-  pilot ← pilot_of doc
+  pilot ← pilot_of doc version
   contact ← contact_of doc
   Ok (record { puck = puck; closing = closing; pilot = pilot; contact = contact })

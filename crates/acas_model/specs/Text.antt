@@ -1,17 +1,19 @@
 -- What the text of a model says, key by key and in no order: each key holds the model's value, there are no other
 -- keys, and the model is within its limits.
-use Rattle.std.specs.Prelude.{◌≡◌, ℕ, ◌*◌, ◌<◌, List, length, map, get_or, codes, ℤ, pos, Some, IsUtf8}
+use Rattle.std.specs.Prelude.{◌≡◌, ℕ, ◌*◌, ◌<◌, ◌≤◌, List, length, map, get_or, codes, ℤ, pos, Some, IsUtf8}
 use Rattle.toml.specs.Data.{Data, Members, no_members, string, integer, array, table, get_member}
 use Rattle.toml.specs.Parse.{parse_document}
 use Rattle.toml.specs.View.{items_of}
-use Rattle.acas_units.specs.declared.limits.TheConstants.{MODEL_VERSION}
+use Rattle.acas_units.specs.declared.limits.TheConstants.{LEAST_MODEL_VERSION, GREATEST_MODEL_VERSION}
 use Rattle.acas_units.specs.declared.ticks.TheConstants.{TICKS_PER_FOOT}
 use Rattle.acas_spec.specs.Model.{ModelData, advisory_at, choices_at, sigma_at}
 use Rattle.acas_spec.specs.Limits.{IsModel}
 use Rattle.acas_doc.specs.Known.{IsUnknown}
 use Rattle.acas_model.specs.declared.fault.AxisName.{AxisName}
 use Rattle.acas_model.specs.declared.fault.AxisName.TheVariants.{Altitude, OwnRate, IntruderRate}
+use Rattle.acas_model.specs.declared.numbers.TheConstants.{DELAY_VERSION}
 use Rattle.acas_model.specs.Axes.{in_model}
+use Rattle.acas_model.specs.Numbers.{pilot_keys}
 
 -- the table has no other keys than those that a text names
 pub record HasOnly (known : List ℕ) (ms : Members) : Type 0 where
@@ -68,10 +70,12 @@ pub record IsClosingText (m : ModelData) (t : Members) : Type 0 where
   pub least : HoldsWhole t (codes "least") (pos m.least_closing)
   pub greatest : HoldsWhole t (codes "greatest") (pos m.greatest_closing)
 
--- accelerations are in ft/min per second
-pub record IsPilotText (m : ModelData) (t : Members) : Type 0 where
+-- accelerations are in ft/min per second; the delay is in seconds, and is 0 where the version has no key for it
+pub record IsPilotText (m : ModelData) (version : ℕ) (t : Members) : Type 0 where
   pub pull : HoldsWhole t (codes "pull") (pos m.pull)
   pub limit : HoldsWhole t (codes "limit") (pos m.limit)
+  pub no_delay : version < DELAY_VERSION → m.delay ≡ 0
+  pub delay : DELAY_VERSION ≤ version → HoldsWhole t (codes "delay") (pos m.delay)
 
 -- the cost of contact is in units
 pub record IsCostText (m : ModelData) (t : Members) : Type 0 where
@@ -91,26 +95,27 @@ pub record IsSigmaText (m : ModelData) (q : ℕ) (t : Members) : Type 0 where
   pub own : HoldsWhole t (codes "own") (sigma_at m q).own
   pub intruder : HoldsWhole t (codes "intruder") (sigma_at m q).intruder
 
--- the keys of the document itself
+-- the keys of the document itself; the version says what keys `pilot` has
 pub record IsDocumentText (m : ModelData) (doc : Members) : Type 0 where
   pub keys : HasOnly (codes "version horizon grid puck closing pilot cost advisory sigma") doc
-  pub version : HoldsWhole doc (codes "version") (pos MODEL_VERSION)
+  pub version : ℕ
+  pub says_version : HoldsWhole doc (codes "version") (pos version)
+  pub least_version : LEAST_MODEL_VERSION ≤ version
+  pub greatest_version : version ≤ GREATEST_MODEL_VERSION
   pub horizon : HoldsWhole doc (codes "horizon") (pos m.grid.horizon)
   pub grid : HoldsTable doc (codes "grid") (codes "altitude own_rate intruder_rate") (IsGridText m)
   pub puck : HoldsTable doc (codes "puck") (codes "radius half_height") (IsPuckText m)
   pub closing : HoldsTable doc (codes "closing") (codes "least greatest") (IsClosingText m)
-  pub pilot : HoldsTable doc (codes "pilot") (codes "pull limit") (IsPilotText m)
+  pub pilot : HoldsTable doc (codes "pilot") (pilot_keys version) (IsPilotText m version)
   pub cost : HoldsTable doc (codes "cost") (codes "contact") (IsCostText m)
   pub advisory :
       HoldsTables doc (codes "advisory") (codes "name lo hi choices costs") (length m.advisories) (IsAdvisoryText m)
   pub sigma : HoldsTables doc (codes "sigma") (codes "weight own intruder") (length m.sigmas) (IsSigmaText m)
 
--- the bytes are a text in UTF-8, a TOML document, and its keys say this model, which is within its limits; so far a
--- text cannot say that the pilot holds the rate at first
+-- the bytes are a text in UTF-8, a TOML document, and its keys say this model, which is within its limits
 pub record IsModelText (bytes : List ℕ) (m : ModelData) : Type 0 where
   pub text : IsUtf8 bytes
   pub doc : Members
   pub toml : parse_document bytes ≡ Some doc
   pub keys : IsDocumentText m doc
   pub within : IsModel m
-  pub no_delay : m.delay ≡ 0

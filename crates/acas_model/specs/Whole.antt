@@ -2,7 +2,7 @@
 -- first rule that it fails.
 use Rattle.std.specs.Prelude.{ℕ, ◌+◌, ◌*◌, List, [], length, codes, pos, nat_le, if◌then◌else◌, Result, Ok, Err}
 use Rattle.toml.specs.Data.{Members}
-use Rattle.acas_units.specs.declared.limits.TheConstants.{MODEL_VERSION, LEAST_HORIZON, GREATEST_HORIZON, WINDOW_SECONDS, GREATEST_ENTRIES}
+use Rattle.acas_units.specs.declared.limits.TheConstants.{LEAST_MODEL_VERSION, GREATEST_MODEL_VERSION, LEAST_HORIZON, GREATEST_HORIZON, WINDOW_SECONDS, GREATEST_ENTRIES}
 use Rattle.acas_spec.specs.Steps.{◌>>=◌, ◌>>◌}
 use Rattle.acas_spec.specs.Model.{GridData, ModelData, entries}
 use Rattle.acas_base.specs.View.{model_with}
@@ -20,9 +20,9 @@ use Rattle.acas_model.specs.Noise.{sigmas_of, weights}
 unfoldable pub top_keys : Members → Result (Unit {0}) ModelFault
 top_keys doc = in_doc (only_known [] (codes "version horizon grid puck closing pilot cost advisory sigma") doc)
 
--- the version, of which there is one
+-- the version, which says what keys `pilot` has
 unfoldable pub version_of : Members → Result ℕ ModelFault
-version_of doc = number_at doc [] (codes "version") MODEL_VERSION MODEL_VERSION
+version_of doc = number_at doc [] (codes "version") LEAST_MODEL_VERSION GREATEST_MODEL_VERSION
 
 -- the horizon in seconds
 unfoldable pub horizon_of : Members → Result ℕ ModelFault
@@ -54,10 +54,10 @@ grid_from horizon axes advised = record {
 unfoldable pub model_in : Members → Result ModelData ModelFault
 model_in doc = do
   top_keys doc
-  version_of doc
+  version ← version_of doc
   horizon ← horizon_of doc
   axes ← axes_of doc
-  numbers ← numbers_of doc
+  numbers ← numbers_of doc version
   advised ← advised_of doc
   sigmas ← sigmas_of doc
   weights sigmas

@@ -17,4 +17,5 @@ pub use acas_base::{Advices, Advisory, Choice, Model, Name, SigmaPoint};
 pub use acas_doc::{DocFault, DocKind, KeyText};
 pub use fault::{AxisName, ModelFault, NamePlace};
 pub use laws::texts_say_their_models;
+pub use numbers::DELAY_VERSION;
 pub use whole::read_model;

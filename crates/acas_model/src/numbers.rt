@@ -10,11 +10,15 @@ use crate::fault::ModelFault;
 use acas_base::{Closing, Numbers, Pilot, Puck};
 use acas_doc::whole;
 use acas_units::{
-    GREATEST_CLOSING, GREATEST_COST, GREATEST_HALF_HEIGHT, GREATEST_LIMIT, GREATEST_RADIUS,
-    LEAST_CLOSING, LEAST_COST, LEAST_HALF_HEIGHT, LEAST_PULL, LEAST_RADIUS, feet_to_ticks,
+    GREATEST_CLOSING, GREATEST_COST, GREATEST_DELAY, GREATEST_HALF_HEIGHT, GREATEST_LIMIT,
+    GREATEST_RADIUS, LEAST_CLOSING, LEAST_COST, LEAST_HALF_HEIGHT, LEAST_PULL, LEAST_RADIUS,
+    feet_to_ticks,
 };
 use std::alloc::Global;
 use toml::Table;
+
+/// The first version of a model's text that has a key for the pilot's delay.
+pub const DELAY_VERSION: u32 = 2;
 
 /// The table `puck`.
 #[tactic(auto, unfolding(crate::specs::Numbers::puck_table))]
@@ -88,19 +92,39 @@ fn closing_of(alloc: Global, document: &Table) -> Result<Closing, ModelFault>
     Ok(Closing { least, greatest })
 }
 
-/// What the table `pilot` says. It says no delay.
-#[tactic(auto, unfolding(crate::specs::Numbers::pilot_of))]
-fn pilot_of(alloc: Global, document: &Table) -> Result<Pilot, ModelFault>
-    ensures { Gives (λ p. p) result (rules.pilot_of (table_view document.now)) }
+/// The keys of the table `pilot` in a text of a version.
+fn pilot_keys(version: u32) -> &'static str
+    ensures { result.now ≡ rules.pilot_keys version }
 {
-    let pilot = closed_table(alloc, document, "pilot", "pull limit")?;
+    if version >= DELAY_VERSION {
+        "pull limit delay"
+    } else {
+        "pull limit"
+    }
+}
+
+/// How long the pilot may hold the rate before following, in seconds. It is 0 where the version has no key for it.
+#[tactic(auto, unfolding(crate::specs::Numbers::delay_of))]
+fn delay_of(alloc: Global, pilot: &Table, version: u32) -> Result<u32, ModelFault>
+    ensures { Gives (λ n. n) result (rules.delay_of (table_view pilot.now) version) }
+{
+    if version >= DELAY_VERSION {
+        number(alloc, pilot, b"pilot", "delay", 0, GREATEST_DELAY)
+    } else {
+        Ok(0)
+    }
+}
+
+/// What the table `pilot` says.
+#[tactic(auto, unfolding(crate::specs::Numbers::pilot_of))]
+fn pilot_of(alloc: Global, document: &Table, version: u32) -> Result<Pilot, ModelFault>
+    ensures { Gives (λ p. p) result (rules.pilot_of (table_view document.now) version) }
+{
+    let pilot = closed_table(alloc, document, "pilot", pilot_keys(version))?;
     let pull = number(alloc, pilot, b"pilot", "pull", LEAST_PULL, GREATEST_LIMIT)?;
     let limit = number(alloc, pilot, b"pilot", "limit", pull, GREATEST_LIMIT)?;
-    Ok(Pilot {
-        pull,
-        limit,
-        delay: 0,
-    })
+    let delay = delay_of(alloc, pilot, version)?;
+    Ok(Pilot { pull, limit, delay })
 }
 
 /// The cost of contact, in the table `cost`.
@@ -114,14 +138,18 @@ fn contact_of(alloc: Global, document: &Table) -> Result<i64, ModelFault>
 
 /// What the four tables say, each in turn.
 #[tactic(auto, unfolding(crate::specs::Numbers::numbers_of))]
-pub(crate) fn numbers_of(alloc: Global, document: &Table) -> Result<Numbers, ModelFault>
-    ensures value { Gives (λ n. n) result (rules.numbers_of (table_view document.now)) }
+pub(crate) fn numbers_of(
+    alloc: Global,
+    document: &Table,
+    version: u32,
+) -> Result<Numbers, ModelFault>
+    ensures value { Gives (λ n. n) result (rules.numbers_of (table_view document.now) version) }
     ensures radius { IfOk result (λ n. n.puck.radius ≤ GREATEST_RADIUS) }
     ensures least { IfOk result (λ n. n.closing.least ≤ GREATEST_CLOSING) }
 {
     let puck = puck_of(alloc, document)?;
     let closing = closing_of(alloc, document)?;
-    let pilot = pilot_of(alloc, document)?;
+    let pilot = pilot_of(alloc, document, version)?;
     let contact = contact_of(alloc, document)?;
     Ok(Numbers {
         puck,

@@ -17,8 +17,8 @@ use acas_base::Model;
 use acas_doc::only_keys;
 use acas_grid::Grid;
 use acas_units::{
-    GREATEST_ADVISORIES, GREATEST_CLOSING, GREATEST_ENTRIES, GREATEST_HORIZON, GREATEST_RADIUS,
-    LEAST_HORIZON, MODEL_VERSION, WINDOW_SECONDS,
+    GREATEST_ADVISORIES, GREATEST_CLOSING, GREATEST_ENTRIES, GREATEST_HORIZON,
+    GREATEST_MODEL_VERSION, GREATEST_RADIUS, LEAST_HORIZON, LEAST_MODEL_VERSION, WINDOW_SECONDS,
 };
 use std::alloc::Global;
 use toml::Table;
@@ -36,7 +36,7 @@ fn top_keys(alloc: Global, document: &Table) -> Result<(), ModelFault>
     )?)
 }
 
-/// The version, of which there is one.
+/// The version, which says what keys `pilot` has.
 #[tactic(auto, unfolding(crate::specs::Whole::version_of))]
 fn version_of(alloc: Global, document: &Table) -> Result<u32, ModelFault>
     ensures { Gives (λ n. n) result (rules.version_of (table_view document.now)) }
@@ -46,8 +46,8 @@ fn version_of(alloc: Global, document: &Table) -> Result<u32, ModelFault>
         document,
         b"",
         "version",
-        MODEL_VERSION,
-        MODEL_VERSION,
+        LEAST_MODEL_VERSION,
+        GREATEST_MODEL_VERSION,
     )
 }
 
@@ -139,10 +139,10 @@ fn model_in(alloc: Global, document: &Table) -> Result<Model, ModelFault>
     ensures { Gives (λ m. m) result (rules.model_in (table_view document.now)) }
 {
     top_keys(alloc, document)?;
-    version_of(alloc, document)?;
+    let version = version_of(alloc, document)?;
     let horizon = horizon_of(alloc, document)?;
     let axes = axes_of(alloc, document)?;
-    let numbers = numbers_of(alloc, document)?;
+    let numbers = numbers_of(alloc, document, version)?;
     let advised = advised_of(alloc, document)?;
     let sigmas = sigmas_of(alloc, document)?;
     weights(&sigmas)?;
@@ -154,7 +154,8 @@ fn model_in(alloc: Global, document: &Table) -> Result<Model, ModelFault>
 
 /// The model that a text says, or the first rule that the text fails. The bytes are those of a TOML document with the
 /// keys `version`, `horizon`, `grid`, `puck`, `closing`, `pilot`, `cost`, `advisory` and `sigma`; comments, inline
-/// tables, dotted keys and any order of the keys are accepted.
+/// tables, dotted keys and any order of the keys are accepted. A text of version 1 says no delay of the pilot, which is
+/// then 0; one of version 2 says it.
 #[tactic(auto, unfolding(crate::specs::Whole::model_of))]
 pub fn read_model(alloc: Global, bytes: &[u8]) -> Result<Model, ModelFault>
     ensures { Gives (λ m. m) result (rules.model_of bytes.now) }

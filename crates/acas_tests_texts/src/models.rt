@@ -4,7 +4,8 @@ use acas_model::{ModelFault, read_model};
 use std::alloc::Global;
 use std::test::Fail;
 
-const PLAIN: &str = r#"
+/// A model's text of version 1.
+pub const PLAIN: &str = r#"
 version = 1
 horizon = 2
 [grid]
@@ -135,13 +136,17 @@ fn keeps_advices(alloc: Global, model: &Model) -> bool {
     others && advices.at(2, 3) == 1
 }
 
+/// Whether a model is the one of the plain text, whatever its pilot's delay is.
+pub fn says_same(model: &Model) -> bool {
+    says_grid(model) && says_advisories(model) && says_numbers(model)
+}
+
 #[test]
 fn any_spelling_says_the_same(rt: HostRuntime) -> Result<(), Fail> {
     for text in [PLAIN, OTHER] {
         let model = read_model(rt.alloc(), text.as_bytes())?;
-        assert!(rt; says_grid(&model));
-        assert!(rt; says_advisories(&model));
-        assert!(rt; says_numbers(&model));
+        assert!(rt; says_same(&model));
+        assert_eq!(rt; model.delay(), 0);
         assert!(rt; keeps_advices(rt.alloc(), &model));
     }
     let cut = read_model(rt.alloc(), b"version = \xFF\n");

@@ -1,4 +1,4 @@
-//! The text of a small model.
+//! The text of a small model, and its models.
 use acas_model::{Model, read_model};
 use std::alloc::Global;
 
@@ -24,4 +24,12 @@ sigma = [{ weight = 1, own = 0, intruder = 0 }]
 /// That model. Its pilots hold no rate.
 pub fn four(alloc: Global) -> Option<Model> {
     read_model(alloc, FOUR.as_bytes()).ok()
+}
+
+/// The model of that text in version 2, whose pilots hold their rate for at most so many seconds.
+pub fn four_with_delay(alloc: Global, delay: u32) -> Option<Model> {
+    let pilot = format!(in alloc; "limit = 960, delay = {delay} }}").ok()?;
+    let second = FOUR.replace(alloc, "version = 1", "version = 2").ok()?;
+    let text = second.replace(alloc, "limit = 960 }", pilot.as_str()).ok()?;
+    read_model(alloc, text.as_bytes()).ok()
 }

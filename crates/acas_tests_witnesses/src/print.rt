@@ -1,5 +1,6 @@
-//! The text of a witness.
+//! The text of a witness, and of the gaps where there is none.
 use acas_frac::{Frac, print_frac};
+use acas_region::Extreme;
 use acas_witness::{Segment, Witness};
 use std::alloc::Global;
 
@@ -34,5 +35,15 @@ pub fn text_of(alloc: Global, witness: &Witness) -> Option<Vec<u8>> {
     }
     segment(&mut out, &flight.first)?;
     segment(&mut out, &flight.second)?;
+    Some(out)
+}
+
+/// The least gap in ticks and its time, and the greatest.
+pub fn gaps_of(alloc: Global, low: &Extreme, high: &Extreme) -> Option<Vec<u8>> {
+    let mut out = Vec::new(alloc);
+    word(&mut out, "least ", &low.value)?;
+    word(&mut out, " at ", &low.time)?;
+    word(&mut out, " greatest ", &high.value)?;
+    word(&mut out, " at ", &high.time)?;
     Some(out)
 }

@@ -1,7 +1,10 @@
 //! The limits of models, tables, boxes, encounters and words. Each limit is itself allowed.
 
-/// The version of a model's text.
-pub const MODEL_VERSION: u32 = 1;
+/// The least version of a model's text.
+pub const LEAST_MODEL_VERSION: u32 = 1;
+
+/// The greatest version of a model's text.
+pub const GREATEST_MODEL_VERSION: u32 = 2;
 
 /// The least number of vertices on an axis of a grid.
 pub const LEAST_VERTICES: u32 = 2;
