@@ -13,7 +13,7 @@ use Rattle.acas_cell.specs.Corners.{advice_at_vertex, advisory_cells, corners, i
 use Rattle.acas_cell.specs.Order.{IsAdvisoryCell, IsCorner, IsPlaceOrNext, IsTabledAt, cell_of}
 use Rattle.acas_cell.specs.declared.name.CellName.{CellName}
 use Rattle.acas_grid.proofs.Vertices.{vertices-one_to_one, states-one_to_one}
-use Rattle.acas_cell.proofs.Lists.{all_members, all_of, all_or_one, all_pass, any_from, in_flat_map, of_flat_map, one_of_any}
+use Rattle.acas_cell.proofs.Lists.{all_of, all_or_one, all_pass, any_from, in_flat_map, of_flat_map, one_of_any}
 use Rattle.acas_cell.proofs.Order.{in_cells, in_names, of_cells, of_names}
 
 -- ---- tests
@@ -29,9 +29,6 @@ other_number x h = grind (arith, nat_tests)
 
 not_zero : (x : ℕ) → 0 < x → (x == 0) ≡ false
 not_zero x h = grind (arith, nat_tests)
-
-some_number : (x : ℕ) → (x == 0) ≡ false → 0 < x
-some_number x h = other_number x h
 
 both_true : (x y : Bool) → x ≡ false → y ≡ true → (not x && y) ≡ true
 both_true false true h r = refl
@@ -96,10 +93,6 @@ corner_is_vertex m c y cell corner = record {
   k = place_within (length m.grid.v1) c.k y.k cell.k corner.k;
 }
 
--- each of the eight corners of a cell is a vertex of the grid
-pub corners_are_vertices : (m : ModelData) (c : Cell) → IsCellOf m c → AllByRecursion (IsVertex m.grid) (corners c.i c.j c.k)
-corners_are_vertices m c cell = all_members (IsVertex m.grid) (corners c.i c.j c.k) (λ y there. corner_is_vertex m c y cell (of_corners c y there))
-
 -- ---- what is tabled at them
 
 -- an advice at a corner is the number of an advisory
@@ -155,7 +148,7 @@ of_advisory_cells m a name there =
     let cell = of_cells m r.0 r.1 in
     let parts = parts_of (name.advice == 0) (is_at_corner m a r.0 name.advice) is.advised in
     subst (λ (c : Cell). IsCellOf m c → (is_at_corner m a c name.advice ≡ true) → IsAdvisoryCell m a name) is.cell_is
-    (λ within at. record { cell = within; not_clear = some_number name.advice parts.0; tabled = tabled_from m a (cell_of name) name.advice at })
+    (λ within at. record { cell = within; not_clear = other_number name.advice parts.0; tabled = tabled_from m a (cell_of name) name.advice at })
     cell parts.1
 
 pub in_advisory_cells : (m : ModelData) (a : AdvicesData) (name : CellName) → AreAdvices a → AreAdvicesOf m a → IsAdvisoryCell m a name → Contains (advisory_cells m a) name

@@ -1,9 +1,12 @@
 -- The time at which a rising curve is nearest the intruder.
 use Rattle.std.proofs.Common.{◌≡◌, ℕ, ◌+◌, ◌-◌, ◌*◌, ◌<◌, ◌≤◌, ⊎_elim, refl, ◌∙◌, arith, [], ◌∷◌, ℤ, pos, ◌+ℤ◌, ◌-ℤ◌, ◌*ℤ◌, ◌≤ℤ◌, ◌<ℤ◌, mul-pos, mul-le-mul_left, mul-le-mul_right, le_of_lt}
 use Rattle.std.proofs.lemmas.Int.{ints}
+use Rattle.std.specs.Int.Signed.{≤ℤ_refl}
 use Rattle.std.proofs.lemmas.Bool.{cases_lt}
+use lib.IntN.{*ℤ_comm}
+use Rattle.acas_frac.proofs.SignedProducts.{mul-le_ℤ, mul-lt_ℤ, le-from_mul_ℤ}
 use Rattle.acas_flight.proofs.IntRing.{at, ◌⊖◌, ◌⊗◌, ring}
-use Rattle.acas_flight.proofs.Orders.{mul_le_left, mul_lt_left, le_from_mul_left, by_below}
+use Rattle.acas_flight.proofs.Orders.{by_below, le_of_lt_ℤ}
 use Rattle.acas_flight.proofs.Rising.{scaled_le}
 use Rattle.acas_flight.proofs.Borders.{lift_le, lift_lt, later_by, sooner_by, sooner_at}
 use Rattle.acas_flight.specs.Window.{Times, IsDuring}
@@ -44,6 +47,12 @@ scaled_turn a b d n q h = omega (arith, mul-le-mul_right q h)
 scaled_turn' : (a b d n q : ℕ) → b * n ≤ a * d → b * (n * q * 1) ≤ a * (q * (d * 1))
 scaled_turn' a b d n q h = omega (arith, mul-le-mul_right q h)
 
+apart : (x y m : ℕ) → y ≤ x → x * m ≡ y * m + (x - y) * m
+apart x y m l = by (x - y) (omega arith)
+  where
+    by : (c : ℕ) → x ≡ y + c → x * m ≡ y * m + (x - y) * m
+    by c e = let z : x - y ≡ c = omega arith in rw (z, e) (omega arith)
+
 turn_nat : (k : ℤ) (x y b g : ℕ) → y ≤ x → pos (g * b) +ℤ ((k -ℤ pos y) -ℤ (k -ℤ pos x)) ≡ pos (g * b + (x - y))
 turn_nat k x y b g h = omega (arith, ints)
 
@@ -58,12 +67,6 @@ module _ (k : ℤ) (b g : ℕ) (h : ℤ) (sb : 0 < b) (d n : ℕ) (sd : 0 < d) w
       line w k x u h = omega (arith, ints)
 
   module _ (q t : ℕ) (p : 0 < q) where
-    abbrev Q : ℕ
-    Q = q * (d * 1)
-
-    abbrev S : ℕ
-    S = n * q * 1
-
     some : 0 < q * (d * 1)
     some = mul-pos p (omega arith)
 
@@ -79,12 +82,6 @@ module _ (k : ℤ) (b g : ℕ) (h : ℤ) (sb : 0 < b) (d n : ℕ) (sd : 0 < d) w
       where
         line : (k : ℤ) (x y c u : ℕ) → x ≡ y + c → c ≤ u → (k -ℤ pos y) ≤ℤ (k -ℤ pos (x - u))
         line k x y c u e h = omega (arith, ints)
-
-        apart : (x y m : ℕ) → y ≤ x → x * m ≡ y * m + (x - y) * m
-        apart x y m l = by (x - y) (omega arith)
-          where
-            by : (c : ℕ) → x ≡ y + c → x * m ≡ y * m + (x - y) * m
-            by c e = let z : x - y ≡ c = omega arith in rw (z, e) (omega arith)
 
     sooner_turned : (x y : ℕ) → y < x → b * n ≤ (g * b + (x - y)) * d → t < n * q * 1 →
         border_gap (border_of (k -ℤ pos x) k b g h (k -ℤ pos y)) (q * (d * 1)) (n * q * 1) <ℤ border_gap (border_of (k -ℤ pos x) k b g h (k -ℤ pos y)) (q * (d * 1)) t
@@ -116,18 +113,9 @@ module _ (k : ℤ) (b g : ℕ) (h : ℤ) (sb : 0 < b) (d n : ℕ) (sd : 0 < d) w
         both : (m n : ℕ) → m ≤ n → n ≤ m → m ≡ n
         both m n h k = omega arith
 
-        apart : (x y m : ℕ) → y ≤ x → x * m ≡ y * m + (x - y) * m
-        apart x y m l = by (x - y) (omega arith)
-          where
-            by : (c : ℕ) → x ≡ y + c → x * m ≡ y * m + (x - y) * m
-            by c e = let z : x - y ≡ c = omega arith in rw (z, e) (omega arith)
-
 -- the test of the turn in natural numbers
-turn_least : (a b d n : ℕ) → (pos a *ℤ pos d) ≤ℤ (pos b *ℤ pos n) → a * d ≤ b * n
-turn_least a b d n h = omega (arith, ints)
-
-turn_most : (a b d n : ℕ) → (pos b *ℤ pos n) ≤ℤ (pos a *ℤ pos d) → b * n ≤ a * d
-turn_most a b d n h = omega (arith, ints)
+products_le : (a b d n : ℕ) → (pos a *ℤ pos d) ≤ℤ (pos b *ℤ pos n) → a * d ≤ b * n
+products_le a b d n h = omega (arith, ints)
 
 module _ (k : ℤ) (b g : ℕ) (h : ℤ) (sb : 0 < b) (time : Fraction) (n : ℕ) (en : time.num ≡ pos n) (sd : 0 < time.den) where
   pub later : (x : ℕ) (w : ℤ) → IsLate (border_of (k -ℤ pos x) k b g h w) time → (q t : ℕ) → 0 < q → n * q * 1 ≤ t →
@@ -143,7 +131,7 @@ module _ (k : ℤ) (b g : ℕ) (h : ℤ) (sb : 0 < b) (time : Fraction) (n : ℕ
       turned y e over i =
           let less : y < x = omega (arith, ints) in
           let i' = rw (e, en, turn_nat k x y b g (le_of_lt less)) at i in
-          rw e (later_turned k b g h sb time.den n sd q t p x y less (turn_least (g * b + (x - y)) b time.den n i') o)
+          rw e (later_turned k b g h sb time.den n sd q t p x y less (products_le (g * b + (x - y)) b time.den n i') o)
 
   pub sooner : (x : ℕ) (w : ℤ) → IsSoon (border_of (k -ℤ pos x) k b g h w) time → (q t : ℕ) → 0 < q → t < n * q * 1 →
       border_gap (border_of (k -ℤ pos x) k b g h w) (q * (time.den * 1)) (n * q * 1) <ℤ border_gap (border_of (k -ℤ pos x) k b g h w) (q * (time.den * 1)) t
@@ -160,45 +148,39 @@ module _ (k : ℤ) (b g : ℕ) (h : ℤ) (sb : 0 < b) (time : Fraction) (n : ℕ
           line a b u h = omega (arith, ints)
 
           strictly : (a b : ℤ) (m : ℕ) → 0 < m → a <ℤ b → (a *ℤ pos m) <ℤ (b *ℤ pos m)
-          strictly a b m s h = let l = mul_lt_left m a b s h in rw (turn_round a m, turn_round b m) l
-            where
-              turn_round : (a : ℤ) (m : ℕ) → a *ℤ pos m ≡ pos m *ℤ a
-              turn_round a m = ring (a ∷ pos m ∷ []) (at 0 ⊗ at 1) (at 1 ⊗ at 0) refl
+          strictly a b m s h = let l = mul-lt_ℤ m a b s h in rw (*ℤ_comm a (pos m), *ℤ_comm b (pos m)) l
 
       turned : (y : ℕ) → w ≡ k -ℤ pos y → (k -ℤ pos x) <ℤ w → (pos b *ℤ time.num) ≤ℤ (turn (border_of (k -ℤ pos x) k b g h w) *ℤ pos time.den) →
           border_gap (border_of (k -ℤ pos x) k b g h w) (q * (time.den * 1)) (n * q * 1) <ℤ border_gap (border_of (k -ℤ pos x) k b g h w) (q * (time.den * 1)) t
       turned y e over i =
           let less : y < x = omega (arith, ints) in
           let i' = rw (e, en, turn_nat k x y b g (le_of_lt less)) at i in
-          rw e (sooner_turned k b g h sb time.den n sd q t p x y less (turn_most (g * b + (x - y)) b time.den n i') o)
+          rw e (sooner_turned k b g h sb time.den n sd q t p x y less (products_le b (g * b + (x - y)) n time.den i') o)
 
 -- ---- times of the window
 
+chain : (m n o p r s : ℤ) → m ≡ n → n ≤ℤ o → o ≡ p → p ≤ℤ r → r ≡ s → m ≤ℤ s
+chain m n o p r s e h f k g = omega (arith, ints)
+
 pub upto : (a c : ℤ) (d e q t : ℕ) → 0 < e → pos (t * e) ≤ℤ (a *ℤ pos q) → (a *ℤ pos d) ≤ℤ (c *ℤ pos e) → pos (t * d) ≤ℤ (c *ℤ pos q)
 upto a c d e q t s h k =
-    le_from_mul_left e (pos (t * d)) (c *ℤ pos q) s
+    le-from_mul_ℤ e (pos (t * d)) (c *ℤ pos q) s
     (chain _ _ _ _ _ _
     (ring (pos e ∷ pos t ∷ pos d ∷ []) (at 0 ⊗ (at 1 ⊗ at 2)) (at 2 ⊗ (at 1 ⊗ at 0)) refl)
-    (mul_le_left d (pos (t * e)) (a *ℤ pos q) h)
+    (mul-le_ℤ d (pos (t * e)) (a *ℤ pos q) h)
     (ring (a ∷ pos d ∷ pos q ∷ []) (at 1 ⊗ (at 0 ⊗ at 2)) (at 2 ⊗ (at 0 ⊗ at 1)) refl)
-    (mul_le_left q (a *ℤ pos d) (c *ℤ pos e) k)
+    (mul-le_ℤ q (a *ℤ pos d) (c *ℤ pos e) k)
     (ring (c ∷ pos e ∷ pos q ∷ []) (at 2 ⊗ (at 0 ⊗ at 1)) (at 1 ⊗ (at 0 ⊗ at 2)) refl))
-  where
-    chain : (m n o p r s : ℤ) → m ≡ n → n ≤ℤ o → o ≡ p → p ≤ℤ r → r ≡ s → m ≤ℤ s
-    chain m n o p r s e h f k g = omega (arith, ints)
 
 pub since : (a c : ℤ) (d e q t : ℕ) → 0 < e → (a *ℤ pos q) ≤ℤ pos (t * e) → (c *ℤ pos e) ≤ℤ (a *ℤ pos d) → (c *ℤ pos q) ≤ℤ pos (t * d)
 since a c d e q t s h k =
-    le_from_mul_left e (c *ℤ pos q) (pos (t * d)) s
+    le-from_mul_ℤ e (c *ℤ pos q) (pos (t * d)) s
     (chain _ _ _ _ _ _
     (ring (c ∷ pos e ∷ pos q ∷ []) (at 1 ⊗ (at 0 ⊗ at 2)) (at 2 ⊗ (at 0 ⊗ at 1)) refl)
-    (mul_le_left q (c *ℤ pos e) (a *ℤ pos d) k)
+    (mul-le_ℤ q (c *ℤ pos e) (a *ℤ pos d) k)
     (ring (a ∷ pos d ∷ pos q ∷ []) (at 2 ⊗ (at 0 ⊗ at 1)) (at 1 ⊗ (at 0 ⊗ at 2)) refl)
-    (mul_le_left d (a *ℤ pos q) (pos (t * e)) h)
+    (mul-le_ℤ d (a *ℤ pos q) (pos (t * e)) h)
     (ring (pos e ∷ pos t ∷ pos d ∷ []) (at 2 ⊗ (at 1 ⊗ at 0)) (at 0 ⊗ (at 1 ⊗ at 2)) refl))
-  where
-    chain : (m n o p r s : ℤ) → m ≡ n → n ≤ℤ o → o ≡ p → p ≤ℤ r → r ≡ s → m ≤ℤ s
-    chain m n o p r s e h f k g = omega (arith, ints)
 
 -- The best time's gap is the least, and the time is the earliest.
 pub best_least : (v k : ℤ) (b g : ℕ) (h w : ℤ) (win : Times) (time y : Fraction) (n : ℕ) → v ≤ℤ k → 0 < b → time.num ≡ pos n → 0 < time.den → 0 < win.from.den → 0 < win.to.den → 0 < y.den →
@@ -211,16 +193,10 @@ best_least v k b g h w win time y n o sb en sd sf st sy val best = by_below k v 
       before = best.before;
       value = val;
       least = λ q t p i. lift_le (border_of (k -ℤ pos x) k b g h w) time y val n en q t 1 p (omega arith)
-          (⊎_elim (λ (l : t * (time.den * 1) < n * q * 1). weaker _ _ (sooner_in q t p i l)) (λ (l : n * q * 1 ≤ t * (time.den * 1)). later_in q t p i l) (cases_lt (t * (time.den * 1)) (n * q * 1)));
+          (⊎_elim (λ (l : t * (time.den * 1) < n * q * 1). le_of_lt_ℤ _ _ (sooner_in q t p i l)) (λ (l : n * q * 1 ≤ t * (time.den * 1)). later_in q t p i l) (cases_lt (t * (time.den * 1)) (n * q * 1)));
       earliest = λ q t p i l. lift_lt (border_of (k -ℤ pos x) k b g h w) time y val n en q t 1 p (omega arith) sy (sooner_in q t p i (early q t l));
     }
       where
-        equal : (a : ℤ) → a ≤ℤ a
-        equal a = omega (arith, ints)
-
-        weaker : (a b : ℤ) → a <ℤ b → a ≤ℤ b
-        weaker a b h = omega (arith, ints)
-
         early : (q t : ℕ) → pos (t * time.den) <ℤ (time.num *ℤ pos q) → t * (time.den * 1) < n * q * 1
         early q t l = let l' = rw en at l in omega (arith, ints)
 
@@ -240,5 +216,5 @@ best_least v k b g h w win time y n o sb en sd sf st sy val best = by_below k v 
             (λ (a : (win.to.num *ℤ pos time.den) ≤ℤ (time.num *ℤ pos win.to.den)).
             let c = rw en at (upto win.to.num time.num time.den win.to.den q t st i.1 a) in
             let same : n * q * 1 ≡ t * (time.den * 1) = (let m : t * time.den ≤ n * q = omega (arith, ints) in omega arith) in
-            rw same (equal (border_gap (border_of (k -ℤ pos x) k b g h w) (q * (time.den * 1)) (t * (time.den * 1)))))
+            rw same (≤ℤ_refl (border_gap (border_of (k -ℤ pos x) k b g h w) (q * (time.den * 1)) (t * (time.den * 1)))))
             best.late

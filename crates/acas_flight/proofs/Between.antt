@@ -1,10 +1,10 @@
 -- Each response that meets an advisory climbs between the two curves.
-use Rattle.std.proofs.Common.{◌≡◌, ℕ, ◌+◌, ◌-◌, ◌*◌, ◌<◌, ◌≤◌, ⊎_elim, refl, sym, ap, arith, true, false, cond, List, [], ◌∷◌, ℤ, pos, ◌+ℤ◌, ◌-ℤ◌, ◌*ℤ◌, ◌≤ℤ◌, ◌<ℤ◌, neg_ℤ, int_lt}
+use Rattle.std.proofs.Common.{◌≡◌, ℕ, ◌+◌, ◌-◌, ◌*◌, ◌<◌, ◌≤◌, ⊎_elim, sym, ap, arith, true, false, cond, List, [], ◌∷◌, ℤ, pos, ◌+ℤ◌, ◌-ℤ◌, ◌*ℤ◌, ◌≤ℤ◌, ◌<ℤ◌, neg_ℤ, int_lt}
 use Rattle.std.proofs.lemmas.Int.{ints}
 use lib.IntN.{*ℤ_comm}
-use Rattle.acas_flight.proofs.IntRing.{at, num, ◌⊕◌, ◌⊖◌, ◌⊗◌, ring, mul_neg_ℤ}
-use Rattle.acas_flight.proofs.Orders.{mul_le_left, by_above, by_below, cases_lt_ℤ}
-use Rattle.acas_flight.proofs.Curves.{approach_below, approach_above}
+use Rattle.acas_frac.proofs.SignedProducts.{mul-le_ℤ, mul-neg_ℤ}
+use Rattle.acas_flight.proofs.Orders.{by_above, by_below, cases_lt_ℤ}
+use Rattle.acas_flight.proofs.Curves.{approach-at_once}
 use Rattle.acas_flight.proofs.Steps.{piece, low_stays_below, low_goes_above, low_stays_above, steady_at_most}
 use Rattle.acas_flight.specs.Response.{Segment, Demand, rate_after, climb, lasting, Follows, FollowsThroughout}
 use Rattle.acas_flight.specs.Parts.{CanBeMet}
@@ -25,19 +25,6 @@ low_pull-above a v h = ap (λ t. cond t a.pull a.limit) (test_ge v a.lo h)
 -- b times the climb z is at or above the approach
 abbrev pub OnOrAbove : ℤ → ℤ → ℕ → ℤ → ℕ → Type 0
 OnOrAbove v k t z b = approach v k b t ≤ℤ (z *ℤ pos b)
-
-pub approach-at_zero : (v k : ℤ) (b : ℕ) → approach v k b 0 ≡ pos 0
-approach-at_zero v k b = ⊎_elim (λ h. by_below k v (omega (arith, ints)) under) (λ h. by_above k v h over) (cases_lt_ℤ v k)
-  where
-    under : (x : ℕ) → v ≡ k -ℤ pos x → approach v k b 0 ≡ pos 0
-    under x e =
-        let same : x - b * 0 ≡ x = omega arith in
-        rw (e, approach_below k x b 0, same) (ring (k ∷ pos x ∷ pos b ∷ []) (((((num (pos 2) ⊗ at 0) ⊗ num (pos 0)) ⊗ at 2) ⊖ (at 1 ⊗ at 1)) ⊕ (at 1 ⊗ at 1)) (num (pos 0)) refl)
-
-    over : (x : ℕ) → v ≡ k +ℤ pos x → approach v k b 0 ≡ pos 0
-    over x e =
-        let same : x - b * 0 ≡ x = omega arith in
-        rw (e, approach_above k x b 0, same) (ring (k ∷ pos x ∷ pos b ∷ []) (((((num (pos 2) ⊗ at 0) ⊗ num (pos 0)) ⊗ at 2) ⊕ (at 1 ⊗ at 1)) ⊖ (at 1 ⊗ at 1)) (num (pos 0)) refl)
 
 -- one more piece from the rate v to the rate w, of the duration d, before a flight that climbs z in the time t
 module _ (k : ℤ) (pull limit d t : ℕ) (v w z : ℤ) where
@@ -69,14 +56,14 @@ module _ (k : ℤ) (pull limit d t : ℕ) (v w z : ℤ) where
 
 pub at_least_pull : (v c : ℤ) (p d : ℕ) → pos p ≤ℤ c → (v +ℤ pos (p * d)) ≤ℤ (v +ℤ (c *ℤ pos d))
 at_least_pull v c p d h =
-    let k = mul_le_left d (pos p) c h in
+    let k = mul-le_ℤ d (pos p) c h in
     let turned : pos d *ℤ c ≡ c *ℤ pos d = *ℤ_comm (pos d) c in
     let k' = rw turned at k in
     omega (arith, ints)
 
 pub at_least_limit : (v c : ℤ) (p d : ℕ) → neg_ℤ (pos p) ≤ℤ c → (v -ℤ pos (p * d)) ≤ℤ (v +ℤ (c *ℤ pos d))
 at_least_limit v c p d h =
-    let k = rw mul_neg_ℤ at (mul_le_left d (neg_ℤ (pos p)) c h) in
+    let k = rw mul-neg_ℤ at (mul-le_ℤ d (neg_ℤ (pos p)) c h) in
     let turned : pos d *ℤ c ≡ c *ℤ pos d = *ℤ_comm (pos d) c in
     let k' = rw turned at k in
     omega (arith, ints)
@@ -88,12 +75,6 @@ module _ (a : Demand) (fine : CanBeMet a) where
       OnOrAbove v a.lo (s.duration + t) (((v +ℤ rate_after v s) *ℤ pos s.duration) +ℤ z) (low_pull a v)
   one_more v s t z f low = ⊎_elim from_below from_above (cases_lt_ℤ v a.lo)
     where
-      w : ℤ
-      w = rate_after v s
-
-      Goal : Type 0
-      Goal = OnOrAbove v a.lo (s.duration + t) (((v +ℤ rate_after v s) *ℤ pos s.duration) +ℤ z) (low_pull a v)
-
       from_below : v <ℤ a.lo → OnOrAbove v a.lo (s.duration + t) (((v +ℤ rate_after v s) *ℤ pos s.duration) +ℤ z) (low_pull a v)
       from_below h =
           let far = at_least_pull v s.acceleration a.pull s.duration (f.from_below h).0 in
@@ -114,7 +95,7 @@ module _ (a : Demand) (fine : CanBeMet a) where
 
   -- a response that follows throughout
   pub follows_above : (v : ℤ) (r : List Segment) → FollowsThroughout a v r → OnOrAbove v a.lo (lasting r) (climb v r) (low_pull a v)
-  follows_above v [] f = rw (approach-at_zero v a.lo (low_pull a v)) (nothing (low_pull a v))
+  follows_above v [] f = rw (approach-at_once v a.lo (low_pull a v)) (nothing (low_pull a v))
     where
       nothing : (b : ℕ) → pos 0 ≤ℤ (pos 0 *ℤ pos b)
       nothing b = omega (arith, ints)

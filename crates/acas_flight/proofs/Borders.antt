@@ -2,8 +2,8 @@
 use Rattle.std.proofs.Common.{◌≡◌, ℕ, ◌-◌, ◌*◌, ◌<◌, ◌≤◌, refl, sym, ap, ap₂, ◌∙◌, arith, [], ◌∷◌, ℤ, pos, ◌-ℤ◌, ◌*ℤ◌, ◌≤ℤ◌, ◌<ℤ◌, mul-pos}
 use Rattle.std.proofs.lemmas.Int.{ints}
 use lib.IntN.{*ℤ_comm}
-use Rattle.acas_flight.proofs.IntRing.{at, num, ◌⊕◌, ◌⊖◌, ◌⊗◌, ring}
-use Rattle.acas_flight.proofs.Orders.{mul_le_left, mul_lt_left, le_from_mul_left, lt_from_mul_left}
+use Rattle.acas_frac.proofs.SignedProducts.{mul-le_ℤ, mul-lt_ℤ, le-from_mul_ℤ, lt-from_mul_ℤ}
+use Rattle.acas_flight.proofs.IntRing.{at, num, ◌⊕◌, ◌⊖◌, ◌⊗◌, ring, sub-mul_ℤ}
 use Rattle.acas_flight.proofs.Held.{held-scaled}
 use Rattle.acas_flight.proofs.Tangents.{gap, least_of_later, earlier_is_greater, earlier_than_slower}
 use Rattle.acas_flight.specs.Contact.{vertical_separation}
@@ -20,10 +20,10 @@ border_gap-gap s q t = ring (curve s q t ∷ pos s.pull ∷ pos q ∷ s.height �
     ((at 0 ⊖ (((num (pos 2) ⊗ (at 4 ⊗ (at 2 ⊗ at 2))) ⊗ at 5) ⊗ (at 1 ⊗ at 2))) ⊖ ((at 1 ⊗ at 2) ⊗ ((at 3 ⊗ at 2) ⊗ (at 2 ⊗ at 2))))
     refl
 
-le_by : (a b x y c : ℤ) → a ≡ x -ℤ c → b ≡ y -ℤ c → x ≤ℤ y → a ≤ℤ b
+pub le_by : (a b x y c : ℤ) → a ≡ x -ℤ c → b ≡ y -ℤ c → x ≤ℤ y → a ≤ℤ b
 le_by a b x y c e f h = omega (arith, ints)
 
-lt_by : (a b x y c : ℤ) → a ≡ x -ℤ c → b ≡ y -ℤ c → x <ℤ y → a <ℤ b
+pub lt_by : (a b x y c : ℤ) → a ≡ x -ℤ c → b ≡ y -ℤ c → x <ℤ y → a <ℤ b
 lt_by a b x y c e f h = omega (arith, ints)
 
 -- ---- scales
@@ -38,16 +38,13 @@ border_gap-scaled s q t m =
     ((at 0 ⊗ (at 1 ⊗ at 2)) ⊗ ((((at 3 ⊗ (at 1 ⊗ at 2)) ⊗ ((at 1 ⊗ at 2) ⊗ (at 1 ⊗ at 2))) ⊕ (((num (pos 2) ⊗ (at 4 ⊗ (at 1 ⊗ at 2))) ⊗ (at 5 ⊗ at 2)) ⊗ (at 1 ⊗ at 2))) ⊖ num (pos 0)))
     (((at 0 ⊗ at 1) ⊗ ((((at 3 ⊗ at 1) ⊗ (at 1 ⊗ at 1)) ⊕ (((num (pos 2) ⊗ (at 4 ⊗ at 1)) ⊗ at 5) ⊗ at 1)) ⊖ num (pos 0))) ⊗ ((at 2 ⊗ at 2) ⊗ (at 2 ⊗ at 2)))
     refl)
-    ∙ split (curve s q t) (pos (s.pull * q) *ℤ vertical_separation q (s.height *ℤ pos q) (s.rate *ℤ pos q) t (pos 0)) (pos ((m * m) * (m * m)))
+    ∙ sym (sub-mul_ℤ (curve s q t) (pos (s.pull * q) *ℤ vertical_separation q (s.height *ℤ pos q) (s.rate *ℤ pos q) t (pos 0)) (pos ((m * m) * (m * m))))
   where
     out : (v : ℤ) → v *ℤ pos ((q * m) * (q * m)) ≡ (v *ℤ pos (q * q)) *ℤ pos (m * m)
     out v = ring (v ∷ pos q ∷ pos m ∷ []) (at 0 ⊗ ((at 1 ⊗ at 2) ⊗ (at 1 ⊗ at 2))) ((at 0 ⊗ (at 1 ⊗ at 1)) ⊗ (at 2 ⊗ at 2)) refl
 
     along : (b : ℕ) → b * (q * m) ≡ (b * q) * m
     along b = omega arith
-
-    split : (a b c : ℤ) → (a *ℤ c) -ℤ (b *ℤ c) ≡ (a -ℤ b) *ℤ c
-    split a b c = ring (a ∷ b ∷ c ∷ []) ((at 0 ⊗ at 2) ⊖ (at 1 ⊗ at 2)) ((at 0 ⊖ at 1) ⊗ at 2) refl
 
 -- what holds of the numbers over q * m holds over q
 module _ (s : Border) (time y : Fraction) (val : IsGapAt s time y) (n : ℕ) (en : time.num ≡ pos n) where
@@ -72,24 +69,18 @@ module _ (s : Border) (time y : Fraction) (val : IsGapAt s time y) (n : ℕ) (en
   pub lift_le : (q t e : ℕ) → 0 < q → 0 < time.den * e → border_gap s (q * (time.den * e)) (n * q * e) ≤ℤ border_gap s (q * (time.den * e)) (t * (time.den * e)) →
       (y.num *ℤ pos (q * q * q * (s.pull * q))) ≤ℤ (border_gap s q t *ℤ pos y.den)
   lift_le q t e p pm h =
-      le_from_mul_left (((time.den * e) * (time.den * e)) * ((time.den * e) * (time.den * e))) (y.num *ℤ pos (q * q * q * (s.pull * q))) (border_gap s q t *ℤ pos y.den) (mul-pos (mul-pos pm pm) (mul-pos pm pm))
-      (rw (near q e (mul-pos p pm), far q t (time.den * e)) (mul_le_left y.den (border_gap s (q * (time.den * e)) (n * q * e)) (border_gap s (q * (time.den * e)) (t * (time.den * e))) h))
+      le-from_mul_ℤ (((time.den * e) * (time.den * e)) * ((time.den * e) * (time.den * e))) (y.num *ℤ pos (q * q * q * (s.pull * q))) (border_gap s q t *ℤ pos y.den) (mul-pos (mul-pos pm pm) (mul-pos pm pm))
+      (rw (near q e (mul-pos p pm), far q t (time.den * e)) (mul-le_ℤ y.den (border_gap s (q * (time.den * e)) (n * q * e)) (border_gap s (q * (time.den * e)) (t * (time.den * e))) h))
 
   pub lift_lt : (q t e : ℕ) → 0 < q → 0 < time.den * e → 0 < y.den → border_gap s (q * (time.den * e)) (n * q * e) <ℤ border_gap s (q * (time.den * e)) (t * (time.den * e)) →
       (y.num *ℤ pos (q * q * q * (s.pull * q))) <ℤ (border_gap s q t *ℤ pos y.den)
   lift_lt q t e p pm py h =
-      lt_from_mul_left (((time.den * e) * (time.den * e)) * ((time.den * e) * (time.den * e))) (y.num *ℤ pos (q * q * q * (s.pull * q))) (border_gap s q t *ℤ pos y.den)
-      (rw (near q e (mul-pos p pm), far q t (time.den * e)) (mul_lt_left y.den (border_gap s (q * (time.den * e)) (n * q * e)) (border_gap s (q * (time.den * e)) (t * (time.den * e))) py h))
+      lt-from_mul_ℤ (((time.den * e) * (time.den * e)) * ((time.den * e) * (time.den * e))) (y.num *ℤ pos (q * q * q * (s.pull * q))) (border_gap s q t *ℤ pos y.den)
+      (rw (near q e (mul-pos p pm), far q t (time.den * e)) (mul-lt_ℤ y.den (border_gap s (q * (time.den * e)) (n * q * e)) (border_gap s (q * (time.den * e)) (t * (time.den * e))) py h))
 
 -- ---- a rising curve, over one denominator q
 
 module _ (k : ℤ) (x b g : ℕ) (h w : ℤ) (q : ℕ) (sq : 0 < q) (sb : 0 < b) where
-  abbrev border : Border
-  border = border_of (k -ℤ pos x) k b g h w
-
-  abbrev K : ℤ
-  K = k *ℤ pos (q * q)
-
   low : (t : ℕ) → curve (border_of (k -ℤ pos x) k b g h w) q t ≡ held ((k *ℤ pos (q * q)) -ℤ pos (x * (q * q))) (k *ℤ pos (q * q)) (b * q) (g * q) t
   low t = ap (λ v. held v (k *ℤ pos (q * q)) (b * q) (g * q) t) (ring (k ∷ pos x ∷ pos q ∷ []) ((at 0 ⊖ at 1) ⊗ (at 2 ⊗ at 2)) ((at 0 ⊗ (at 2 ⊗ at 2)) ⊖ (at 1 ⊗ (at 2 ⊗ at 2))) refl)
 

@@ -9,11 +9,11 @@ use Rattle.acas_flight.specs.Contact.{IsHorizontalContact}
 use Rattle.acas_flight.specs.Window.{IsContactTimeOfBox}
 
 -- a range and a closing speed over q that are within the intervals of a box
-record IsInSpans (near far slow fast q range speed : ℕ) : Type 0 where
-  not_near : near * q ≤ range
-  not_far : range ≤ far * q
-  not_slow : slow * q ≤ speed
-  not_fast : speed ≤ fast * q
+pub record IsInSpans (near far slow fast q range speed : ℕ) : Type 0 where
+  pub not_near : near * q ≤ range
+  pub not_far : range ≤ far * q
+  pub not_slow : slow * q ≤ speed
+  pub not_fast : speed ≤ fast * q
 
 -- from (near - radius) / fast, or 0, to (far + radius) / slow
 abbrev pub IsTimeOfBox : ℕ → ℕ → ℕ → ℕ → ℕ → ℕ → ℕ → Type 0

@@ -2,11 +2,13 @@
 use Rattle.std.proofs.Common.{◌≡◌, ℕ, ◌*◌, ◌<◌, ◌≤◌, ◌⊎◌, inl, inr, ⊎_elim, refl, sym, ap, ◌∙◌, arith, [], ◌∷◌, ℤ, pos, ◌+ℤ◌, ◌-ℤ◌, ◌*ℤ◌, ◌≤ℤ◌, ◌<ℤ◌, mul-pos, mul-le-mul_right}
 use native.Mathlib.Nat.{mul-lt-mul_of_pos_left}
 use Rattle.std.proofs.lemmas.Int.{ints}
+use Rattle.std.specs.Int.Signed.{≤ℤ_refl, <ℤ-≤ℤ_trans}
+use Rattle.acas_frac.proofs.SignedProducts.{le-trans_ℤ, mul-le_ℤ, mul-lt_ℤ, le-from_mul_ℤ, lt-from_mul_ℤ}
 use Rattle.acas_flight.proofs.IntRing.{at, ◌⊕◌, ◌⊗◌, ring}
-use Rattle.acas_flight.proofs.Orders.{mul_le_left, mul_lt_left, le_from_mul_left, lt_from_mul_left, by_above}
+use Rattle.acas_flight.proofs.Orders.{by_above, le_of_lt_ℤ}
 use Rattle.acas_flight.proofs.Holding.{held-none}
 use Rattle.acas_flight.proofs.Tangents.{gap, least_at_an_end, least_at_an_end_strict}
-use Rattle.acas_flight.proofs.Borders.{lift_le, lift_lt, border_gap-gap}
+use Rattle.acas_flight.proofs.Borders.{le_by, lt_by, lift_le, lift_lt, border_gap-gap}
 use Rattle.acas_flight.specs.Curves.{approach, held}
 use Rattle.acas_flight.specs.Window.{Times, IsDuring}
 use Rattle.acas_flight.specs.Values.{IsAtMost}
@@ -16,21 +18,21 @@ use Rattle.acas_frac.specs.Fraction.{Fraction}
 -- two gaps over one denominator, by their values
 gaps_le : (c : ℕ) (a m b n : ℤ) (d e : ℕ) → 0 < d → 0 < e → m *ℤ pos c ≡ a *ℤ pos d → n *ℤ pos c ≡ b *ℤ pos e → (m *ℤ pos e) ≤ℤ (n *ℤ pos d) → a ≤ℤ b
 gaps_le c a m b n d e pd pe f g h =
-    le_from_mul_left (d * e) a b (mul-pos pd pe)
+    le-from_mul_ℤ (d * e) a b (mul-pos pd pe)
     (rw (
       ring (pos d ∷ pos e ∷ a ∷ []) ((at 0 ⊗ at 1) ⊗ at 2) ((at 2 ⊗ at 0) ⊗ at 1) refl ∙ ap (λ z. z *ℤ pos e) (sym f) ∙ ring (m ∷ pos c ∷ pos e ∷ []) ((at 0 ⊗ at 1) ⊗ at 2) (at 1 ⊗ (at 0 ⊗ at 2)) refl,
       ring (pos d ∷ pos e ∷ b ∷ []) ((at 0 ⊗ at 1) ⊗ at 2) ((at 2 ⊗ at 1) ⊗ at 0) refl ∙ ap (λ z. z *ℤ pos d) (sym g) ∙ ring (n ∷ pos c ∷ pos d ∷ []) ((at 0 ⊗ at 1) ⊗ at 2) (at 1 ⊗ (at 0 ⊗ at 2)) refl,
     )
-    (mul_le_left c (m *ℤ pos e) (n *ℤ pos d) h))
+    (mul-le_ℤ c (m *ℤ pos e) (n *ℤ pos d) h))
 
 gaps_lt : (c : ℕ) (a m b n : ℤ) (d e : ℕ) → 0 < c → m *ℤ pos c ≡ a *ℤ pos d → n *ℤ pos c ≡ b *ℤ pos e → (m *ℤ pos e) <ℤ (n *ℤ pos d) → a <ℤ b
 gaps_lt c a m b n d e pc f g h =
-    lt_from_mul_left (d * e) a b
+    lt-from_mul_ℤ (d * e) a b
     (rw (
       ring (pos d ∷ pos e ∷ a ∷ []) ((at 0 ⊗ at 1) ⊗ at 2) ((at 2 ⊗ at 0) ⊗ at 1) refl ∙ ap (λ z. z *ℤ pos e) (sym f) ∙ ring (m ∷ pos c ∷ pos e ∷ []) ((at 0 ⊗ at 1) ⊗ at 2) (at 1 ⊗ (at 0 ⊗ at 2)) refl,
       ring (pos d ∷ pos e ∷ b ∷ []) ((at 0 ⊗ at 1) ⊗ at 2) ((at 2 ⊗ at 1) ⊗ at 0) refl ∙ ap (λ z. z *ℤ pos d) (sym g) ∙ ring (n ∷ pos c ∷ pos d ∷ []) ((at 0 ⊗ at 1) ⊗ at 2) (at 1 ⊗ (at 0 ⊗ at 2)) refl,
     )
-    (mul_lt_left c (m *ℤ pos e) (n *ℤ pos d) pc h))
+    (mul-lt_ℤ c (m *ℤ pos e) (n *ℤ pos d) pc h))
 
 module _ (k : ℤ) (u b : ℕ) (h w : ℤ) (q : ℕ) where
   gap_high : (t : ℕ) → border_gap (border_of (k +ℤ pos u) k b 0 h w) q t
@@ -44,12 +46,6 @@ module _ (k : ℤ) (u b : ℕ) (h w : ℤ) (q : ℕ) where
     where
       none : 0 * q ≡ 0
       none = omega arith
-
-  le_by : (a b x y c : ℤ) → a ≡ x -ℤ c → b ≡ y -ℤ c → x ≤ℤ y → a ≤ℤ b
-  le_by a b x y c e f h = omega (arith, ints)
-
-  lt_by : (a b x y c : ℤ) → a ≡ x -ℤ c → b ≡ y -ℤ c → x <ℤ y → a <ℤ b
-  lt_by a b x y c e f h = omega (arith, ints)
 
   at_ends : (from t to : ℕ) → from ≤ t → t ≤ to →
       (border_gap (border_of (k +ℤ pos u) k b 0 h w) q from ≤ℤ border_gap (border_of (k +ℤ pos u) k b 0 h w) q t)
@@ -101,23 +97,14 @@ module _ (v k : ℤ) (b : ℕ) (h w : ℤ) (win : Times) (y z : Fraction) (m n :
       ⊎ (border_gap (border_of v k b 0 h w) (q * (F * T)) (n * q * F) ≤ℤ border_gap (border_of v k b 0 h w) (q * (F * T)) (t * (F * T)))
   least_of q t i = by_above k v o (λ u e. rw e (at_ends k u b h w (q * (F * T)) (m * q * T) (t * (F * T)) (n * q * F) (from_first q t i) (to_last q t i)))
 
-  trans : (a b c : ℤ) → a ≤ℤ b → b ≤ℤ c → a ≤ℤ c
-  trans a b c h k = omega (arith, ints)
-
-  trans_lt : (a b c : ℤ) → a <ℤ b → b ≤ℤ c → a <ℤ c
-  trans_lt a b c h k = omega (arith, ints)
-
-  same : (a : ℤ) → a ≤ℤ a
-  same a = omega (arith, ints)
-
   pub first_least : (y.num *ℤ pos z.den) ≤ℤ (z.num *ℤ pos y.den) → IsLeastGap (border_of v k b 0 h w) win win.from y
   first_least l = record {
-    after = same (win.from.num *ℤ pos win.from.den);
+    after = ≤ℤ_refl (win.from.num *ℤ pos win.from.den);
     before = ends;
     value = valf;
     least = λ q t p i. lift_le (border_of v k b 0 h w) win.from y valf m em q t T p (mul-pos sf st)
         (⊎_elim (λ a. a)
-        (λ a. trans _ _ _ (gaps_le (C (q * (F * T))) _ y.num _ z.num y.den z.den sy sz (first_at q p) (last_at q p) l) a)
+        (λ a. le-trans_ℤ _ _ _ (gaps_le (C (q * (F * T))) _ y.num _ z.num y.den z.den sy sz (first_at q p) (last_at q p) l) a)
         (least_of q t i));
     earliest = λ q t p i j. let a = rw em at i.0 in let c = rw em at j in absurd (let d : m * q ≤ t * F = omega (arith, ints) in let d' : t * F < m * q = omega (arith, ints) in omega arith);
   }
@@ -135,25 +122,22 @@ module _ (v k : ℤ) (b : ℕ) (h w : ℤ) (win : Times) (y z : Fraction) (m n :
   pub last_least : (z.num *ℤ pos y.den) <ℤ (y.num *ℤ pos z.den) → IsLeastGap (border_of v k b 0 h w) win win.to z
   last_least l = record {
     after = ends;
-    before = same (win.to.num *ℤ pos win.to.den);
+    before = ≤ℤ_refl (win.to.num *ℤ pos win.to.den);
     value = valt;
     least = λ q t p i. lift_le (border_of v k b 0 h w) win.to z valt n en q t F p (mul-pos st sf)
         (rw (← turned)
         (⊎_elim
-        (λ a. weaker _ _ (trans_lt _ _ _ (last_below l q p) a))
+        (λ a. le_of_lt_ℤ _ _ (<ℤ-≤ℤ_trans (last_below l q p) a))
         (λ a. a)
         (least_of q t i)));
     earliest = λ q t p i j. lift_lt (border_of v k b 0 h w) win.to z valt n en q t F p (mul-pos st sf) sz
         (rw (← turned)
         (⊎_elim
-        (λ a. trans_lt _ _ _ (last_below l q p) a)
+        (λ a. <ℤ-≤ℤ_trans (last_below l q p) a)
         (λ a. a)
         (strict q t p i (early q t j))));
   }
     where
-      weaker : (a b : ℤ) → a <ℤ b → a ≤ℤ b
-      weaker a b h = omega (arith, ints)
-
       early : (q t : ℕ) → pos (t * T) <ℤ (win.to.num *ℤ pos q) → t * (F * T) < n * q * F
       early q t j = let c = rw en at j in let d : t * T < n * q = omega (arith, ints) in omega (arith, mul-lt-mul_of_pos_left {m = t * T} {n = n * q} {k = F} d sf)
 

@@ -1,17 +1,17 @@
 -- A flight in finer numbers.
 use Rattle.std.proofs.Common.{◌≡◌, ℕ, ◌*◌, ◌<◌, inl, inr, ⊎_elim, refl, ap, ap₂, ◌∙◌, arith, List, [], ◌∷◌, ℤ, pos, neg_ℤ, ◌+ℤ◌, ◌*ℤ◌, ◌≤ℤ◌, ◌<ℤ◌, mul-pos, mul-le-mul_right}
 use lib.IntN.{*ℤ_comm}
-use Rattle.acas_flight.proofs.IntRing.{at, num, ◌⊕◌, ◌⊗◌, ring, neg_mul_ℤ}
-use Rattle.acas_flight.proofs.Orders.{le_from_mul_left, lt_from_mul_left}
+use Rattle.acas_frac.proofs.SignedProducts.{le-from_mul_ℤ, lt-from_mul_ℤ, neg-mul_ℤ}
+use Rattle.acas_flight.proofs.IntRing.{at, num, ◌⊕◌, ◌⊗◌, ring}
 use Rattle.acas_flight.proofs.Rising.{scaled_le}
 use Rattle.acas_flight.specs.Response.{Segment, Demand, scaled, rate_after, climb_within, climb, lasting, Follows, FollowsThroughout, Holds, Meets}
 use Rattle.acas_flight.specs.Parts.{finer}
 
 up_lt : (a b : ℤ) (n : ℕ) → (a *ℤ pos n) <ℤ (b *ℤ pos n) → a <ℤ b
-up_lt a b n h = lt_from_mul_left n a b (rw (*ℤ_comm (pos n) a, *ℤ_comm (pos n) b) h)
+up_lt a b n h = lt-from_mul_ℤ n a b (rw (*ℤ_comm (pos n) a, *ℤ_comm (pos n) b) h)
 
 up_le : (a b : ℤ) (n : ℕ) → 0 < n → (a *ℤ pos n) ≤ℤ (b *ℤ pos n) → a ≤ℤ b
-up_le a b n p h = le_from_mul_left n a b p (rw (*ℤ_comm (pos n) a, *ℤ_comm (pos n) b) h)
+up_le a b n p h = le-from_mul_ℤ n a b p (rw (*ℤ_comm (pos n) a, *ℤ_comm (pos n) b) h)
 
 abbrev finer_segment : ℕ → Segment → Segment
 finer_segment m s = record { duration = s.duration * m; acceleration = s.acceleration *ℤ pos m }
@@ -42,10 +42,10 @@ module _ (m : ℕ) (p : 0 < m) (a : Demand) where
   square_some = mul-pos p p
 
   under : (n : ℕ) (z : ℤ) → neg_ℤ (pos n) ≤ℤ z → neg_ℤ (pos (n * m)) ≤ℤ (z *ℤ pos m)
-  under n z h = let k = scaled_le (neg_ℤ (pos n)) z m h in rw (neg_mul_ℤ (pos n) (pos m)) at k
+  under n z h = let k = scaled_le (neg_ℤ (pos n)) z m h in rw (neg-mul_ℤ (pos n) (pos m)) at k
 
   over : (n : ℕ) (z : ℤ) → z ≤ℤ neg_ℤ (pos n) → (z *ℤ pos m) ≤ℤ neg_ℤ (pos (n * m))
-  over n z h = let k = scaled_le z (neg_ℤ (pos n)) m h in rw (neg_mul_ℤ (pos n) (pos m)) at k
+  over n z h = let k = scaled_le z (neg_ℤ (pos n)) m h in rw (neg-mul_ℤ (pos n) (pos m)) at k
 
   follows_finer : (v : ℤ) (s : Segment) → Follows a v s → Follows (scaled m a) (v *ℤ pos (m * m)) (finer_segment m s)
   follows_finer v s f = record {

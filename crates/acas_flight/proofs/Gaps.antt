@@ -2,8 +2,9 @@
 use Rattle.std.proofs.Common.{◌≡◌, ℕ, ◌*◌, ◌<◌, ⊎_elim, refl, sym, ap, ap₂, ◌∙◌, arith, Bool, true, false, cond, [], ◌∷◌, ℤ, pos, neg_ℤ, ◌+ℤ◌, ◌-ℤ◌, ◌*ℤ◌, ◌≤ℤ◌, ◌<ℤ◌, int_lt, mul-pos}
 use Rattle.std.proofs.lemmas.Int.{ints}
 use lib.IntN.{*ℤ_comm}
-use Rattle.acas_flight.proofs.IntRing.{at, num, ◌⊕◌, ◌⊖◌, ◌⊗◌, ring, neg_mul_ℤ}
-use Rattle.acas_flight.proofs.Orders.{mul_le_left, mul_lt_left, cases_lt_ℤ}
+use Rattle.acas_frac.proofs.SignedProducts.{mul-le_ℤ, mul-lt_ℤ, neg-mul_ℤ}
+use Rattle.acas_flight.proofs.IntRing.{at, num, ◌⊕◌, ◌⊖◌, ◌⊗◌, ring, mul_swapped_ℤ, sub-mul_ℤ, zero-sub_ℤ}
+use Rattle.acas_flight.proofs.Orders.{cases_lt_ℤ, neg-lt_ℤ}
 use Rattle.acas_flight.proofs.Scales.{cancel_left, pos_inj}
 use Rattle.acas_flight.proofs.Held.{held-scaled}
 use Rattle.acas_flight.proofs.Between.{test_lt, test_ge}
@@ -51,12 +52,9 @@ module _ (s : Border) (d n q t : ℕ) (e : t * d ≡ n * q) where
       refl
 
   gaps : border_gap s q t *ℤ pos ((d * d) * (d * d)) ≡ gap_number s d n *ℤ pos (((q * d) * q) * ((q * d) * q))
-  gaps = split (held (s.start *ℤ pos (q * q)) (s.aim *ℤ pos (q * q)) (s.pull * q) (s.hold * q) t) (pos (s.pull * q) *ℤ vertical_separation q (s.height *ℤ pos q) (s.rate *ℤ pos q) t (pos 0)) (pos ((d * d) * (d * d)))
+  gaps = sub-mul_ℤ (held (s.start *ℤ pos (q * q)) (s.aim *ℤ pos (q * q)) (s.pull * q) (s.hold * q) t) (pos (s.pull * q) *ℤ vertical_separation q (s.height *ℤ pos q) (s.rate *ℤ pos q) t (pos 0)) (pos ((d * d) * (d * d)))
       ∙ ap₂ (λ (a b : ℤ). a -ℤ b) climbs lines
-      ∙ sym (split (held (s.start *ℤ pos d) (s.aim *ℤ pos d) s.pull (s.hold * d) n) (((s.height *ℤ pos d) +ℤ ((pos 2 *ℤ s.rate) *ℤ pos n)) *ℤ pos (d * s.pull)) (pos (((q * d) * q) * ((q * d) * q))))
-    where
-      split : (a b c : ℤ) → (a -ℤ b) *ℤ c ≡ (a *ℤ c) -ℤ (b *ℤ c)
-      split a b c = ring (a ∷ b ∷ c ∷ []) ((at 0 ⊖ at 1) ⊗ at 2) ((at 0 ⊗ at 2) ⊖ (at 1 ⊗ at 2)) refl
+      ∙ sym (sub-mul_ℤ (held (s.start *ℤ pos d) (s.aim *ℤ pos d) s.pull (s.hold * d) n) (((s.height *ℤ pos d) +ℤ ((pos 2 *ℤ s.rate) *ℤ pos n)) *ℤ pos (d * s.pull)) (pos (((q * d) * q) * ((q * d) * q))))
 
 -- A fraction whose value is the gap number over d*d and the pull is the gap.
 pub IsGapAt-of : (s : Border) (time y : Fraction) (n : ℕ) → time.num ≡ pos n → 0 < time.den → y.num *ℤ pos (time.den * time.den * s.pull) ≡ gap_number s time.den n *ℤ pos y.den → IsGapAt s time y
@@ -72,28 +70,25 @@ IsGapAt-of s time y n en sd e = record { over = λ q t p it. at_q q t p (pos_inj
         ∙ ap (λ z. z *ℤ pos (((q * time.den) * q) * ((q * time.den) * q))) e
         ∙ swap (gap_number s time.den n) (pos y.den) (pos (((q * time.den) * q) * ((q * time.den) * q)))
         ∙ ap (λ z. z *ℤ pos y.den) (sym (gaps s time.den n q t f))
-        ∙ back (border_gap s q t) (pos ((time.den * time.den) * (time.den * time.den))) (pos y.den))
+        ∙ mul_swapped_ℤ (border_gap s q t) (pos ((time.den * time.den) * (time.den * time.den))) (pos y.den))
       where
         swap : (a b c : ℤ) → (a *ℤ b) *ℤ c ≡ (a *ℤ c) *ℤ b
         swap a b c = ring (a ∷ b ∷ c ∷ []) ((at 0 ⊗ at 1) ⊗ at 2) ((at 0 ⊗ at 2) ⊗ at 1) refl
 
-        back : (a c b : ℤ) → (a *ℤ c) *ℤ b ≡ c *ℤ (a *ℤ b)
-        back a c b = ring (a ∷ c ∷ b ∷ []) ((at 0 ⊗ at 1) ⊗ at 2) (at 1 ⊗ (at 0 ⊗ at 2)) refl
-
 -- ---- the borders of a box
 
-test_scaled : (a b : ℤ) (n : ℕ) → 0 < n → int_lt (a *ℤ pos n) (b *ℤ pos n) ≡ int_lt a b
+pub test_scaled : (a b : ℤ) (n : ℕ) → 0 < n → int_lt (a *ℤ pos n) (b *ℤ pos n) ≡ int_lt a b
 test_scaled a b n p =
     ⊎_elim
-    (λ h. test_lt (a *ℤ pos n) (b *ℤ pos n) (rw (*ℤ_comm a (pos n), *ℤ_comm b (pos n)) (mul_lt_left n a b p h)) ∙ sym (test_lt a b h))
-    (λ h. test_ge (a *ℤ pos n) (b *ℤ pos n) (rw (*ℤ_comm a (pos n), *ℤ_comm b (pos n)) (mul_le_left n b a h)) ∙ sym (test_ge a b h))
+    (λ h. test_lt (a *ℤ pos n) (b *ℤ pos n) (rw (*ℤ_comm a (pos n), *ℤ_comm b (pos n)) (mul-lt_ℤ n a b p h)) ∙ sym (test_lt a b h))
+    (λ h. test_ge (a *ℤ pos n) (b *ℤ pos n) (rw (*ℤ_comm a (pos n), *ℤ_comm b (pos n)) (mul-le_ℤ n b a h)) ∙ sym (test_ge a b h))
     (cases_lt_ℤ a b)
 
-cond_times : (t : Bool) (a b q : ℕ) → cond t (a * q) (b * q) ≡ cond t a b * q
+pub cond_times : (t : Bool) (a b q : ℕ) → cond t (a * q) (b * q) ≡ cond t a b * q
 cond_times true a b q = refl
 cond_times false a b q = refl
 
-cond_none : (t : Bool) (a q : ℕ) → cond t (a * q) 0 ≡ cond t a 0 * q
+pub cond_none : (t : Bool) (a q : ℕ) → cond t (a * q) 0 ≡ cond t a 0 * q
 cond_none true a q = refl
 cond_none false a q = omega arith
 
@@ -128,22 +123,19 @@ module _ (a : Demand) (box : Area) (q : ℕ) (p : 0 < q) where
       line : (c l c' l' : ℤ) → c' ≡ neg_ℤ c → l' ≡ neg_ℤ l → c -ℤ l ≡ neg_ℤ (c' -ℤ l')
       line c l c' l' e f = omega (arith, ints)
 
-      minus : (x : ℤ) → neg_ℤ x ≡ pos 0 -ℤ x
-      minus x = omega (arith, ints)
-
       opposite : (b : ℕ) (h w : ℤ) → pos b *ℤ vertical_separation q (neg_ℤ h *ℤ pos q) (neg_ℤ w *ℤ pos q) t (pos 0) ≡ neg_ℤ (pos b *ℤ vertical_separation q (h *ℤ pos q) (w *ℤ pos q) t (pos 0))
       opposite b h w =
-          ap₂ (λ (i j : ℤ). pos b *ℤ vertical_separation q (i *ℤ pos q) (j *ℤ pos q) t (pos 0)) (minus h) (minus w)
+          ap₂ (λ (i j : ℤ). pos b *ℤ vertical_separation q (i *ℤ pos q) (j *ℤ pos q) t (pos 0)) (sym (zero-sub_ℤ h)) (sym (zero-sub_ℤ w))
           ∙ ring (pos b ∷ h ∷ w ∷ pos q ∷ pos t ∷ [])
           (at 0 ⊗ (((((num (pos 0) ⊖ at 1) ⊗ at 3) ⊗ (at 3 ⊗ at 3)) ⊕ (((num (pos 2) ⊗ ((num (pos 0) ⊖ at 2) ⊗ at 3)) ⊗ at 4) ⊗ at 3)) ⊖ num (pos 0)))
           (num (pos 0) ⊖ (at 0 ⊗ ((((at 1 ⊗ at 3) ⊗ (at 3 ⊗ at 3)) ⊕ (((num (pos 2) ⊗ (at 2 ⊗ at 3)) ⊗ at 4) ⊗ at 3)) ⊖ num (pos 0))))
           refl
-          ∙ sym (minus (pos b *ℤ vertical_separation q (h *ℤ pos q) (w *ℤ pos q) t (pos 0)))
+          ∙ (zero-sub_ℤ (pos b *ℤ vertical_separation q (h *ℤ pos q) (w *ℤ pos q) t (pos 0)))
 
       turned : (b g : ℕ) → held (box.own.greatest *ℤ pos (q * q)) (a.hi *ℤ pos (q * q)) b g t -ℤ (pos b *ℤ vertical_separation q (box.altitude.least *ℤ pos q) (box.intruder.least *ℤ pos q) t (pos 0))
           ≡ neg_ℤ (held (neg_ℤ box.own.greatest *ℤ pos (q * q)) (neg_ℤ a.hi *ℤ pos (q * q)) b g t -ℤ (pos b *ℤ vertical_separation q (neg_ℤ box.altitude.least *ℤ pos q) (neg_ℤ box.intruder.least *ℤ pos q) t (pos 0)))
       turned b g = line _ _ _ _
-          (ap₂ (λ (v k : ℤ). held v k b g t) (neg_mul_ℤ box.own.greatest (pos (q * q))) (neg_mul_ℤ a.hi (pos (q * q))) ∙ turned_held (box.own.greatest *ℤ pos (q * q)) (a.hi *ℤ pos (q * q)) b g t)
+          (ap₂ (λ (v k : ℤ). held v k b g t) (neg-mul_ℤ box.own.greatest (pos (q * q))) (neg-mul_ℤ a.hi (pos (q * q))) ∙ turned_held (box.own.greatest *ℤ pos (q * q)) (a.hi *ℤ pos (q * q)) b g t)
           (opposite b box.altitude.least box.intruder.least)
 
 -- The extremes of a box are those of its borders.
@@ -157,19 +149,16 @@ low_extreme_of a box w time y l = record {
 }
 
 neg_value : (y g : ℤ) (c d : ℕ) → y *ℤ pos c ≡ g *ℤ pos d → neg_ℤ y *ℤ pos c ≡ neg_ℤ g *ℤ pos d
-neg_value y g c d e = neg_mul_ℤ y (pos c) ∙ ap neg_ℤ e ∙ sym (neg_mul_ℤ g (pos d))
+neg_value y g c d e = neg-mul_ℤ y (pos c) ∙ ap neg_ℤ e ∙ sym (neg-mul_ℤ g (pos d))
 
 neg_le : (y g : ℤ) (c d : ℕ) → (y *ℤ pos c) ≤ℤ (g *ℤ pos d) → (neg_ℤ g *ℤ pos d) ≤ℤ (neg_ℤ y *ℤ pos c)
-neg_le y g c d h = rw (neg_mul_ℤ y (pos c), neg_mul_ℤ g (pos d)) (line (y *ℤ pos c) (g *ℤ pos d) h)
+neg_le y g c d h = rw (neg-mul_ℤ y (pos c), neg-mul_ℤ g (pos d)) (line (y *ℤ pos c) (g *ℤ pos d) h)
   where
     line : (a b : ℤ) → a ≤ℤ b → neg_ℤ b ≤ℤ neg_ℤ a
     line a b h = omega (arith, ints)
 
 neg_lt : (y g : ℤ) (c d : ℕ) → (y *ℤ pos c) <ℤ (g *ℤ pos d) → (neg_ℤ g *ℤ pos d) <ℤ (neg_ℤ y *ℤ pos c)
-neg_lt y g c d h = rw (neg_mul_ℤ y (pos c), neg_mul_ℤ g (pos d)) (line (y *ℤ pos c) (g *ℤ pos d) h)
-  where
-    line : (a b : ℤ) → a <ℤ b → neg_ℤ b <ℤ neg_ℤ a
-    line a b h = omega (arith, ints)
+neg_lt y g c d h = rw (neg-mul_ℤ y (pos c), neg-mul_ℤ g (pos d)) (neg-lt_ℤ (y *ℤ pos c) (g *ℤ pos d) h)
 
 pub high_extreme_of : (a : Demand) (box : Area) (w : Times) (time y : Fraction) → IsLeastGap (high_border_of a box) w time y → IsHighExtreme a box w time (negated y)
 high_extreme_of a box w time y l = record {

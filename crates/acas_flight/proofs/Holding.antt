@@ -1,6 +1,7 @@
 -- A hold before the response: the low curve with its hold bounds each response that meets.
 use Rattle.std.proofs.Common.{◌≡◌, ℕ, ◌+◌, ◌-◌, ◌*◌, ◌≤◌, ⊎_elim, refl, ap, arith, cond, List, [], ◌∷◌, ℤ, pos, ◌+ℤ◌, ◌-ℤ◌, ◌*ℤ◌, ◌≤ℤ◌, ◌<ℤ◌, min}
 use Rattle.std.proofs.lemmas.Int.{ints}
+use Rattle.acas_frac.proofs.SignedProducts.{add-mul_ℤ}
 use Rattle.acas_flight.proofs.IntRing.{at, num, ◌⊕◌, ◌⊖◌, ◌⊗◌, ring, zero_mul_ℤ}
 use Rattle.acas_flight.proofs.Squares.{sq, hold_step}
 use Rattle.acas_flight.proofs.Orders.{by_below, cases_lt_ℤ}
@@ -56,13 +57,10 @@ held-within v k b g d t z h j low = parts (min (d + t) g - d) ((d + t) - g) (ome
     line : (sd sp y y' zb : ℤ) → (sp +ℤ y) ≤ℤ y' → y' ≤ℤ zb → ((sp +ℤ sd) +ℤ y) ≤ℤ (sd +ℤ zb)
     line sd sp y y' zb m n = omega (arith, ints)
 
-    split : (c z : ℤ) (b : ℕ) → (c +ℤ z) *ℤ pos b ≡ (c *ℤ pos b) +ℤ (z *ℤ pos b)
-    split c z b = ring (c ∷ z ∷ pos b ∷ []) ((at 0 ⊕ at 1) ⊗ at 2) ((at 0 ⊗ at 2) ⊕ (at 1 ⊗ at 2)) refl
-
     parts : (p s : ℕ) → min (d + t) g ≡ d + p → t ≡ p + s → (d + t) - g ≡ s → held v k b g (d + t) ≤ℤ ((((pos 2 *ℤ v) *ℤ pos d) +ℤ z) *ℤ pos b)
     parts p s e f n =
         let up_to : approach v k b (p + s) ≤ℤ (z *ℤ pos b) = rw (← f) low in
-        rw (e, n, split ((pos 2 *ℤ v) *ℤ pos d) z b)
+        rw (e, n, add-mul_ℤ ((pos 2 *ℤ v) *ℤ pos d) z (pos b))
         (rw (steady-add v d p b) (line (steady v d b) (steady v p b) (approach v k b s) (approach v k b (p + s)) (z *ℤ pos b) (hold_lowers v k b p s (omega (arith, ints))) up_to))
 
 module _ (a : Demand) (fine : CanBeMet a) where

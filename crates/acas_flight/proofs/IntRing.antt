@@ -1,37 +1,22 @@
 -- The commutative ring ℤ: its laws, and a normaliser of polynomials that proves identities by computing.
 use Rattle.std.proofs.Common.{◌≡◌, ℕ, zero, suc, ◌*◌, Bool, true, false, cond, leb, eqb, eqb→eq, List, [], ◌∷◌, refl, sym, ap, ap₂, subst, ◌∙◌, arith, T, ℤ, pos, negsuc, ◌+ℤ◌, ◌-ℤ◌, ◌*ℤ◌, neg_ℤ}
 use Rattle.std.proofs.lemmas.Int.{ints}
-use borrow.Author.Differences.{up, down, product_is, sum_is_lem, neg_is}
 use lib.IntN.{*ℤ_comm, +ℤ_assoc}
+use Rattle.acas_frac.proofs.SignedProducts.{mul_assoc_ℤ, mul-add_ℤ, add-mul_ℤ, neg-mul_ℤ}
 
 -- ---- the laws
 
-pub mul_assoc_ℤ : (a b c : ℤ) → (a *ℤ b) *ℤ c ≡ a *ℤ (b *ℤ c)
-mul_assoc_ℤ a b c =
-    let p = product_is a b in
-    let q = product_is b c in
-    omega (arith, ints, ap (λ n. n * up c) p.0, ap (λ n. n * up c) p.1, ap (λ n. n * down c) p.0, ap (λ n. n * down c) p.1, ap (λ n. up a * n) q.0, ap (λ n. up a * n) q.1, ap (λ n. down a * n) q.0, ap (λ n. down a * n) q.1)
-
-pub mul_add_ℤ : (a b c : ℤ) → a *ℤ (b +ℤ c) ≡ (a *ℤ b) +ℤ (a *ℤ c)
-mul_add_ℤ a b c =
-    let s = sum_is_lem b c in
-    let by = λ (k : ℕ) (m n : ℕ) (e : m ≡ n). ap (λ x. k * x) e in
-    omega (arith, ints, by (up a) _ _ s, by (down a) _ _ s)
-
-pub add_mul_ℤ : (a b c : ℤ) → (a +ℤ b) *ℤ c ≡ (a *ℤ c) +ℤ (b *ℤ c)
-add_mul_ℤ a b c = *ℤ_comm (a +ℤ b) c ∙ mul_add_ℤ c a b ∙ ap₂ ◌+ℤ◌ (*ℤ_comm c a) (*ℤ_comm c b)
-
-pub mul_neg_ℤ : (a b : ℤ) → a *ℤ neg_ℤ b ≡ neg_ℤ (a *ℤ b)
-mul_neg_ℤ a b =
-    let n = neg_is b in
-    let by = λ (k : ℕ) (m n : ℕ) (e : m ≡ n). ap (λ x. k * x) e in
-    omega (arith, ints, by (up a) _ _ n.0, by (down a) _ _ n.1, by (down a) _ _ n.0, by (up a) _ _ n.1)
-
-pub neg_mul_ℤ : (a b : ℤ) → neg_ℤ a *ℤ b ≡ neg_ℤ (a *ℤ b)
-neg_mul_ℤ a b = *ℤ_comm (neg_ℤ a) b ∙ mul_neg_ℤ b a ∙ ap neg_ℤ (*ℤ_comm b a)
-
 pub mul_left_comm_ℤ : (a b c : ℤ) → a *ℤ (b *ℤ c) ≡ b *ℤ (a *ℤ c)
 mul_left_comm_ℤ a b c = sym (mul_assoc_ℤ a b c) ∙ ap (λ x. x *ℤ c) (*ℤ_comm a b) ∙ mul_assoc_ℤ b a c
+
+pub mul_swapped_ℤ : (a b c : ℤ) → (a *ℤ b) *ℤ c ≡ b *ℤ (a *ℤ c)
+mul_swapped_ℤ a b c = mul_assoc_ℤ a b c ∙ mul_left_comm_ℤ a b c
+
+pub sub-mul_ℤ : (a b c : ℤ) → (a -ℤ b) *ℤ c ≡ a *ℤ c -ℤ b *ℤ c
+sub-mul_ℤ a b c = add-mul_ℤ a (neg_ℤ b) c ∙ ap (λ z. a *ℤ c +ℤ z) (neg-mul_ℤ b c)
+
+pub zero-sub_ℤ : (a : ℤ) → pos 0 -ℤ a ≡ neg_ℤ a
+zero-sub_ℤ a = omega (arith, ints)
 
 pub one_mul_ℤ : (a : ℤ) → pos 1 *ℤ a ≡ a
 one_mul_ℤ a = omega (arith, ints)
@@ -173,7 +158,7 @@ add_term-value xs c m (term d n p) =
     cond_value xs (same m n) _ _ _
     (λ e.
     let at_n : monomial xs m ≡ monomial xs n = ap (monomial xs) (same-is m n e) in
-    rw at_n (ap (λ z. z +ℤ value xs p) (add_mul_ℤ c d (monomial xs n)) ∙ +ℤ_assoc (c *ℤ monomial xs n) (d *ℤ monomial xs n) (value xs p)))
+    rw at_n (ap (λ z. z +ℤ value xs p) (add-mul_ℤ c d (monomial xs n)) ∙ +ℤ_assoc (c *ℤ monomial xs n) (d *ℤ monomial xs n) (value xs p)))
     (λ e. rotated (d *ℤ monomial xs n) (c *ℤ monomial xs m) (value xs p) (value xs (add_term c m p)) (add_term-value xs c m p))
   where
     rotated : (a b p r : ℤ) → r ≡ b +ℤ p → a +ℤ r ≡ b +ℤ (a +ℤ p)
@@ -197,14 +182,14 @@ times_term-value xs c m none = sym (mul_zero_ℤ (c *ℤ monomial xs m))
 times_term-value xs c m (term d n p) =
     add_term-value xs (c *ℤ d) (joined m n) (times_term c m p)
     ∙ ap₂ ◌+ℤ◌ (ap (λ z. (c *ℤ d) *ℤ z) (joined-value xs m n) ∙ four c d (monomial xs m) (monomial xs n)) (times_term-value xs c m p)
-    ∙ sym (mul_add_ℤ (c *ℤ monomial xs m) (d *ℤ monomial xs n) (value xs p))
+    ∙ sym (mul-add_ℤ (c *ℤ monomial xs m) (d *ℤ monomial xs n) (value xs p))
 
 times-value : (xs : List ℤ) (p q : Poly) → value xs (times p q) ≡ value xs p *ℤ value xs q
 times-value xs none q = sym (zero_mul_ℤ (value xs q))
 times-value xs (term c m p) q =
     add-value xs (times_term c m q) (times p q)
     ∙ ap₂ ◌+ℤ◌ (times_term-value xs c m q) (times-value xs p q)
-    ∙ sym (add_mul_ℤ (c *ℤ monomial xs m) (value xs p) (value xs q))
+    ∙ sym (add-mul_ℤ (c *ℤ monomial xs m) (value xs p) (value xs q))
 
 mul_one_ℤ : (a : ℤ) → a *ℤ pos 1 ≡ a
 mul_one_ℤ a = omega (arith, ints)

@@ -2,7 +2,7 @@
 -- from the low one.
 use Rattle.std.proofs.Common.{◌≡◌, ℕ, ◌+◌, ◌-◌, ◌*◌, inl, inr, ⊎_elim, refl, sym, ap, ap₂, ◌∙◌, arith, cond, List, [], ◌∷◌, ℤ, pos, ◌+ℤ◌, ◌-ℤ◌, ◌*ℤ◌, ◌≤ℤ◌, neg_ℤ, int_lt, min}
 use Rattle.std.proofs.lemmas.Int.{ints}
-use Rattle.acas_flight.proofs.IntRing.{mul_neg_ℤ, neg_mul_ℤ}
+use Rattle.acas_frac.proofs.SignedProducts.{mul-neg_ℤ, neg-mul_ℤ}
 use Rattle.acas_flight.proofs.Squares.{sq}
 use Rattle.acas_flight.proofs.Orders.{by_below, by_above, cases_lt_ℤ, turned_le}
 use Rattle.acas_flight.proofs.Curves.{steady, approach_below, approach_above}
@@ -26,13 +26,13 @@ neg_add : (a b : ℤ) → neg_ℤ (a +ℤ b) ≡ neg_ℤ a +ℤ neg_ℤ b
 neg_add a b = omega (arith, ints)
 
 turned_rate : (v : ℤ) (s : Segment) → rate_after (neg_ℤ v) (turned_segment s) ≡ neg_ℤ (rate_after v s)
-turned_rate v s = rw (neg_mul_ℤ s.acceleration (pos s.duration), neg_add v (s.acceleration *ℤ pos s.duration))
+turned_rate v s = rw (neg-mul_ℤ s.acceleration (pos s.duration), neg_add v (s.acceleration *ℤ pos s.duration))
 
 turned_within : (v : ℤ) (s : Segment) → climb_within (neg_ℤ v) (turned_segment s) ≡ neg_ℤ (climb_within v s)
 turned_within v s = turned v s.acceleration (pos s.duration)
   where
     turned : (v c d : ℤ) → ((pos 2 *ℤ neg_ℤ v) *ℤ d) +ℤ ((neg_ℤ c *ℤ d) *ℤ d) ≡ neg_ℤ (((pos 2 *ℤ v) *ℤ d) +ℤ ((c *ℤ d) *ℤ d))
-    turned v c d = rw (neg_mul_ℤ c d, neg_mul_ℤ (c *ℤ d) d, mul_neg_ℤ (pos 2) v, neg_mul_ℤ (pos 2 *ℤ v) d, neg_add)
+    turned v c d = rw (neg-mul_ℤ c d, neg-mul_ℤ (c *ℤ d) d, mul-neg_ℤ (pos 2) v, neg-mul_ℤ (pos 2 *ℤ v) d, neg_add)
 
 turned_climb : (v : ℤ) (r : List Segment) → climb (neg_ℤ v) (turned_response r) ≡ neg_ℤ (climb v r)
 turned_climb v [] = refl
@@ -68,7 +68,7 @@ turned_meets a v (s ∷ rest) m =
     m
 
 pub steady_turned : (k : ℤ) (t b : ℕ) → steady (neg_ℤ k) t b ≡ neg_ℤ (steady k t b)
-steady_turned k t b = rw (mul_neg_ℤ (pos 2) k, neg_mul_ℤ (pos 2 *ℤ k) (pos t), neg_mul_ℤ ((pos 2 *ℤ k) *ℤ pos t) (pos b))
+steady_turned k t b = rw (mul-neg_ℤ (pos 2) k, neg-mul_ℤ (pos 2 *ℤ k) (pos t), neg-mul_ℤ ((pos 2 *ℤ k) *ℤ pos t) (pos b))
 
 pub turned_approach : (v k : ℤ) (b t : ℕ) → approach (neg_ℤ v) (neg_ℤ k) b t ≡ neg_ℤ (approach v k b t)
 turned_approach v k b t = ⊎_elim (λ h. by_below k v (omega (arith, ints)) under) (λ h. by_above k v h over) (cases_lt_ℤ v k)
@@ -115,5 +115,5 @@ meets_under a f v r m =
     let curve : lowest (turned_demand a) (neg_ℤ v) (lasting (turned_response r)) ≡ neg_ℤ (highest a v (lasting r)) =
     ap (λ n. lowest (turned_demand a) (neg_ℤ v) n) (turned_lasting r) ∙ turned_lowest a v (lasting r) in
     let flown : climb (neg_ℤ v) (turned_response r) *ℤ pos (low_pull (turned_demand a) (neg_ℤ v)) ≡ neg_ℤ (climb v r *ℤ pos (high_pull a v)) =
-    ap₂ (λ z b. z *ℤ pos b) (turned_climb v r) (ap (λ t. cond t a.pull a.limit) (turned_test v a.hi)) ∙ neg_mul_ℤ (climb v r) (pos (high_pull a v)) in
+    ap₂ (λ z b. z *ℤ pos b) (turned_climb v r) (ap (λ t. cond t a.pull a.limit) (turned_test v a.hi)) ∙ neg-mul_ℤ (climb v r) (pos (high_pull a v)) in
     turned_le curve flown low

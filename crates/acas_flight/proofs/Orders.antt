@@ -1,31 +1,17 @@
 -- The order of ℤ under products.
-use Rattle.std.proofs.Common.{◌≡◌, ℕ, ◌+◌, ◌-◌, ◌*◌, ◌<◌, ◌≤◌, ◌⊎◌, inl, inr, ⊎_elim, arith, ℤ, pos, negsuc, ◌+ℤ◌, ◌-ℤ◌, ◌*ℤ◌, ◌≤ℤ◌, ◌<ℤ◌, neg_ℤ, unsigned_abs}
-use native.Mathlib.Nat.{mul-le-mul_left, le_of_mul-le-mul_left, lt_of_mul-lt-mul_left, mul-lt-mul_of_pos_left}
+use Rattle.std.proofs.Common.{◌≡◌, ℕ, ◌+◌, ◌-◌, ◌≤◌, ◌⊎◌, inl, inr, ⊎_elim, arith, ℤ, pos, negsuc, ◌+ℤ◌, ◌-ℤ◌, ◌*ℤ◌, ◌≤ℤ◌, ◌<ℤ◌, neg_ℤ, unsigned_abs}
 use Rattle.std.proofs.lemmas.Int.{ints}
 use Rattle.std.proofs.lemmas.Bool.{cases_lt}
 use borrow.Author.Differences.{up, down}
 
-pub mul_le_left : (n : ℕ) (a b : ℤ) → a ≤ℤ b → (pos n *ℤ a) ≤ℤ (pos n *ℤ b)
-mul_le_left n a b h =
-    let k : up a + down b ≤ up b + down a = omega (arith, ints) in
-    omega (arith, ints, mul-le-mul_left n k)
+pub le_eq_ℤ : (a b : ℤ) → a ≡ b → a ≤ℤ b
+le_eq_ℤ a b e = omega (arith, ints)
 
-pub mul_lt_left : (n : ℕ) (a b : ℤ) → 0 < n → a <ℤ b → (pos n *ℤ a) <ℤ (pos n *ℤ b)
-mul_lt_left n a b p h =
-    let k : up a + down b < up b + down a = omega (arith, ints) in
-    omega (arith, ints, mul-lt-mul_of_pos_left k p)
+pub le_of_lt_ℤ : (a b : ℤ) → a <ℤ b → a ≤ℤ b
+le_of_lt_ℤ a b h = omega (arith, ints)
 
-pub le_from_mul_left : (n : ℕ) (a b : ℤ) → 0 < n → (pos n *ℤ a) ≤ℤ (pos n *ℤ b) → a ≤ℤ b
-le_from_mul_left n a b p h =
-    let k : n * (up a + down b) ≤ n * (up b + down a) = omega (arith, ints) in
-    let l = le_of_mul-le-mul_left k p in
-    omega (arith, ints)
-
-pub lt_from_mul_left : (n : ℕ) (a b : ℤ) → (pos n *ℤ a) <ℤ (pos n *ℤ b) → a <ℤ b
-lt_from_mul_left n a b h =
-    let k : n * (up a + down b) < n * (up b + down a) = omega (arith, ints) in
-    let l = lt_of_mul-lt-mul_left n k in
-    omega (arith, ints)
+pub neg-lt_ℤ : (a b : ℤ) → a <ℤ b → neg_ℤ b <ℤ neg_ℤ a
+neg-lt_ℤ a b h = omega (arith, ints)
 
 pub mul_nonneg : (a b : ℤ) → pos 0 ≤ℤ a → pos 0 ≤ℤ b → pos 0 ≤ℤ (a *ℤ b)
 mul_nonneg (pos m) (pos n) h k = omega (arith, ints)

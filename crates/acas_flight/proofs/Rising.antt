@@ -2,9 +2,10 @@
 use Rattle.std.proofs.Common.{◌≡◌, ℕ, ◌+◌, ◌-◌, ◌*◌, ◌≤◌, ⊎_elim, refl, ap, ap₂, ◌∙◌, arith, [], ◌∷◌, ℤ, pos, ◌+ℤ◌, ◌-ℤ◌, ◌*ℤ◌, ◌≤ℤ◌, ◌<ℤ◌, min, mul-le-mul_right}
 use Rattle.std.proofs.lemmas.Int.{ints}
 use lib.IntN.{*ℤ_comm}
+use Rattle.acas_frac.proofs.SignedProducts.{mul-le_ℤ, le-trans_ℤ}
 use Rattle.acas_flight.proofs.IntRing.{at, num, ◌⊗◌, ring}
 use Rattle.acas_flight.proofs.Squares.{sq, sq_le, nearer_start}
-use Rattle.acas_flight.proofs.Orders.{by_below, by_above, cases_lt_ℤ, mul_le_left}
+use Rattle.acas_flight.proofs.Orders.{le_eq_ℤ, by_below, by_above, cases_lt_ℤ}
 use Rattle.acas_flight.proofs.Curves.{steady, approach_below, approach_above}
 use Rattle.acas_flight.proofs.Steps.{steady-add}
 use Rattle.acas_flight.proofs.Between.{low_pull-below, low_pull-above}
@@ -56,13 +57,7 @@ approach_at_least k u b t =
     line s m i a = omega (arith, ints)
 
 pub scaled_le : (a b : ℤ) (n : ℕ) → a ≤ℤ b → (a *ℤ pos n) ≤ℤ (b *ℤ pos n)
-scaled_le a b n h = rw (*ℤ_comm a (pos n), *ℤ_comm b (pos n)) (mul_le_left n a b h)
-
-pub le_trans_ℤ : (a b c : ℤ) → a ≤ℤ b → b ≤ℤ c → a ≤ℤ c
-le_trans_ℤ a b c h k = omega (arith, ints)
-
-pub le_eq_ℤ : (a b : ℤ) → a ≡ b → a ≤ℤ b
-le_eq_ℤ a b e = omega (arith, ints)
+scaled_le a b n h = rw (*ℤ_comm a (pos n), *ℤ_comm b (pos n)) (mul-le_ℤ n a b h)
 
 -- The low curve from a higher start rate is at least as high: the two climbs are compared over the product of their pulls.
 pub lowest_rises : (a : Demand) (v w : ℤ) (t : ℕ) → v ≤ℤ w → (lowest a v t *ℤ pos (low_pull a w)) ≤ℤ (lowest a w t *ℤ pos (low_pull a v))
@@ -101,8 +96,8 @@ lowest_rises a v w t h = ⊎_elim (λ i. ⊎_elim (λ j. low i j) (λ j. across 
     across : v <ℤ a.lo → a.lo ≤ℤ w → (lowest a v t *ℤ pos (low_pull a w)) ≤ℤ (lowest a w t *ℤ pos (low_pull a v))
     across i j =
         rw (low_pull-below a v i, low_pull-above a w j, low_hold-below a v i, low_hold-above a w j, held-none w a.lo a.limit t)
-        (le_trans_ℤ _ _ _ (scaled_le (held v a.lo a.pull a.delay t) (steady a.lo t a.pull) a.limit (under_steady a.lo a.pull a.delay i))
-        (le_trans_ℤ _ _ _ (le_eq_ℤ _ _ (swapped a.lo a.pull a.limit)) (scaled_le (steady a.lo t a.limit) (approach w a.lo a.limit t) a.pull (over_steady a.lo a.limit j))))
+        (le-trans_ℤ _ _ _ (scaled_le (held v a.lo a.pull a.delay t) (steady a.lo t a.pull) a.limit (under_steady a.lo a.pull a.delay i))
+        (le-trans_ℤ _ _ _ (le_eq_ℤ _ _ (swapped a.lo a.pull a.limit)) (scaled_le (steady a.lo t a.limit) (approach w a.lo a.limit t) a.pull (over_steady a.lo a.limit j))))
 
     high : a.lo ≤ℤ v → (lowest a v t *ℤ pos (low_pull a w)) ≤ℤ (lowest a w t *ℤ pos (low_pull a v))
     high i =

@@ -3,18 +3,13 @@ use Rattle.std.proofs.Common.{◌≡◌, ℕ, ◌+◌, ◌-◌, ◌*◌, ◌<◌
 use native.Mathlib.Nat.{mul-lt-mul_of_pos_left}
 use Rattle.std.proofs.lemmas.Int.{ints}
 use Rattle.std.proofs.lemmas.Bool.{cases_lt}
-use Rattle.acas_flight.proofs.IntRing.{at, num, ◌⊕◌, ◌⊖◌, ◌⊗◌, ring}
+use Rattle.acas_flight.proofs.IntRing.{at, num, ◌⊕◌, ◌⊗◌, ring}
 use Rattle.acas_flight.proofs.Squares.{sq, tangent, held_tangent, held_tangent_strict}
 use Rattle.acas_flight.proofs.Orders.{by_above, cases_lt_ℤ}
 use Rattle.acas_flight.proofs.Curves.{steady, approach_above}
+use Rattle.acas_flight.proofs.Holding.{steady_below}
 use Rattle.acas_flight.proofs.Rising.{held_below}
 use Rattle.acas_flight.specs.Curves.{approach, held}
-
-pub slower : (k : ℤ) (y t b : ℕ) → steady (k -ℤ pos y) t b ≡ steady k t b -ℤ pos ((y + y) * (b * t))
-slower k y t b = ring (k ∷ pos y ∷ pos t ∷ pos b ∷ [])
-    (((num (pos 2) ⊗ (at 0 ⊖ at 1)) ⊗ at 2) ⊗ at 3)
-    ((((num (pos 2) ⊗ at 0) ⊗ at 2) ⊗ at 3) ⊖ ((at 1 ⊕ at 1) ⊗ (at 3 ⊗ at 2)))
-    refl
 
 pub faster : (k : ℤ) (y t b : ℕ) → steady (k +ℤ pos y) t b ≡ steady k t b +ℤ pos ((y + y) * (b * t))
 faster k y t b = ring (k ∷ pos y ∷ pos t ∷ pos b ∷ [])
@@ -36,7 +31,7 @@ held_order b g s t =
 pub above_tangent : (k : ℤ) (x b g s t : ℕ) →
     (held (k -ℤ pos x) k b g s +ℤ steady (k -ℤ pos (x - b * (s - g))) t b) ≤ℤ (held (k -ℤ pos x) k b g t +ℤ steady (k -ℤ pos (x - b * (s - g))) s b)
 above_tangent k x b g s t =
-    rw (held_below k x b g s, held_below k x b g t, slower k (x - b * (s - g)) t b, slower k (x - b * (s - g)) s b)
+    rw (held_below k x b g s, held_below k x b g t, steady_below k (x - b * (s - g)) t b, steady_below k (x - b * (s - g)) s b)
     (line (steady k s b) (steady k t b) _ _ _ _ _ _ _
     (let e = parts_of b s g in let f = parts_of b t g in rw (e, f)
     (held_tangent x (b * min s g) (b * (s - g)) (b * min t g) (b * (t - g)) (held_order b g s t))))
@@ -72,6 +67,13 @@ lines_part r w b m n h l = by_above r w h (λ c e. rw e (parts c (n - m) (omega 
 abbrev pub gap : ℤ → ℤ → ℕ → ℕ → ℤ
 gap y w b t = y -ℤ steady w t b
 
+-- gaps between climbs c and lines w, compared through a tangent of the rate r
+gaps_by : (cs ct rs rt ws wt : ℤ) → (cs +ℤ rt) ≤ℤ (ct +ℤ rs) → (wt +ℤ rs) ≤ℤ (rt +ℤ ws) → (cs -ℤ ws) ≤ℤ (ct -ℤ wt)
+gaps_by cs ct rs rt ws wt h k = omega (arith, ints)
+
+gaps_by_strict : (cs ct rs rt ws wt : ℤ) → (cs +ℤ rt) ≤ℤ (ct +ℤ rs) → (rs +ℤ wt) <ℤ (ws +ℤ rt) → (cs -ℤ ws) <ℤ (ct -ℤ wt)
+gaps_by_strict cs ct rs rt ws wt h k = omega (arith, ints)
+
 module _ (k : ℤ) (x b g : ℕ) (w : ℤ) where
   abbrev curve : ℕ → ℤ
   curve t = held (k -ℤ pos x) k b g t
@@ -81,10 +83,7 @@ module _ (k : ℤ) (x b g : ℕ) (w : ℤ) where
 
   -- where the curve's rate is at least the line's, the gap is least among later times
   pub least_of_later : (s t : ℕ) → w ≤ℤ rate s → s ≤ t → gap (curve s) w b s ≤ℤ gap (curve t) w b t
-  least_of_later s t h l = line (curve s) (curve t) (steady (rate s) s b) (steady (rate s) t b) (steady w s b) (steady w t b) (above_tangent k x b g s t) (lines_part w (rate s) b s t h l)
-    where
-      line : (cs ct rs rt ws wt : ℤ) → (cs +ℤ rt) ≤ℤ (ct +ℤ rs) → (wt +ℤ rs) ≤ℤ (rt +ℤ ws) → (cs -ℤ ws) ≤ℤ (ct -ℤ wt)
-      line cs ct rs rt ws wt h k = omega (arith, ints)
+  least_of_later s t h l = gaps_by (curve s) (curve t) (steady (rate s) s b) (steady (rate s) t b) (steady w s b) (steady w t b) (above_tangent k x b g s t) (lines_part w (rate s) b s t h l)
 
 -- From the aim up, the gap at any time between two is at least that at one of the two.
 pub least_at_an_end : (k : ℤ) (u b : ℕ) (w : ℤ) (from t to : ℕ) → from ≤ t → t ≤ to →
@@ -92,13 +91,10 @@ pub least_at_an_end : (k : ℤ) (u b : ℕ) (w : ℤ) (from t to : ℕ) → from
     ⊎ (gap (approach (k +ℤ pos u) k b to) w b to ≤ℤ gap (approach (k +ℤ pos u) k b t) w b t)
 least_at_an_end k u b w from t to h j =
     ⊎_elim
-    (λ (l : w <ℤ (k +ℤ pos (u - b * t))). inl (line (approach (k +ℤ pos u) k b from) (approach (k +ℤ pos u) k b t) (steady (k +ℤ pos (u - b * t)) from b) (steady (k +ℤ pos (u - b * t)) t b) (steady w from b) (steady w t b) (below_tangent k u b t from) (lines_part w (k +ℤ pos (u - b * t)) b from t (omega (arith, ints)) h)))
+    (λ (l : w <ℤ (k +ℤ pos (u - b * t))). inl (gaps_by (approach (k +ℤ pos u) k b from) (approach (k +ℤ pos u) k b t) (steady (k +ℤ pos (u - b * t)) from b) (steady (k +ℤ pos (u - b * t)) t b) (steady w from b) (steady w t b) (below_tangent k u b t from) (lines_part w (k +ℤ pos (u - b * t)) b from t (omega (arith, ints)) h)))
     (λ (l : (k +ℤ pos (u - b * t)) ≤ℤ w). inr (line' (approach (k +ℤ pos u) k b to) (approach (k +ℤ pos u) k b t) (steady (k +ℤ pos (u - b * t)) to b) (steady (k +ℤ pos (u - b * t)) t b) (steady w to b) (steady w t b) (below_tangent k u b t to) (lines_part (k +ℤ pos (u - b * t)) w b t to l j)))
     (cases_lt_ℤ w (k +ℤ pos (u - b * t)))
   where
-    line : (cf ct rf rt wf wt : ℤ) → (cf +ℤ rt) ≤ℤ (ct +ℤ rf) → (wt +ℤ rf) ≤ℤ (rt +ℤ wf) → (cf -ℤ wf) ≤ℤ (ct -ℤ wt)
-    line cf ct rf rt wf wt h k = omega (arith, ints)
-
     line' : (cf ct rf rt wf wt : ℤ) → (cf +ℤ rt) ≤ℤ (ct +ℤ rf) → (rf +ℤ wt) ≤ℤ (wf +ℤ rt) → (cf -ℤ wf) ≤ℤ (ct -ℤ wt)
     line' cf ct rf rt wf wt h k = omega (arith, ints)
 
@@ -107,7 +103,7 @@ least_at_an_end k u b w from t to h j =
 above_tangent_strict : (k : ℤ) (x b g s t : ℕ) → 0 < b → g < s → b * (s - g) ≤ x → t < s →
     (held (k -ℤ pos x) k b g s +ℤ steady (k -ℤ pos (x - b * (s - g))) t b) <ℤ (held (k -ℤ pos x) k b g t +ℤ steady (k -ℤ pos (x - b * (s - g))) s b)
 above_tangent_strict k x b g s t p l i h =
-    rw (held_below k x b g s, held_below k x b g t, slower k (x - b * (s - g)) t b, slower k (x - b * (s - g)) s b)
+    rw (held_below k x b g s, held_below k x b g t, steady_below k (x - b * (s - g)) t b, steady_below k (x - b * (s - g)) s b)
     (line (steady k s b) (steady k t b) ((x + x) * (b * min s g)) ((x + x) * (b * min t g)) (x * x) (sq (x - b * (s - g))) (sq (x - b * (t - g))) (((x - b * (s - g)) + (x - b * (s - g))) * (b * s)) (((x - b * (s - g)) + (x - b * (s - g))) * (b * t))
     (let e = parts_of b s g in let f = parts_of b t g in rw (e, f)
     (held_tangent_strict x (b * min s g) (b * (s - g)) (b * min t g) (b * (t - g)) i
@@ -145,11 +141,8 @@ lines_part_strict r w b m n p h l = by_above r w (omega (arith, ints)) (λ c e. 
 pub earlier_than_slower : (k : ℤ) (x b g : ℕ) (w : ℤ) (s t : ℕ) → 0 < b → (k -ℤ pos (x - b * (s - g))) <ℤ w → t < s →
     gap (held (k -ℤ pos x) k b g s) w b s <ℤ gap (held (k -ℤ pos x) k b g t) w b t
 earlier_than_slower k x b g w s t p h l =
-    line (held (k -ℤ pos x) k b g s) (held (k -ℤ pos x) k b g t) (steady (k -ℤ pos (x - b * (s - g))) s b) (steady (k -ℤ pos (x - b * (s - g))) t b) (steady w s b) (steady w t b)
+    gaps_by_strict (held (k -ℤ pos x) k b g s) (held (k -ℤ pos x) k b g t) (steady (k -ℤ pos (x - b * (s - g))) s b) (steady (k -ℤ pos (x - b * (s - g))) t b) (steady w s b) (steady w t b)
     (above_tangent k x b g s t) (lines_part_strict (k -ℤ pos (x - b * (s - g))) w b t s p h l)
-  where
-    line : (cs ct rs rt ws wt : ℤ) → (cs +ℤ rt) ≤ℤ (ct +ℤ rs) → (rs +ℤ wt) <ℤ (ws +ℤ rt) → (cs -ℤ ws) <ℤ (ct -ℤ wt)
-    line cs ct rs rt ws wt h k = omega (arith, ints)
 
 -- From the aim up, before the later of two times the gap is at least that at the first or more than that at the last.
 pub least_at_an_end_strict : (k : ℤ) (u b : ℕ) (w : ℤ) (from t to : ℕ) → 0 < b → from ≤ t → t < to →
@@ -157,12 +150,6 @@ pub least_at_an_end_strict : (k : ℤ) (u b : ℕ) (w : ℤ) (from t to : ℕ) �
     ⊎ (gap (approach (k +ℤ pos u) k b to) w b to <ℤ gap (approach (k +ℤ pos u) k b t) w b t)
 least_at_an_end_strict k u b w from t to p h j =
     ⊎_elim
-    (λ (l : (k +ℤ pos (u - b * t)) <ℤ w). inr (line' (approach (k +ℤ pos u) k b to) (approach (k +ℤ pos u) k b t) (steady (k +ℤ pos (u - b * t)) to b) (steady (k +ℤ pos (u - b * t)) t b) (steady w to b) (steady w t b) (below_tangent k u b t to) (lines_part_strict (k +ℤ pos (u - b * t)) w b t to p l j)))
-    (λ (l : w ≤ℤ (k +ℤ pos (u - b * t))). inl (line (approach (k +ℤ pos u) k b from) (approach (k +ℤ pos u) k b t) (steady (k +ℤ pos (u - b * t)) from b) (steady (k +ℤ pos (u - b * t)) t b) (steady w from b) (steady w t b) (below_tangent k u b t from) (lines_part w (k +ℤ pos (u - b * t)) b from t l h)))
+    (λ (l : (k +ℤ pos (u - b * t)) <ℤ w). inr (gaps_by_strict (approach (k +ℤ pos u) k b to) (approach (k +ℤ pos u) k b t) (steady (k +ℤ pos (u - b * t)) to b) (steady (k +ℤ pos (u - b * t)) t b) (steady w to b) (steady w t b) (below_tangent k u b t to) (lines_part_strict (k +ℤ pos (u - b * t)) w b t to p l j)))
+    (λ (l : w ≤ℤ (k +ℤ pos (u - b * t))). inl (gaps_by (approach (k +ℤ pos u) k b from) (approach (k +ℤ pos u) k b t) (steady (k +ℤ pos (u - b * t)) from b) (steady (k +ℤ pos (u - b * t)) t b) (steady w from b) (steady w t b) (below_tangent k u b t from) (lines_part w (k +ℤ pos (u - b * t)) b from t l h)))
     (cases_lt_ℤ (k +ℤ pos (u - b * t)) w)
-  where
-    line : (cf ct rf rt wf wt : ℤ) → (cf +ℤ rt) ≤ℤ (ct +ℤ rf) → (wt +ℤ rf) ≤ℤ (rt +ℤ wf) → (cf -ℤ wf) ≤ℤ (ct -ℤ wt)
-    line cf ct rf rt wf wt h k = omega (arith, ints)
-
-    line' : (cf ct rf rt wf wt : ℤ) → (cf +ℤ rt) ≤ℤ (ct +ℤ rf) → (rf +ℤ wt) <ℤ (wf +ℤ rt) → (cf -ℤ wf) <ℤ (ct -ℤ wt)
-    line' cf ct rf rt wf wt h k = omega (arith, ints)

@@ -17,11 +17,11 @@ pub record Near (radius q range speed t : ℕ) : Type 0 where
   pub not_past : speed * t ≤ range * q + radius * q * q
 
 -- a closing speed from slow to fast, and a range from which horizontal separation is lost in n to n + 1 seconds
-record Away (radius slow fast n q range speed : ℕ) : Type 0 where
-  at_least : slow * q ≤ speed
-  at_most : speed ≤ fast * q
-  after : n * speed ≤ range - radius * q
-  before : range - radius * q ≤ (n + 1) * speed
+pub record Away (radius slow fast n q range speed : ℕ) : Type 0 where
+  pub at_least : slow * q ≤ speed
+  pub at_most : speed ≤ fast * q
+  pub after : n * speed ≤ range - radius * q
+  pub before : range - radius * q ≤ (n + 1) * speed
 
 abbrev IsNearAt : ℕ → ℕ → ℕ → ℕ → ℕ → ℕ → Type 0
 IsNearAt radius slow fast n q t = (range : ℕ) × (speed : ℕ) × Away radius slow fast n q range speed × Near radius q range speed t
@@ -108,17 +108,17 @@ module _ (radius slow fast n q t : ℕ) (some : 0 < q) (moves : 0 < slow) (order
 both : (radius slow fast n q t : ℕ) → 0 < q → 0 < slow → slow ≤ fast → IsTimeOfCell radius slow n q t ↔ IsNearAt radius slow fast n q t
 both radius slow fast n q t p s o = (witness radius slow fast n q t p s o, λ e. window radius slow fast n q t p s o e.0 e.1 e.2 e.3)
 
+pub IsSecondsAway-of : (m : ModelData) (n q range speed : ℕ) → Away m.radius m.least_closing m.greatest_closing n q range speed → IsSecondsAway m n q (pos range) (pos speed)
+IsSecondsAway-of m n q range speed a = record {
+  ahead = omega (arith, ints);
+  speed = (omega (arith, ints, a.at_least), omega (arith, ints, a.at_most));
+  not_before = rw (outside m.radius q range) (omega (arith, ints, a.after));
+  not_after = rw (outside m.radius q range) (omega (arith, ints, a.before));
+}
+
 module _ (m : ModelData) (n q t : ℕ) where
   to : IsNearAt m.radius m.least_closing m.greatest_closing n q t → IsContactTimeOfCell m n q t
-  to e = (pos e.0, pos e.1, away e.0 e.1 e.2, IsHorizontalContact-of m.radius q e.0 e.1 t e.3)
-    where
-      away : (range speed : ℕ) → Away m.radius m.least_closing m.greatest_closing n q range speed → IsSecondsAway m n q (pos range) (pos speed)
-      away range speed a = record {
-        ahead = omega (arith, ints);
-        speed = (omega (arith, ints, a.at_least), omega (arith, ints, a.at_most));
-        not_before = rw (outside m.radius q range) (omega (arith, ints, a.after));
-        not_after = rw (outside m.radius q range) (omega (arith, ints, a.before));
-      }
+  to e = (pos e.0, pos e.1, IsSecondsAway-of m n q e.0 e.1 e.2, IsHorizontalContact-of m.radius q e.0 e.1 t e.3)
 
   from : IsContactTimeOfCell m n q t → IsNearAt m.radius m.least_closing m.greatest_closing n q t
   from e = by e.0 e.1 e.2 e.3

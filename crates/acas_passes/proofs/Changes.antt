@@ -6,8 +6,9 @@ use Rattle.acas_flight.proofs.Squares.{sq, sq_le, hold_step, nearer_start}
 use Rattle.acas_passes.proofs.Deficits.{start_change, pull_change}
 use Rattle.acas_flight.proofs.Curves.{steady, approach_below, approach_above}
 use Rattle.acas_flight.proofs.Steps.{steady-add}
+use Rattle.acas_flight.proofs.Holding.{steady_below}
 use Rattle.acas_flight.proofs.Rising.{held_below, held_at_most, approach_at_least}
-use Rattle.acas_flight.proofs.Tangents.{slower, faster, parts_of}
+use Rattle.acas_flight.proofs.Tangents.{faster, parts_of}
 use Rattle.acas_flight.specs.Curves.{approach, held}
 
 -- ---- time
@@ -26,7 +27,7 @@ longer_below k x b g t d =
 -- and at least as at its start rate
 pub longer_below_least : (k : ℤ) (x b g t d : ℕ) → (held (k -ℤ pos x) k b g t +ℤ steady (k -ℤ pos x) d b) ≤ℤ held (k -ℤ pos x) k b g (t + d)
 longer_below_least k x b g t d =
-    rw (held_below k x b g (t + d), held_below k x b g t, steady-add k t d b, slower k x d b)
+    rw (held_below k x b g (t + d), held_below k x b g t, steady-add k t d b, steady_below k x d b)
     (line (steady k t b) (steady k d b) ((x + x) * (b * d)) ((x + x) * (b * min (t + d) g)) ((x + x) * (b * min t g)) (x * x) (sq (x - b * ((t + d) - g))) (sq (x - b * (t - g)))
     (parts (min (t + d) g - min t g) (((t + d) - g) - (t - g)) (omega arith) (omega arith) (omega arith)))
   where
@@ -58,13 +59,13 @@ aim_above k u b t d =
     line : (s : ℤ) (n uu ww i j : ℕ) → j + uu ≤ i + ww → (((s +ℤ pos n) +ℤ pos uu) -ℤ pos i) ≤ℤ (((s +ℤ pos ww) -ℤ pos j) +ℤ pos n)
     line s n uu ww i j a = omega (arith, ints)
 
+pub le_by_gain : (h sd s a : ℤ) (n : ℕ) → h ≤ℤ sd → s ≤ℤ a → sd ≡ s +ℤ pos n → h ≤ℤ (a +ℤ pos n)
+le_by_gain h sd s a n i j f = omega (arith, ints)
+
 -- the start rate is between the two aims
 pub aim_across : (k : ℤ) (u x b g t d : ℕ) → u + x ≡ d → held ((k +ℤ pos d) -ℤ pos x) (k +ℤ pos d) b g t ≤ℤ (approach (k +ℤ pos u) k b t +ℤ pos ((d + d) * (b * t)))
 aim_across k u x b g t d e =
-    line _ (steady (k +ℤ pos d) t b) (steady k t b) _ ((d + d) * (b * t)) (held_at_most (k +ℤ pos d) x b g t) (approach_at_least k u b t) (faster k d t b)
-  where
-    line : (h sd s a : ℤ) (n : ℕ) → h ≤ℤ sd → s ≤ℤ a → sd ≡ s +ℤ pos n → h ≤ℤ (a +ℤ pos n)
-    line h sd s a n i j f = omega (arith, ints)
+    le_by_gain _ (steady (k +ℤ pos d) t b) (steady k t b) _ ((d + d) * (b * t)) (held_at_most (k +ℤ pos d) x b g t) (approach_at_least k u b t) (faster k d t b)
 
 -- ---- the start rate, from x + d below the aim to x below it
 

@@ -1,7 +1,6 @@
 -- The flight at which the passes end is in contact.
-use Rattle.std.proofs.Common.{◌≡◌, ℕ, ◌+◌, ◌*◌, ◌/◌, ◌<◌, ◌≤◌, ⊎_elim, ap, ◌∙◌, sym, arith, Bool, true, false, true≢false, List, [], ◌∷◌, ◌++◌, pos, ◌*ℤ◌, neg_ℤ, ◌≤ℤ◌, ◌<ℤ◌, int_lt}
+use Rattle.std.proofs.Common.{◌≡◌, ℕ, ◌+◌, ◌*◌, ◌/◌, ◌<◌, ◌≤◌, ⊎_elim, ap, ◌∙◌, sym, arith, Bool, true, false, List, [], ◌∷◌, ◌++◌, pos, ◌*ℤ◌, neg_ℤ, ◌≤ℤ◌, ◌<ℤ◌, int_lt}
 use Rattle.std.proofs.lemmas.Int.{ints}
-use Rattle.std.proofs.lemmas.Bool.{cases_lt}
 use Rattle.acas_flight.proofs.Orders.{cases_lt_ℤ}
 use Rattle.acas_flight.proofs.Rising.{scaled_le}
 use Rattle.acas_frac.specs.Fraction.{Fraction}
@@ -10,7 +9,7 @@ use Rattle.acas_flight.specs.Response.{Segment}
 use Rattle.acas_flight.specs.Window.{Times}
 use Rattle.acas_flight.specs.Clear.{EndsInVerticalContact}
 use Rattle.acas_passes.specs.Halving.{HalvesTo, ends, raises, lowers}
-use Rattle.acas_passes.proofs.Halvings.{IsWithin-next}
+use Rattle.acas_passes.proofs.Halvings.{IsWithin-next, Bracket-first}
 use Rattle.acas_passes.specs.Flights.{Flight, value}
 use Rattle.acas_passes.specs.Passes.{Pass, IsLast, EndsAt, here, later, below_at, IsGentle, AreJoined, Each}
 use Rattle.acas_passes.specs.Search.{Search, IsSearch, IsTimed, IsFound, at_low, at_high, between, unit, over_square, passes, low_flight, CanMeet}
@@ -34,12 +33,9 @@ crossing below _ _ _ (ends low high h) l a b = record { before = low; next = ome
 crossing below _ _ _ (raises low high end h t s) l a b = crossing below ((low + high) / 2) high end s (omega arith) t b
 crossing below _ _ _ (lowers low high end h t s) l a b = crossing below low ((low + high) / 2) end s (omega arith) a t
 
-apart : (below : ℕ → Bool) (last : ℕ) → below 0 ≡ true → below last ≡ false → 0 < last
-apart below last a b = ⊎_elim (λ (l : 0 < last). l) (λ (l : last ≤ 0). let e : last ≡ 0 = omega arith in absurd (true≢false (sym a ∙ ap below (sym e) ∙ b))) (cases_lt 0 last)
-
 in_pass : (half q : ℕ) (p : Pass) (last end : ℕ) → thinnest ≤ 2 * half → IsGentle q p → AllSome q p → below_at half q p 0 ≡ true → below_at half q p last ≡ false → HalvesTo (below_at half q p) 0 last end → IsWithinHalf half (value q (p.point end))
 in_pass half q p last end thick gentle some a b h =
-    let x = crossing (below_at half q p) 0 last end h (apart (below_at half q p) last a b) a b in
+    let x = crossing (below_at half q p) 0 last end h (Bracket-first (below_at half q p) last a b).apart a b in
     IsWithin-next half (value q (p.point x.before)) (value q (p.point end)) thick (some x.before) (some end) x.low x.high
     (rw (sym x.next) at (gentle x.before))
 
@@ -60,13 +56,13 @@ pub ends-in : (P : Flight → Type 0) (half q : ℕ) (ps : List Pass) (c : Fligh
 ends-in P half q _ _ a (here p rest last at l t h) = a.0 at
 ends-in P half q _ _ a (later p rest last c l t e) = ends-in P half q rest c a.1 e
 
-module _ (half : ℕ) (s : Search) (w : Times) (thick : thinnest ≤ 2 * half) (is : IsSearch s) (timed : IsTimed s w) (can : CanMeet half s) where
-  below_or_not : (f : Fraction) → f.num ≤ℤ pos (half * f.den) → ¬ IsWithinHalf half f → is_below half f ≡ true
-  below_or_not f h n = ⊎_elim
-      (λ (l : f.num <ℤ neg_ℤ (pos (half * f.den))). let e : true ≡ int_lt f.num (neg_ℤ (pos (half * f.den))) = omega (arith, ints) in sym e)
-      (λ l. absurd (n (record { not_below = l; not_above = h })))
-      (cases_lt_ℤ f.num (neg_ℤ (pos (half * f.den))))
+pub below_or_not : (half : ℕ) (f : Fraction) → f.num ≤ℤ pos (half * f.den) → ¬ IsWithinHalf half f → is_below half f ≡ true
+below_or_not half f h n = ⊎_elim
+    (λ (l : f.num <ℤ neg_ℤ (pos (half * f.den))). let e : true ≡ int_lt f.num (neg_ℤ (pos (half * f.den))) = omega (arith, ints) in sym e)
+    (λ l. absurd (n (record { not_below = l; not_above = h })))
+    (cases_lt_ℤ f.num (neg_ℤ (pos (half * f.den))))
 
+module _ (half : ℕ) (s : Search) (w : Times) (thick : thinnest ≤ 2 * half) (is : IsSearch s) (timed : IsTimed s w) (can : CanMeet half s) where
   own_top : (over_square s s.area.own.least ≤ℤ over_square s s.area.own.greatest) × (over_square s s.area.own.greatest ≤ℤ over_square s s.area.own.greatest)
   own_top = (scaled_le s.area.own.least s.area.own.greatest (unit s * unit s) is.own.ordered, omega (arith, ints))
 
@@ -78,7 +74,7 @@ module _ (half : ℕ) (s : Search) (w : Times) (thick : thinnest ≤ 2 * half) (
     ends-within half (unit s) (passes s) c thick (each_gentle s is)
         (each_some s is)
         (joined s is)
-        (ap (λ x. is_below half (value (unit s) x)) (time-start s) ∙ below_or_not (value (unit s) (low_flight s)) can.low n) e,
+        (ap (λ x. is_below half (value (unit s) x)) (time-start s) ∙ below_or_not half (value (unit s) (low_flight s)) can.low n) e,
   )
 
 pub found-contact : (half : ℕ) (s : Search) (w : Times) (c : Flight) (hold rest : List Segment) → thinnest ≤ 2 * half → IsSearch s → IsTimed s w → CanMeet half s → IsFound half s c → IsResponse (unit s) c hold rest →

@@ -1,17 +1,12 @@
 -- The changes of a curve from its aim up: those from below, turned upside down.
 use Rattle.std.proofs.Common.{◌≡◌, ℕ, ◌+◌, ◌-◌, ◌*◌, ◌∙◌, ap, arith, ℤ, pos, neg_ℤ, ◌+ℤ◌, ◌-ℤ◌, ◌*ℤ◌, ◌≤ℤ◌}
 use Rattle.std.proofs.lemmas.Int.{ints}
-use Rattle.acas_flight.proofs.IntRing.{mul_neg_ℤ}
+use Rattle.acas_frac.proofs.SignedProducts.{mul-neg_ℤ}
 use Rattle.acas_flight.proofs.Curves.{steady}
-use Rattle.acas_flight.proofs.Mirror.{turned_held, steady_turned}
+use Rattle.acas_flight.proofs.Mirror.{steady_turned}
+use Rattle.acas_flight.proofs.Held.{down, turned}
 use Rattle.acas_passes.proofs.Changes.{longer_below, longer_below_least, start_below, hold_below, pull_below}
 use Rattle.acas_flight.specs.Curves.{held}
-
-down : (k : ℤ) (u : ℕ) → neg_ℤ k -ℤ pos u ≡ neg_ℤ (k +ℤ pos u)
-down k u = omega (arith, ints)
-
-pub turned : (k : ℤ) (u b g t : ℕ) → held (neg_ℤ k -ℤ pos u) (neg_ℤ k) b g t ≡ neg_ℤ (held (k +ℤ pos u) k b g t)
-turned k u b g t = ap (λ v. held v (neg_ℤ k) b g t) (down k u) ∙ turned_held (k +ℤ pos u) k b g t
 
 -- in the time d more at most as at the start rate, and at least as at the aim's
 pub longer_above : (k : ℤ) (u b g t d : ℕ) → held (k +ℤ pos u) k b g (t + d) ≤ℤ (held (k +ℤ pos u) k b g t +ℤ steady (k +ℤ pos u) d b)
@@ -50,6 +45,6 @@ pub pull_above : (k : ℤ) (u b e g t : ℕ) → (pos (b + e) *ℤ held (k +ℤ 
 pull_above k u b e g t =
     rises (pos b *ℤ held (k +ℤ pos u) k (b + e) g t) (pos (b + e) *ℤ held (k +ℤ pos u) k b g t)
     (pos b *ℤ held (neg_ℤ k -ℤ pos u) (neg_ℤ k) (b + e) g t) (pos (b + e) *ℤ held (neg_ℤ k -ℤ pos u) (neg_ℤ k) b g t) ((b * (b + e)) * (((t - g) * (t - g)) * e))
-    (ap (λ z. pos b *ℤ z) (turned k u (b + e) g t) ∙ mul_neg_ℤ (pos b) (held (k +ℤ pos u) k (b + e) g t))
-    (ap (λ z. pos (b + e) *ℤ z) (turned k u b g t) ∙ mul_neg_ℤ (pos (b + e)) (held (k +ℤ pos u) k b g t))
+    (ap (λ z. pos b *ℤ z) (turned k u (b + e) g t) ∙ mul-neg_ℤ (pos b) (held (k +ℤ pos u) k (b + e) g t))
+    (ap (λ z. pos (b + e) *ℤ z) (turned k u b g t) ∙ mul-neg_ℤ (pos (b + e)) (held (k +ℤ pos u) k b g t))
     (pull_below (neg_ℤ k) u b e g t)

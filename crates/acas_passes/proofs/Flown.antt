@@ -1,19 +1,16 @@
 -- The response of a flight of the search has the climb of its curve, and meets the advisory.
 use Rattle.std.proofs.Common.{◌≡◌, ℕ, ◌+◌, ◌-◌, ◌*◌, ◌<◌, ◌≤◌, inl, inr, refl, ap, ◌∙◌, sym, arith, List, [], ◌∷◌, ◌++◌, ℤ, pos, neg_ℤ, ◌+ℤ◌, ◌-ℤ◌, ◌*ℤ◌, ◌≤ℤ◌, mul-le-mul_left}
 use Rattle.std.proofs.lemmas.Int.{ints}
-use Rattle.acas_flight.proofs.IntRing.{at, num, ◌⊕◌, ◌⊖◌, ◌⊗◌, ring, neg_mul_ℤ}
+use Rattle.acas_frac.proofs.SignedProducts.{neg-mul_ℤ}
+use Rattle.acas_flight.proofs.IntRing.{at, num, ◌⊕◌, ◌⊖◌, ◌⊗◌, ring, zero-sub_ℤ}
 use Rattle.acas_flight.proofs.Squares.{sq}
-use Rattle.acas_flight.proofs.Curves.{steady, approach_below, approach_above}
-use Rattle.acas_flight.proofs.Between.{approach-at_zero}
+use Rattle.acas_flight.proofs.Curves.{steady, approach_below, approach_above, approach-at_once}
 use Rattle.acas_passes.proofs.Approaches.{climb-speeding, climb-speeding_level, speeding-Follows, level-Follows}
 use Rattle.acas_flight.specs.Response.{Segment, Demand, rate_after, climb, lasting, Follows, FollowsThroughout, Meets}
 use Rattle.acas_flight.specs.Curves.{approach}
 use Rattle.acas_passes.specs.Responses.{segment, IsHoldFor, not_held, held_for, IsApproachFor, at_once, at_aim, before, past, IsToward, up, down}
 
 -- ---- downwards
-
-negative : (b : ℕ) → neg_ℤ (pos b) ≡ pos 0 -ℤ pos b
-negative b = omega (arith, ints)
 
 -- before the aim is reached
 climb-slowing : (k : ℤ) (x b t : ℕ) → b * t ≤ x → climb (k +ℤ pos x) (segment t (neg_ℤ (pos b)) ∷ []) *ℤ pos b ≡ approach (k +ℤ pos x) k b t
@@ -22,7 +19,7 @@ climb-slowing k x b t h = from (x - b * t) (omega arith) ∙ sym (approach_above
     from : (y : ℕ) → x ≡ y + b * t → climb (k +ℤ pos x) (segment t (neg_ℤ (pos b)) ∷ []) *ℤ pos b ≡ (steady k t b +ℤ pos (x * x)) -ℤ pos (sq (x - b * t))
     from y e =
         let rest : x - b * t ≡ y = omega arith in
-        rw (negative b, rest, e) (ring (k ∷ pos y ∷ pos b ∷ pos t ∷ [])
+        rw (← zero-sub_ℤ (pos b), rest, e) (ring (k ∷ pos y ∷ pos b ∷ pos t ∷ [])
         ((((num (pos 2) ⊗ (at 0 ⊕ (at 1 ⊕ at 2 ⊗ at 3))) ⊗ at 3 ⊕ ((num (pos 0) ⊖ at 2) ⊗ at 3) ⊗ at 3) ⊕ num (pos 0)) ⊗ at 2)
         (((((num (pos 2) ⊗ at 0) ⊗ at 3) ⊗ at 2) ⊕ ((at 1 ⊕ at 2 ⊗ at 3) ⊗ (at 1 ⊕ at 2 ⊗ at 3))) ⊖ (at 1 ⊗ at 1))
         refl)
@@ -31,7 +28,7 @@ climb-slowing k x b t h = from (x - b * t) (omega arith) ∙ sym (approach_above
 climb-slowing_level : (k : ℤ) (b d t : ℕ) → climb (k +ℤ pos (b * d)) (segment d (neg_ℤ (pos b)) ∷ segment t (pos 0) ∷ []) *ℤ pos b ≡ approach (k +ℤ pos (b * d)) k b (d + t)
 climb-slowing_level k b d t =
     let none : b * d - b * (d + t) ≡ 0 = omega arith in
-    rw (negative b) (
+    rw (← zero-sub_ℤ (pos b)) (
     ring (k ∷ pos b ∷ pos d ∷ pos t ∷ [])
     ((((num (pos 2) ⊗ (at 0 ⊕ at 1 ⊗ at 2)) ⊗ at 2 ⊕ ((num (pos 0) ⊖ at 1) ⊗ at 2) ⊗ at 2) ⊕ (((num (pos 2) ⊗ ((at 0 ⊕ at 1 ⊗ at 2) ⊕ (num (pos 0) ⊖ at 1) ⊗ at 2)) ⊗ at 3 ⊕ (num (pos 0) ⊗ at 3) ⊗ at 3) ⊕ num (pos 0))) ⊗ at 1)
     (((((num (pos 2) ⊗ at 0) ⊗ (at 2 ⊕ at 3)) ⊗ at 1) ⊕ ((at 1 ⊗ at 2) ⊗ (at 1 ⊗ at 2))) ⊖ num (pos 0))
@@ -39,7 +36,7 @@ climb-slowing_level k b d t =
     ∙ sym (approach_above k (b * d) b (d + t) ∙ rw none refl))
 
 slowing-Follows : (a : Demand) (k : ℤ) (x b t : ℕ) → 0 < t → b * t ≤ x → a.lo ≤ℤ k → k ≤ℤ a.hi → a.pull ≤ b → b ≤ a.limit → Follows a (k +ℤ pos x) (segment t (neg_ℤ (pos b)))
-slowing-Follows a k x b t p h i j m n = by (neg_ℤ (pos b) *ℤ pos t) (neg_mul_ℤ (pos b) (pos t))
+slowing-Follows a k x b t p h i j m n = by (neg_ℤ (pos b) *ℤ pos t) (neg-mul_ℤ (pos b) (pos t))
   where
     by : (c : ℤ) → c ≡ neg_ℤ (pos b *ℤ pos t) → Follows a (k +ℤ pos x) (segment t (neg_ℤ (pos b)))
     by c e = record {
@@ -47,8 +44,8 @@ slowing-Follows a k x b t p h i j m n = by (neg_ℤ (pos b) *ℤ pos t) (neg_mul
       at_least = omega (arith, ints);
       at_most = omega (arith, ints);
       from_below = λ u. absurd (omega (arith, ints));
-      from_above = λ u. (omega (arith, ints), rw (neg_mul_ℤ (pos b) (pos t)) (omega (arith, ints)));
-      from_within = λ u l. (rw (neg_mul_ℤ (pos b) (pos t)) (omega (arith, ints)), rw (neg_mul_ℤ (pos b) (pos t)) (omega (arith, ints)));
+      from_above = λ u. (omega (arith, ints), rw (neg-mul_ℤ (pos b) (pos t)) (omega (arith, ints)));
+      from_within = λ u l. (rw (neg-mul_ℤ (pos b) (pos t)) (omega (arith, ints)), rw (neg-mul_ℤ (pos b) (pos t)) (omega (arith, ints)));
     }
 
 -- ---- at the aim
@@ -72,7 +69,7 @@ approach-lasting bend c _ _ (before t p b h) = omega arith
 approach-lasting bend c _ _ (past t b h) = omega arith
 
 upwards : (k : ℤ) (b bend t : ℕ) (r : List Segment) → IsApproachFor bend (pos b) t r → climb (k -ℤ pos (b * bend)) r *ℤ pos b ≡ approach (k -ℤ pos (b * bend)) k b t
-upwards k b bend _ _ at_once = rw (approach-at_zero (k -ℤ pos (b * bend)) k b) (omega (arith, ints))
+upwards k b bend _ _ at_once = rw (approach-at_once (k -ℤ pos (b * bend)) k b) (omega (arith, ints))
 upwards k b bend _ _ (at_aim t p e) =
     let same : k -ℤ pos (b * 0) ≡ k = omega (arith, ints) in
     rw (e, same) (climb-level k b t)
@@ -82,7 +79,7 @@ upwards k b bend _ _ (past t s h) =
     climb-speeding_level k b bend (t - bend) ∙ ap (λ n. approach (k -ℤ pos (b * bend)) k b n) e
 
 downwards : (k : ℤ) (b bend t : ℕ) (r : List Segment) → IsApproachFor bend (neg_ℤ (pos b)) t r → climb (k +ℤ pos (b * bend)) r *ℤ pos b ≡ approach (k +ℤ pos (b * bend)) k b t
-downwards k b bend _ _ at_once = rw (approach-at_zero (k +ℤ pos (b * bend)) k b) (omega (arith, ints))
+downwards k b bend _ _ at_once = rw (approach-at_once (k +ℤ pos (b * bend)) k b) (omega (arith, ints))
 downwards k b bend _ _ (at_aim t p e) =
     let same : k +ℤ pos (b * 0) ≡ k = omega (arith, ints) in
     rw (e, same) (climb-level k b t)
@@ -102,7 +99,7 @@ module _ (a : Demand) (k : ℤ) (b : ℕ) (above : a.lo ≤ℤ k) (below : k ≤
   up_rate bend = ring (k ∷ pos b ∷ pos bend ∷ []) ((at 0 ⊖ (at 1 ⊗ at 2)) ⊕ (at 1 ⊗ at 2)) (at 0) refl
 
   down_rate : (bend : ℕ) → rate_after (k +ℤ pos (b * bend)) (segment bend (neg_ℤ (pos b))) ≡ k
-  down_rate bend = rw (negative b) (ring (k ∷ pos b ∷ pos bend ∷ []) ((at 0 ⊕ (at 1 ⊗ at 2)) ⊕ ((num (pos 0) ⊖ at 1) ⊗ at 2)) (at 0) refl)
+  down_rate bend = rw (← zero-sub_ℤ (pos b)) (ring (k ∷ pos b ∷ pos bend ∷ []) ((at 0 ⊕ (at 1 ⊗ at 2)) ⊕ ((num (pos 0) ⊖ at 1) ⊗ at 2)) (at 0) refl)
 
   upwards-follows : (bend t : ℕ) (r : List Segment) → IsApproachFor bend (pos b) t r → FollowsThroughout a (k -ℤ pos (b * bend)) r
   upwards-follows bend _ _ at_once = tt

@@ -1,9 +1,11 @@
 -- One step of a pass changes the value of its flight by less than the thinnest puck is thick.
 use Rattle.std.proofs.Common.{◌≡◌, ℕ, ◌+◌, ◌*◌, ◌<◌, ◌≤◌, ⊎_elim, refl, arith, [], ◌∷◌, ℤ, pos, neg_ℤ, ◌+ℤ◌, ◌-ℤ◌, ◌*ℤ◌, ◌≤ℤ◌, ◌<ℤ◌, unsigned_abs, mul-pos, mul-le-mul, mul-le-mul_left}
 use Rattle.std.proofs.lemmas.Int.{ints}
+use Rattle.acas_frac.proofs.SignedProducts.{mul-le_ℤ, mul-lt_ℤ}
 use Rattle.acas_flight.proofs.IntRing.{at, num, ◌⊕◌, ◌⊖◌, ◌⊗◌, ring}
-use Rattle.acas_flight.proofs.Orders.{mul_lt_left, mul_le_left, by_above, by_below, cases_lt_ℤ}
+use Rattle.acas_flight.proofs.Orders.{by_above, by_below, cases_lt_ℤ}
 use Rattle.acas_flight.proofs.Curves.{steady}
+use Rattle.acas_flight.proofs.Mirror.{steady_turned}
 use Rattle.acas_passes.proofs.Changes.{longer_below, longer_below_least}
 use Rattle.acas_passes.proofs.Falling.{longer_above, longer_above_least}
 use Rattle.acas_passes.specs.Value.{IsLessThanAbove, thinnest}
@@ -18,7 +20,7 @@ use Rattle.acas_passes.specs.Search.{fastest}
 pub gain : (n m : ℤ) (g D : ℕ) → m ≤ℤ (n +ℤ pos g) → g < thinnest * D → IsLessThanAbove thinnest (record { num = n; den = D }) (record { num = m; den = D })
 gain n m g D h k =
     let p : 0 < D = omega arith in
-    let s = mul_lt_left D m (n +ℤ pos (thinnest * D)) p (line n m g (thinnest * D) h k) in
+    let s = mul-lt_ℤ D m (n +ℤ pos (thinnest * D)) p (line n m g (thinnest * D) h k) in
     rw (*ℤ_comm (pos D) m, spread n D) at s
   where
     line : (n m : ℤ) (g r : ℕ) → m ≤ℤ (n +ℤ pos g) → g < r → m <ℤ (n +ℤ pos r)
@@ -29,7 +31,7 @@ gain n m g D h k =
 
 -- the most that a rate of at most c in size climbs
 pub steady_most : (m : ℤ) (c d b : ℕ) → unsigned_abs m ≤ c → steady m d b ≤ℤ pos (2 * (c * (d * b)))
-steady_most m c d b h = rw (form m d b) (rw (last c d b) (mul_le_left (2 * (d * b)) m (pos c) (omega (arith, ints))))
+steady_most m c d b h = rw (form m d b) (rw (last c d b) (mul-le_ℤ (2 * (d * b)) m (pos c) (omega (arith, ints))))
   where
     form : (m : ℤ) (d b : ℕ) → steady m d b ≡ pos (2 * (d * b)) *ℤ m
     form m d b = ring (m ∷ pos d ∷ pos b ∷ []) (((num (pos 2) ⊗ at 0) ⊗ at 1) ⊗ at 2) ((num (pos 2) ⊗ (at 1 ⊗ at 2)) ⊗ at 0) refl
@@ -38,14 +40,8 @@ steady_most m c d b h = rw (form m d b) (rw (last c d b) (mul_le_left (2 * (d * 
     last c d b = ring (pos c ∷ pos d ∷ pos b ∷ []) (num (pos 2) ⊗ (at 0 ⊗ (at 1 ⊗ at 2))) ((num (pos 2) ⊗ (at 1 ⊗ at 2)) ⊗ at 0) refl
 
 pub steady_least : (m : ℤ) (c d b : ℕ) → unsigned_abs m ≤ c → neg_ℤ (pos (2 * (c * (d * b)))) ≤ℤ steady m d b
-steady_least m c d b h = turn (steady m d b) (steady (neg_ℤ m) d b) (2 * (c * (d * b))) (opposite m d b) (steady_most (neg_ℤ m) c d b (omega (arith, ints)))
+steady_least m c d b h = turn (steady m d b) (steady (neg_ℤ m) d b) (2 * (c * (d * b))) (steady_turned m d b) (steady_most (neg_ℤ m) c d b (omega (arith, ints)))
   where
-    opposite : (m : ℤ) (d b : ℕ) → steady (neg_ℤ m) d b ≡ neg_ℤ (steady m d b)
-    opposite m d b =
-        let e : neg_ℤ m ≡ pos 0 -ℤ m = omega (arith, ints) in
-        let f : neg_ℤ (steady m d b) ≡ pos 0 -ℤ steady m d b = omega (arith, ints) in
-        rw (e, f) (ring (m ∷ pos d ∷ pos b ∷ []) (((num (pos 2) ⊗ (num (pos 0) ⊖ at 0)) ⊗ at 1) ⊗ at 2) (num (pos 0) ⊖ (((num (pos 2) ⊗ at 0) ⊗ at 1) ⊗ at 2)) refl)
-
     turn : (a b : ℤ) (n : ℕ) → b ≡ neg_ℤ a → b ≤ℤ pos n → neg_ℤ (pos n) ≤ℤ a
     turn a b n e h = omega (arith, ints)
 
@@ -97,20 +93,21 @@ room_rate q b t d p s h k =
 
 -- ---- time
 
+-- the line of the intruder, in the time d more
+lines_later : (q : ℕ) (h w : ℤ) (b t d : ℕ) → pos b *ℤ ((h *ℤ pos (q * q * q)) +ℤ ((pos 2 *ℤ w) *ℤ pos (t + d))) ≡ (pos b *ℤ ((h *ℤ pos (q * q * q)) +ℤ ((pos 2 *ℤ w) *ℤ pos t))) +ℤ steady w d b
+lines_later q h w b t d = ring (pos q ∷ h ∷ w ∷ pos b ∷ pos t ∷ pos d ∷ [])
+    (at 3 ⊗ ((at 1 ⊗ ((at 0 ⊗ at 0) ⊗ at 0)) ⊕ ((num (pos 2) ⊗ at 2) ⊗ (at 4 ⊕ at 5))))
+    ((at 3 ⊗ ((at 1 ⊗ ((at 0 ⊗ at 0) ⊗ at 0)) ⊕ ((num (pos 2) ⊗ at 2) ⊗ at 4))) ⊕ (((num (pos 2) ⊗ at 2) ⊗ at 5) ⊗ at 3))
+    refl
+
 pub later : (q : ℕ) (h v w k : ℤ) (b g t d : ℕ) → 0 < q → 0 < b → TIME_STEPS * d ≤ q → unsigned_abs v ≤ fastest * (q * q) → unsigned_abs k ≤ fastest * (q * q) → unsigned_abs w ≤ fastest * (q * q) →
     IsLessThanAbove thinnest (value q (flight t h v w k b g)) (value q (flight (t + d) h v w k b g))
 later q h v w k b g t d p s r hv hk hw =
     gain _ _ (4 * fastest * ((q * q) * (d * b))) (q * q * q * b)
-    (rw (lines q h w b t d) (add (held v k b g t) (held v k b g (t + d)) (pos b *ℤ ((h *ℤ pos (q * q * q)) +ℤ ((pos 2 *ℤ w) *ℤ pos t))) (steady w d b) _ _
+    (rw (lines_later q h w b t d) (add (held v k b g t) (held v k b g (t + d)) (pos b *ℤ ((h *ℤ pos (q * q * q)) +ℤ ((pos 2 *ℤ w) *ℤ pos t))) (steady w d b) _ _
     (held_later v k b g t d (fastest * (q * q)) hv hk) (steady_least w (fastest * (q * q)) d b hw) (omega arith)))
     (room_time q b d p s r)
   where
-    lines : (q : ℕ) (h w : ℤ) (b t d : ℕ) → pos b *ℤ ((h *ℤ pos (q * q * q)) +ℤ ((pos 2 *ℤ w) *ℤ pos (t + d))) ≡ (pos b *ℤ ((h *ℤ pos (q * q * q)) +ℤ ((pos 2 *ℤ w) *ℤ pos t))) +ℤ steady w d b
-    lines q h w b t d = ring (pos q ∷ h ∷ w ∷ pos b ∷ pos t ∷ pos d ∷ [])
-        (at 3 ⊗ ((at 1 ⊗ ((at 0 ⊗ at 0) ⊗ at 0)) ⊕ ((num (pos 2) ⊗ at 2) ⊗ (at 4 ⊕ at 5))))
-        ((at 3 ⊗ ((at 1 ⊗ ((at 0 ⊗ at 0) ⊗ at 0)) ⊕ ((num (pos 2) ⊗ at 2) ⊗ at 4))) ⊕ (((num (pos 2) ⊗ at 2) ⊗ at 5) ⊗ at 3))
-        refl
-
     add : (a b l s : ℤ) (n m : ℕ) → b ≤ℤ (a +ℤ pos n) → neg_ℤ (pos n) ≤ℤ s → n + n ≡ m → (b -ℤ (l +ℤ s)) ≤ℤ ((a -ℤ l) +ℤ pos m)
     add a b l s n m i j e = omega (arith, ints)
 
@@ -118,16 +115,10 @@ pub sooner : (q : ℕ) (h v w k : ℤ) (b g t d : ℕ) → 0 < q → 0 < b → T
     IsLessThanAbove thinnest (value q (flight (t + d) h v w k b g)) (value q (flight t h v w k b g))
 sooner q h v w k b g t d p s r hv hk hw =
     gain _ _ (4 * fastest * ((q * q) * (d * b))) (q * q * q * b)
-    (rw (lines q h w b t d) (add (held v k b g t) (held v k b g (t + d)) (pos b *ℤ ((h *ℤ pos (q * q * q)) +ℤ ((pos 2 *ℤ w) *ℤ pos t))) (steady w d b) _ _
+    (rw (lines_later q h w b t d) (add (held v k b g t) (held v k b g (t + d)) (pos b *ℤ ((h *ℤ pos (q * q * q)) +ℤ ((pos 2 *ℤ w) *ℤ pos t))) (steady w d b) _ _
     (held_sooner v k b g t d (fastest * (q * q)) hv hk) (steady_most w (fastest * (q * q)) d b hw) (omega arith)))
     (room_time q b d p s r)
   where
-    lines : (q : ℕ) (h w : ℤ) (b t d : ℕ) → pos b *ℤ ((h *ℤ pos (q * q * q)) +ℤ ((pos 2 *ℤ w) *ℤ pos (t + d))) ≡ (pos b *ℤ ((h *ℤ pos (q * q * q)) +ℤ ((pos 2 *ℤ w) *ℤ pos t))) +ℤ steady w d b
-    lines q h w b t d = ring (pos q ∷ h ∷ w ∷ pos b ∷ pos t ∷ pos d ∷ [])
-        (at 3 ⊗ ((at 1 ⊗ ((at 0 ⊗ at 0) ⊗ at 0)) ⊕ ((num (pos 2) ⊗ at 2) ⊗ (at 4 ⊕ at 5))))
-        ((at 3 ⊗ ((at 1 ⊗ ((at 0 ⊗ at 0) ⊗ at 0)) ⊕ ((num (pos 2) ⊗ at 2) ⊗ at 4))) ⊕ (((num (pos 2) ⊗ at 2) ⊗ at 5) ⊗ at 3))
-        refl
-
     add : (a b l s : ℤ) (n m : ℕ) → a ≤ℤ (b +ℤ pos n) → s ≤ℤ pos n → n + n ≡ m → (a -ℤ l) ≤ℤ ((b -ℤ (l +ℤ s)) +ℤ pos m)
     add a b l s n m i j e = omega (arith, ints)
 

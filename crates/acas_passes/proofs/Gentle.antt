@@ -3,6 +3,8 @@ use Rattle.std.proofs.Common.{◌≡◌, ℕ, ◌+◌, ◌*◌, ◌<◌, ◌≤�
 use Rattle.std.proofs.lemmas.Int.{ints}
 use Rattle.std.proofs.lemmas.Bool.{cases_lt}
 use Rattle.acas_flight.proofs.Orders.{cases_lt_ℤ}
+use Rattle.acas_flight.proofs.Between.{low_pull-above}
+use Rattle.acas_flight.proofs.Holding.{low_hold-above}
 use Rattle.acas_passes.specs.Value.{IsLessThanAbove, thinnest}
 use Rattle.acas_flight.specs.Response.{scaled}
 use Rattle.acas_passes.specs.Flights.{value}
@@ -10,7 +12,7 @@ use Rattle.acas_passes.specs.Passes.{toward, rising, falling, IsGentle, Each}
 use Rattle.acas_passes.specs.Search.{Search, IsSearch, grain, unit, time_step, rate_step, over_square, low_time, high_time, pull_at_low, hold_at_low, pull_at_high, hold_at_high, high_flight_from, time_pass, altitude_pass, intruder_pass, aim_pass, pull_pass, hold_pass, own_pass, passes, fastest}
 use Rattle.acas_passes.proofs.Gains.{later, sooner, lower, slower_intruder}
 use Rattle.acas_passes.proofs.Turns.{higher_aim, stronger, weaker, shorter_hold, longer_hold, higher_below, higher_above, higher_across}
-use Rattle.acas_passes.proofs.Neighbours.{toward_up, toward_down, rising_next, falling_next, rising_least, next, pull_from, hold_from, pull_above, pull_to, hold_above, hold_to, low_pull_within, high_pull_within, size_over, unit_some, pull_some, pull_most, high_time_most, room_of_time, room_of_pull, room_of_rate, slowest_size, least_size, greatest_size, aims_ordered}
+use Rattle.acas_passes.proofs.Neighbours.{toward_up, toward_down, rising_next, falling_next, rising_least, next, pull_above, pull_to, hold_above, hold_to, low_pull_within, high_pull_within, size_over, unit_some, pull_some, pull_most, high_time_most, room_of_time, room_of_pull, room_of_rate, slowest_size, least_size, greatest_size, aims_ordered}
 
 module _ (s : Search) (is : IsSearch s) where
   low_pull_some : 0 < pull_at_low s
@@ -42,7 +44,7 @@ module _ (s : Search) (is : IsSearch s) where
   at_or_above : (k : ℤ) → over_square s s.demand.lo ≤ℤ k → (over_square s s.area.own.least ≤ℤ k) ⊎ (hold_at_low s ≡ 0)
   at_or_above k h = ⊎_elim
       (λ l. inl (omega (arith, ints)))
-      (λ l. inr (hold_from (scaled (unit s) s.demand) (over_square s s.area.own.least) l))
+      (λ l. inr (low_hold-above (scaled (unit s) s.demand) (over_square s s.area.own.least) l))
       (cases_lt_ℤ (over_square s s.area.own.least) (over_square s s.demand.lo))
 
   pub aim_gentle : IsGentle (unit s) (aim_pass s)
@@ -55,7 +57,7 @@ module _ (s : Search) (is : IsSearch s) where
   pulls_rise h = rw (pull_to (scaled (unit s) s.demand) (over_square s s.area.own.least) h) (low_pull_within (scaled (unit s) s.demand) (over_square s s.area.own.least) (pull_some s is) (pull_most s is)).1
 
   pulls_fall : over_square s s.demand.hi <ℤ over_square s s.area.own.least → pull_at_high s (over_square s s.area.own.least) ≤ pull_at_low s
-  pulls_fall h = let o = aims_ordered s is in rw (pull_from (scaled (unit s) s.demand) (over_square s s.area.own.least) (omega (arith, ints))) (high_pull_within (scaled (unit s) s.demand) (over_square s s.area.own.least) (pull_some s is) (pull_most s is)).1
+  pulls_fall h = let o = aims_ordered s is in rw (low_pull-above (scaled (unit s) s.demand) (over_square s s.area.own.least) (omega (arith, ints))) (high_pull_within (scaled (unit s) s.demand) (over_square s s.area.own.least) (pull_some s is) (pull_most s is)).1
 
   pub pull_gentle : IsGentle (unit s) (pull_pass s)
   pull_gentle i = rw (next i (grain s)) (⊎_elim
@@ -71,7 +73,7 @@ module _ (s : Search) (is : IsSearch s) where
   holds_fall h = rw (hold_to (scaled (unit s) s.demand) (over_square s s.area.own.least) h) (omega arith)
 
   holds_rise : over_square s s.demand.hi <ℤ over_square s s.area.own.least → hold_at_low s ≤ hold_at_high s (over_square s s.area.own.least)
-  holds_rise h = let o = aims_ordered s is in rw (hold_from (scaled (unit s) s.demand) (over_square s s.area.own.least) (omega (arith, ints))) (omega arith)
+  holds_rise h = let o = aims_ordered s is in rw (low_hold-above (scaled (unit s) s.demand) (over_square s s.area.own.least) (omega (arith, ints))) (omega arith)
 
   pub hold_gentle : IsGentle (unit s) (hold_pass s)
   hold_gentle i = rw (next i (time_step s)) (⊎_elim

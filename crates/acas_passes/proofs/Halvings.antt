@@ -1,11 +1,12 @@
 -- The bounds of a search by halving, and the flight at which it ends.
-use Rattle.std.proofs.Common.{int_lt, ◌≡◌, ℕ, ◌+◌, ◌*◌, ◌<◌, ◌≤◌, ◌-◌, ◌/◌, Bool, true, false, true≢false, sym, ap, ◌∙◌, ⊎_elim, arith, ℤ, pos, ◌+ℤ◌, ◌*ℤ◌, ◌<ℤ◌, ◌≤ℤ◌, neg_ℤ, mul-le-mul_right}
+use Rattle.std.proofs.Common.{◌≡◌, ℕ, ◌+◌, ◌*◌, ◌<◌, ◌≤◌, ◌-◌, ◌/◌, Bool, true, false, true≢false, sym, ap, ◌∙◌, ⊎_elim, arith, ℤ, pos, ◌+ℤ◌, ◌*ℤ◌, ◌<ℤ◌, ◌≤ℤ◌, neg_ℤ, mul-le-mul_right}
 use Rattle.std.proofs.lemmas.Int.{ints}
 use Rattle.std.proofs.lemmas.Bool.{cases_lt}
+use Rattle.acas_frac.proofs.SignedProducts.{mul-le_ℤ, mul-lt_ℤ, le-from_mul_ℤ, lt-from_mul_ℤ, mul-neg_ℤ}
 use Rattle.acas_frac.specs.Fraction.{Fraction, Same}
 use Rattle.acas_passes.specs.Value.{is_below, IsWithinHalf, IsLessThanAbove, thinnest}
-use Rattle.acas_flight.proofs.IntRing.{mul_neg_ℤ}
-use Rattle.acas_flight.proofs.Orders.{mul_le_left, mul_lt_left, le_from_mul_left, lt_from_mul_left, cases_lt_ℤ}
+use Rattle.acas_flight.proofs.Orders.{cases_lt_ℤ}
+use Rattle.acas_flight.proofs.Between.{test_lt, test_ge}
 use Rattle.acas_passes.specs.Halving.{HalvesTo, ends, raises, lowers}
 use lib.IntN.{*ℤ_comm}
 
@@ -63,12 +64,12 @@ IsWithin-next half f g b p q under over step = record {
     above : g.num ≤ℤ pos (half * g.den)
     above =
         let below : f.num <ℤ neg_ℤ (pos (half * f.den)) = omega (arith, ints, under) in
-        let far = rw (*ℤ_comm (pos g.den) f.num, mul_neg_ℤ (pos g.den) (pos (half * f.den))) at (mul_lt_left g.den f.num (neg_ℤ (pos (half * f.den))) q below) in
+        let far = rw (*ℤ_comm (pos g.den) f.num, mul-neg_ℤ (pos g.den) (pos (half * f.den))) at (mul-lt_ℤ g.den f.num (neg_ℤ (pos (half * f.den))) q below) in
         let room : thinnest * (f.den * g.den) ≤ 2 * (g.den * (half * f.den)) = omega (arith, mul-le-mul_right (f.den * g.den) b) in
         let near = line (g.num *ℤ pos f.den) (f.num *ℤ pos g.den) (g.den * (half * f.den)) (thinnest * (f.den * g.den)) step far room in
         let same : g.den * (half * f.den) ≡ f.den * (half * g.den) = omega arith in
         let near' : (pos f.den *ℤ g.num) <ℤ pos (f.den * (half * g.den)) = rw (*ℤ_comm (pos f.den) g.num, ← same) near in
-        let less : g.num <ℤ pos (half * g.den) = lt_from_mul_left f.den g.num (pos (half * g.den)) near' in
+        let less : g.num <ℤ pos (half * g.den) = lt-from_mul_ℤ f.den g.num (pos (half * g.den)) near' in
         omega (arith, ints)
 
 -- ---- the tests see a fraction's value alone
@@ -77,39 +78,33 @@ turned : (f g : Fraction) → Same f g → pos f.den *ℤ g.num ≡ pos g.den *�
 turned f g e = *ℤ_comm (pos f.den) g.num ∙ sym e ∙ *ℤ_comm f.num (pos g.den)
 
 half_turned : (half m n : ℕ) → pos m *ℤ neg_ℤ (pos (half * n)) ≡ pos n *ℤ neg_ℤ (pos (half * m))
-half_turned half m n = mul_neg_ℤ (pos m) (pos (half * n)) ∙ ap (λ k. neg_ℤ (pos k)) (same half m n) ∙ sym (mul_neg_ℤ (pos n) (pos (half * m)))
+half_turned half m n = mul-neg_ℤ (pos m) (pos (half * n)) ∙ ap (λ k. neg_ℤ (pos k)) (same half m n) ∙ sym (mul-neg_ℤ (pos n) (pos (half * m)))
   where
     same : (half m n : ℕ) → m * (half * n) ≡ n * (half * m)
     same half m n = omega arith
 
 below-Same : (half : ℕ) (f g : Fraction) → 0 < g.den → Same f g → f.num <ℤ neg_ℤ (pos (half * f.den)) → g.num <ℤ neg_ℤ (pos (half * g.den))
 below-Same half f g q e h =
-    lt_from_mul_left f.den g.num (neg_ℤ (pos (half * g.den)))
-    (rw (turned f g e, half_turned half f.den g.den) (mul_lt_left g.den f.num (neg_ℤ (pos (half * f.den))) q h))
+    lt-from_mul_ℤ f.den g.num (neg_ℤ (pos (half * g.den)))
+    (rw (turned f g e, half_turned half f.den g.den) (mul-lt_ℤ g.den f.num (neg_ℤ (pos (half * f.den))) q h))
 
 not_below-Same : (half : ℕ) (f g : Fraction) → 0 < f.den → Same f g → neg_ℤ (pos (half * f.den)) ≤ℤ f.num → neg_ℤ (pos (half * g.den)) ≤ℤ g.num
 not_below-Same half f g p e h =
-    le_from_mul_left f.den (neg_ℤ (pos (half * g.den))) g.num p
-    (rw (turned f g e, half_turned half f.den g.den) (mul_le_left g.den (neg_ℤ (pos (half * f.den))) f.num h))
+    le-from_mul_ℤ f.den (neg_ℤ (pos (half * g.den))) g.num p
+    (rw (turned f g e, half_turned half f.den g.den) (mul-le_ℤ g.den (neg_ℤ (pos (half * f.den))) f.num h))
 
 not_above-Same : (half : ℕ) (f g : Fraction) → 0 < f.den → Same f g → f.num ≤ℤ pos (half * f.den) → g.num ≤ℤ pos (half * g.den)
 not_above-Same half f g p e h =
-    le_from_mul_left f.den g.num (pos (half * g.den)) p
+    le-from_mul_ℤ f.den g.num (pos (half * g.den)) p
     (let n : f.den * (half * g.den) ≡ g.den * (half * f.den) = omega arith in
-    rw (turned f g e, n) (mul_le_left g.den f.num (pos (half * f.den)) h))
+    rw (turned f g e, n) (mul-le_ℤ g.den f.num (pos (half * f.den)) h))
 
 pub is_below-Same : (half : ℕ) (f g : Fraction) → 0 < f.den → 0 < g.den → Same f g → is_below half f ≡ is_below half g
 is_below-Same half f g p q e =
     ⊎_elim
-    (λ h. is_true f.num (neg_ℤ (pos (half * f.den))) h ∙ sym (is_true g.num (neg_ℤ (pos (half * g.den))) (below-Same half f g q e h)))
-    (λ h. is_false f.num (neg_ℤ (pos (half * f.den))) h ∙ sym (is_false g.num (neg_ℤ (pos (half * g.den))) (not_below-Same half f g p e h)))
+    (λ h. test_lt f.num (neg_ℤ (pos (half * f.den))) h ∙ sym (test_lt g.num (neg_ℤ (pos (half * g.den))) (below-Same half f g q e h)))
+    (λ h. test_ge f.num (neg_ℤ (pos (half * f.den))) h ∙ sym (test_ge g.num (neg_ℤ (pos (half * g.den))) (not_below-Same half f g p e h)))
     (cases_lt_ℤ f.num (neg_ℤ (pos (half * f.den))))
-  where
-    is_true : (a b : ℤ) → a <ℤ b → int_lt a b ≡ true
-    is_true a b h = let e : true ≡ int_lt a b = omega (arith, ints) in sym e
-
-    is_false : (a b : ℤ) → b ≤ℤ a → int_lt a b ≡ false
-    is_false a b h = let e : false ≡ int_lt a b = omega (arith, ints) in sym e
 
 pub IsWithin-Same : (half : ℕ) (f g : Fraction) → 0 < f.den → Same f g → IsWithinHalf half f → IsWithinHalf half g
 IsWithin-Same half f g p e w = record {

@@ -1,11 +1,12 @@
 -- Neighbours of each pass differ by less than the thinnest puck is thick.
-use Rattle.std.proofs.Common.{◌≡◌, ℕ, ◌+◌, ◌-◌, ◌*◌, ◌<◌, ◌≤◌, ap, sym, arith, Bool, true, false, cond, ℤ, pos, ◌+ℤ◌, ◌-ℤ◌, ◌*ℤ◌, ◌≤ℤ◌, ◌<ℤ◌, int_lt, unsigned_abs, min, mul-pos, mul-le-mul_right}
+use Rattle.std.proofs.Common.{◌≡◌, ℕ, ◌+◌, ◌-◌, ◌*◌, ◌<◌, ◌≤◌, ap, arith, Bool, true, false, cond, ℤ, pos, ◌+ℤ◌, ◌-ℤ◌, ◌*ℤ◌, ◌≤ℤ◌, ◌<ℤ◌, int_lt, unsigned_abs, min, mul-pos, mul-le-mul_right}
 use Rattle.std.proofs.lemmas.Int.{ints, unsigned_abs-mul}
+use Rattle.acas_flight.proofs.Between.{test_lt, test_ge}
 use Rattle.acas_flight.proofs.Rising.{scaled_le}
 use Rattle.acas_flight.specs.Response.{Demand}
 use Rattle.acas_flight.specs.Curves.{low_pull, low_hold, high_pull, high_hold}
 use Rattle.acas_passes.specs.Passes.{toward, rising, falling}
-use Rattle.acas_passes.specs.Search.{Search, IsSearch, grain, unit, time_step, rate_step, over_square, low_time, high_time, fastest}
+use Rattle.acas_passes.specs.Search.{Search, IsSearch, grain, unit, time_step, rate_step, over_square, high_time, fastest}
 use Rattle.acas_units.specs.declared.limits.TheConstants.{WINDOW_SECONDS}
 use Rattle.acas_passes.specs.declared.steps.TheConstants.{TIME_STEPS, PULL_STEPS, RATE_STEPS}
 
@@ -16,9 +17,6 @@ toward_up from to n s h f = f (min (n + s) (to - from) - min n (to - from)) (ome
 
 pub toward_down : {P : Type 0} (from to n s : ℕ) → to ≤ from → ((d : ℕ) → d ≤ s → toward from to n ≡ toward from to (n + s) + d → P) → P
 toward_down from to n s h f = f (min (n + s) (from - to) - min n (from - to)) (omega arith) (omega arith)
-
-pub toward_most : (from to n m : ℕ) → from ≤ m → to ≤ m → toward from to n ≤ m
-toward_most from to n m h k = omega arith
 
 pub rising_next : {P : Type 0} (from to : ℤ) (n s : ℕ) → ((d : ℕ) → d ≤ s → rising from to (n + s) ≡ rising from to n +ℤ pos d → P) → P
 rising_next from to n s f = f (min (n + s) (unsigned_abs (to -ℤ from)) - min n (unsigned_abs (to -ℤ from))) (omega arith) (omega (arith, ints))
@@ -34,32 +32,17 @@ next i s = omega arith
 
 -- ---- the pull and the hold on either side
 
-is_true : (a b : ℤ) → a <ℤ b → int_lt a b ≡ true
-is_true a b h = let e : true ≡ int_lt a b = omega (arith, ints) in sym e
-
-is_false : (a b : ℤ) → b ≤ℤ a → int_lt a b ≡ false
-is_false a b h = let e : false ≡ int_lt a b = omega (arith, ints) in sym e
-
-pub pull_below : (a : Demand) (v : ℤ) → v <ℤ a.lo → low_pull a v ≡ a.pull
-pull_below a v h = ap (λ t. cond t a.pull a.limit) (is_true v a.lo h)
-
-pub pull_from : (a : Demand) (v : ℤ) → a.lo ≤ℤ v → low_pull a v ≡ a.limit
-pull_from a v h = ap (λ t. cond t a.pull a.limit) (is_false v a.lo h)
-
-pub hold_from : (a : Demand) (v : ℤ) → a.lo ≤ℤ v → low_hold a v ≡ 0
-hold_from a v h = ap (λ t. cond t a.delay 0) (is_false v a.lo h)
-
 pub pull_above : (a : Demand) (v : ℤ) → a.hi <ℤ v → high_pull a v ≡ a.pull
-pull_above a v h = ap (λ t. cond t a.pull a.limit) (is_true a.hi v h)
+pull_above a v h = ap (λ t. cond t a.pull a.limit) (test_lt a.hi v h)
 
 pub pull_to : (a : Demand) (v : ℤ) → v ≤ℤ a.hi → high_pull a v ≡ a.limit
-pull_to a v h = ap (λ t. cond t a.pull a.limit) (is_false a.hi v h)
+pull_to a v h = ap (λ t. cond t a.pull a.limit) (test_ge a.hi v h)
 
 pub hold_above : (a : Demand) (v : ℤ) → a.hi <ℤ v → high_hold a v ≡ a.delay
-hold_above a v h = ap (λ t. cond t a.delay 0) (is_true a.hi v h)
+hold_above a v h = ap (λ t. cond t a.delay 0) (test_lt a.hi v h)
 
 pub hold_to : (a : Demand) (v : ℤ) → v ≤ℤ a.hi → high_hold a v ≡ 0
-hold_to a v h = ap (λ t. cond t a.delay 0) (is_false a.hi v h)
+hold_to a v h = ap (λ t. cond t a.delay 0) (test_ge a.hi v h)
 
 one_of : (t : Bool) (m n : ℕ) → 0 < m → m ≤ n → (m ≤ cond t m n) × (cond t m n ≤ n) × (0 < cond t m n)
 one_of true m n p h = (omega arith, h, p)
@@ -94,20 +77,11 @@ module _ (s : Search) (is : IsSearch s) where
   pub unit_some : 0 < PULL_STEPS * (s.low.den * s.high.den)
   unit_some = let g = grain_some in omega arith
 
-  pub square_some : 0 < (PULL_STEPS * (s.low.den * s.high.den)) * (PULL_STEPS * (s.low.den * s.high.den))
-  square_some = mul-pos unit_some unit_some
-
   pub pull_some : 0 < s.demand.pull * unit s
   pull_some = mul-pos is.demand.some_pull unit_some
 
   pub pull_most : s.demand.pull * unit s ≤ s.demand.limit * unit s
   pull_most = mul-le-mul_right (unit s) is.demand.pull_within
-
-  pub low_time_most : low_time s ≤ WINDOW_SECONDS * unit s
-  low_time_most =
-      let n : unsigned_abs s.low.num ≤ WINDOW_SECONDS * s.low.den = let l = is.low.least in let m = is.low.most in omega (arith, ints) in
-      let m : unsigned_abs s.low.num * (PULL_STEPS * s.high.den) ≤ (WINDOW_SECONDS * s.low.den) * (PULL_STEPS * s.high.den) = mul-le-mul_right (PULL_STEPS * s.high.den) n in
-      omega arith
 
   pub high_time_most : high_time s ≤ WINDOW_SECONDS * unit s
   high_time_most =

@@ -47,7 +47,7 @@ high_some s is = (some_of s is wide (high_flight s) (of_from s is wide (timed_wi
 responds : (s : Search) (is : IsSearch s) (c : Flight) → IsFlightFrom s.demand s.area wide (unit s) c → RespondsTo s.demand (unit s) c
 responds s is c of = record {
   meets = λ h r i. meets 0 s.demand s.area wide (unit s) c (unit_some s is) (some_of s is wide c of).0 of h r i;
-  lasts = λ h r i. lasts 0 s.demand s.area wide (unit s) c (unit_some s is) (some_of s is wide c of).0 of h r i;
+  lasts = λ h r i. lasts (unit s) c h r i;
 }
 
 pub each_responds : (s : Search) → IsSearch s → Each (λ p. (i : ℕ) → RespondsTo s.demand (unit s) (p.point i)) (passes s)

@@ -1,8 +1,9 @@
 -- A flight of the area in contact, with its response, is a state of the area and a response that meets the advisory and ends in contact.
 use Rattle.std.proofs.Common.{◌≡◌, ℕ, ◌+◌, ◌-◌, ◌*◌, ◌<◌, ◌≤◌, ⊎_elim, refl, ap, ap₂, ◌∙◌, sym, arith, List, [], ◌∷◌, ◌++◌, ℤ, pos, neg_ℤ, ◌+ℤ◌, ◌-ℤ◌, ◌*ℤ◌, ◌≤ℤ◌, unsigned_abs, int_le, cond, true, false, min, mul-pos, mul-le-mul_right}
 use Rattle.std.proofs.lemmas.Int.{ints}
-use Rattle.acas_flight.proofs.IntRing.{at, num, ◌⊕◌, ◌⊖◌, ◌⊗◌, ring, mul_neg_ℤ, neg_mul_ℤ}
-use Rattle.acas_flight.proofs.Orders.{unsigned_abs-le, le_from_mul_left, by_below, by_above, cases_lt_ℤ}
+use Rattle.acas_frac.proofs.SignedProducts.{le-from_mul_ℤ, mul-neg_ℤ, neg-mul_ℤ}
+use Rattle.acas_flight.proofs.IntRing.{at, num, ◌⊕◌, ◌⊖◌, ◌⊗◌, ring, zero-sub_ℤ}
+use Rattle.acas_flight.proofs.Orders.{unsigned_abs-le, by_below, by_above, cases_lt_ℤ}
 use Rattle.acas_flight.proofs.Rising.{scaled_le}
 use Rattle.acas_flight.proofs.Scales.{cancel_left}
 use Rattle.acas_flight.proofs.Held.{held-scaled, min_scaled, sub_scaled}
@@ -66,9 +67,6 @@ separation-value q b h x n z y t e p s f =
         ((at 1 ⊗ (((at 2 ⊗ (at 0 ⊗ (at 0 ⊗ at 1))) ⊗ ((at 0 ⊗ (at 0 ⊗ at 1)) ⊗ (at 0 ⊗ (at 0 ⊗ at 1)))) ⊕ (((num (pos 2) ⊗ (at 3 ⊗ at 1)) ⊗ (at 5 ⊗ (at 0 ⊗ at 1))) ⊗ (at 0 ⊗ (at 0 ⊗ at 1))))) ⊖ (at 4 ⊗ at 1))
         refl
 
-    minus : (a : ℤ) → pos 0 -ℤ a ≡ neg_ℤ a
-    minus a = omega (arith, ints)
-
     gather : (q b : ℕ) (h x n : ℤ) (t : ℕ) →
         (pos b *ℤ (((h *ℤ pos (q * (q * b))) *ℤ pos ((q * (q * b)) * (q * (q * b)))) +ℤ (((pos 2 *ℤ (x *ℤ pos b)) *ℤ pos (t * (q * b))) *ℤ pos (q * (q * b))))) -ℤ (n *ℤ pos ((q * b) * (q * b) * (q * b)))
         ≡ neg_ℤ ((n -ℤ (pos b *ℤ ((h *ℤ pos (q * q * q)) +ℤ ((pos 2 *ℤ x) *ℤ pos t)))) *ℤ pos ((q * b) * (q * b) * (q * b)))
@@ -77,7 +75,7 @@ separation-value q b h x n z y t e p s f =
         ((at 1 ⊗ (((at 2 ⊗ (at 0 ⊗ (at 0 ⊗ at 1))) ⊗ ((at 0 ⊗ (at 0 ⊗ at 1)) ⊗ (at 0 ⊗ (at 0 ⊗ at 1)))) ⊕ (((num (pos 2) ⊗ (at 3 ⊗ at 1)) ⊗ (at 5 ⊗ (at 0 ⊗ at 1))) ⊗ (at 0 ⊗ (at 0 ⊗ at 1))))) ⊖ (at 4 ⊗ (((at 0 ⊗ at 1) ⊗ (at 0 ⊗ at 1)) ⊗ (at 0 ⊗ at 1))))
         (num (pos 0) ⊖ ((at 4 ⊖ (at 1 ⊗ ((at 2 ⊗ ((at 0 ⊗ at 0) ⊗ at 0)) ⊕ ((num (pos 2) ⊗ at 3) ⊗ at 5)))) ⊗ (((at 0 ⊗ at 1) ⊗ (at 0 ⊗ at 1)) ⊗ (at 0 ⊗ at 1))))
         refl
-        ∙ minus ((n -ℤ (pos b *ℤ ((h *ℤ pos (q * q * q)) +ℤ ((pos 2 *ℤ x) *ℤ pos t)))) *ℤ pos ((q * b) * (q * b) * (q * b)))
+        ∙ zero-sub_ℤ ((n -ℤ (pos b *ℤ ((h *ℤ pos (q * q * q)) +ℤ ((pos 2 *ℤ x) *ℤ pos t)))) *ℤ pos ((q * b) * (q * b) * (q * b)))
 
 -- the band over the finer denominator
 band : (q b half : ℕ) → b * (half * ((q * (q * b)) * (q * (q * b)) * (q * (q * b)))) ≡ (half * (q * q * q * b)) * ((q * b) * (q * b) * (q * b))
@@ -92,10 +90,15 @@ scaled_rate v q b = ring (v ∷ pos q ∷ pos b ∷ []) (at 0 ⊗ ((at 1 ⊗ (at
 scaled_span : (v : ℤ) (q b : ℕ) → v *ℤ pos (q * (q * b)) ≡ (v *ℤ pos (q * q)) *ℤ pos b
 scaled_span v q b = ring (v ∷ pos q ∷ pos b ∷ []) (at 0 ⊗ (at 1 ⊗ (at 1 ⊗ at 2))) ((at 0 ⊗ (at 1 ⊗ at 1)) ⊗ at 2) refl
 
-module _ (half : ℕ) (a : Demand) (area : Area) (w : Times) (q : ℕ) (c : Flight) (p : 0 < q) (s : 0 < c.pull) (of : IsFlightFrom a area w q c) (h r : List Segment) (is : IsResponse q c h r) where
-  over_b : q * c.pull ≡ scale q c
-  over_b = refl
+pub lasts : (q : ℕ) (c : Flight) (h r : List Segment) → IsResponse q c h r → lasting (h ++ r) ≡ c.time * scale q c
+lasts q c h r is =
+    response-lasting (min c.time c.hold * scale q c) ((c.time - c.hold) * scale q c) h r is.held (approach-lasting _ _ _ r is.approached)
+    ∙ let e : c.time ≡ min c.time c.hold + (c.time - c.hold) = omega arith in sums (min c.time c.hold) (c.time - c.hold) c.time (scale q c) e
+  where
+    sums : (i j t m : ℕ) → t ≡ i + j → i * m + j * m ≡ t * m
+    sums i j t m e = rw e (omega arith)
 
+module _ (half : ℕ) (a : Demand) (area : Area) (w : Times) (q : ℕ) (c : Flight) (p : 0 < q) (s : 0 < c.pull) (of : IsFlightFrom a area w q c) (h r : List Segment) (is : IsResponse q c h r) where
   follows : FollowsThroughout (scaled (fine q c) a) (c.own *ℤ pos (scale q c * scale q c)) r
   follows =
       approach-follows (scaled (fine q c) a) (c.aim *ℤ pos (scale q c * scale q c)) (c.pull * scale q c)
@@ -111,14 +114,6 @@ module _ (half : ℕ) (a : Demand) (area : Area) (w : Times) (q : ℕ) (c : Flig
       (let m = mul-le-mul_right (scale q c) of.hold in let n : min c.time c.hold * scale q c ≤ c.hold * scale q c = mul-le-mul_right (scale q c) (omega arith) in omega arith)
       is.held follows)
 
-  pub lasts : lasting (h ++ r) ≡ c.time * scale q c
-  lasts =
-      response-lasting (min c.time c.hold * scale q c) ((c.time - c.hold) * scale q c) h r is.held (approach-lasting _ _ _ r is.approached)
-      ∙ let e : c.time ≡ min c.time c.hold + (c.time - c.hold) = omega arith in sums (min c.time c.hold) (c.time - c.hold) c.time (scale q c) e
-    where
-      sums : (i j t m : ℕ) → t ≡ i + j → i * m + j * m ≡ t * m
-      sums i j t m e = rw e (omega arith)
-
   climbs : climb ((c.own *ℤ pos c.pull) *ℤ pos (fine q c)) (h ++ r) *ℤ pos (c.pull * scale q c) ≡ held c.own c.aim c.pull c.hold c.time *ℤ pos ((scale q c * scale q c) * (scale q c * scale q c))
   climbs =
       rw (square_of c.own q c.pull) (
@@ -131,10 +126,10 @@ module _ (half : ℕ) (a : Demand) (area : Area) (w : Times) (q : ℕ) (c : Flig
 
   apart : pos c.pull *ℤ vertical_separation (fine q c) (c.altitude *ℤ pos (fine q c)) (c.intruder *ℤ pos c.pull) (lasting (h ++ r)) (climb ((c.own *ℤ pos c.pull) *ℤ pos (fine q c)) (h ++ r))
       ≡ neg_ℤ ((value q c).num *ℤ pos (scale q c * scale q c * scale q c))
-  apart = rw lasts (separation-value q c.pull c.altitude c.intruder (held c.own c.aim c.pull c.hold c.time) (climb ((c.own *ℤ pos c.pull) *ℤ pos (fine q c)) (h ++ r)) (value q c).num c.time climbs p s refl)
+  apart = rw (lasts q c h r is) (separation-value q c.pull c.altitude c.intruder (held c.own c.aim c.pull c.hold c.time) (climb ((c.own *ℤ pos c.pull) *ℤ pos (fine q c)) (h ++ r)) (value q c).num c.time climbs p s refl)
 
   in_time : IsDuring (fine q c) w (lasting (h ++ r))
-  in_time = rw lasts (
+  in_time = rw (lasts q c h r is) (
     rw (first w.from.num q c.pull, second c.time w.from.den q c.pull) (scaled_le _ _ (q * c.pull) of.time.0),
     rw (first w.to.num q c.pull, second c.time w.to.den q c.pull) (scaled_le _ _ (q * c.pull) of.time.1),
   )
@@ -153,8 +148,8 @@ module _ (half : ℕ) (a : Demand) (area : Area) (w : Times) (q : ℕ) (c : Flig
     intruder = (rw (scaled_span area.intruder.least q c.pull) (scaled_le _ _ c.pull of.intruder.0), rw (scaled_span area.intruder.greatest q c.pull) (scaled_le _ _ c.pull of.intruder.1));
     time = in_time;
     meets = meets;
-    contact = unsigned_abs-le _ _ (le_from_mul_left c.pull _ _ s (below _ _ _ _ _ apart (mul_neg_ℤ (pos c.pull) (pos (half * (fine q c * fine q c * fine q c)))) (band q c.pull half) (scaled_le _ _ (scale q c * scale q c * scale q c) within.not_above)))
-        (le_from_mul_left c.pull _ _ s (above _ _ _ _ _ apart (band q c.pull half) (neg_mul_ℤ (pos (half * (q * q * q * c.pull))) (pos (scale q c * scale q c * scale q c))) (scaled_le _ _ (scale q c * scale q c * scale q c) within.not_below)));
+    contact = unsigned_abs-le _ _ (le-from_mul_ℤ c.pull _ _ s (below _ _ _ _ _ apart (mul-neg_ℤ (pos c.pull) (pos (half * (fine q c * fine q c * fine q c)))) (band q c.pull half) (scaled_le _ _ (scale q c * scale q c * scale q c) within.not_above)))
+        (le-from_mul_ℤ c.pull _ _ s (above _ _ _ _ _ apart (band q c.pull half) (neg-mul_ℤ (pos (half * (q * q * q * c.pull))) (pos (scale q c * scale q c * scale q c))) (scaled_le _ _ (scale q c * scale q c * scale q c) within.not_below)));
   }
     where
       below : (x n : ℤ) (m : ℤ) (i j : ℕ) → x ≡ neg_ℤ n → m ≡ neg_ℤ (pos i) → i ≡ j → n ≤ℤ pos j → m ≤ℤ x

@@ -1,12 +1,12 @@
 -- One step of the aim, the pull, the hold or the start rate changes the value of a flight by less than the thinnest puck is thick.
 use Rattle.std.proofs.Common.{◌≡◌, ℕ, ◌+◌, ◌-◌, ◌*◌, ◌<◌, ◌≤◌, ◌⊎◌, ⊎_elim, refl, ap, arith, [], ◌∷◌, ℤ, pos, ◌+ℤ◌, ◌-ℤ◌, ◌*ℤ◌, ◌≤ℤ◌, ◌<ℤ◌, unsigned_abs, min, mul-pos, mul-le-mul, mul-le-mul_left}
 use Rattle.std.proofs.lemmas.Int.{ints}
+use Rattle.acas_frac.proofs.SignedProducts.{mul-le_ℤ}
 use Rattle.acas_flight.proofs.IntRing.{at, num, ◌⊕◌, ◌⊖◌, ◌⊗◌, ring}
-use Rattle.acas_flight.proofs.Orders.{mul_le_left, by_above, by_below, cases_lt_ℤ}
-use Rattle.acas_flight.proofs.Curves.{steady}
+use Rattle.acas_flight.proofs.Orders.{by_above, by_below, cases_lt_ℤ}
+use Rattle.acas_flight.proofs.Curves.{steady, approach-at_once}
 use Rattle.acas_flight.proofs.Holding.{held-none}
-use Rattle.acas_flight.proofs.Between.{approach-at_zero}
-use Rattle.acas_passes.proofs.Changes.{longer_below_least, aim_below, aim_above, aim_across, start_below, hold_below, pull_below}
+use Rattle.acas_passes.proofs.Changes.{longer_below_least, aim_below, aim_above, aim_across, start_below, hold_below, pull_below, le_by_gain}
 use Rattle.acas_passes.proofs.Falling.{longer_above, start_above, hold_above, pull_above}
 use Rattle.acas_passes.specs.Value.{IsLessThanAbove, thinnest}
 use Rattle.acas_flight.specs.Curves.{held, approach}
@@ -32,7 +32,7 @@ gain_across a c i l p Q n sl sp h k =
     let room : (Q * (l * p)) * n < (Q * (l * p)) * (thinnest * Q) = mul-lt-mul_of_pos_left k (mul-pos some (mul-pos sl sp)) in
     rw (left c i l p Q, right a i l p Q)
     (line (pos Q *ℤ (pos l *ℤ c)) (pos Q *ℤ (pos p *ℤ a)) (pos Q *ℤ ((pos l *ℤ pos p) *ℤ i)) ((Q * (l * p)) * n) ((Q * (l * p)) * (thinnest * Q)) (thinnest * ((Q * l) * (Q * p)))
-    (rw (spread (pos p *ℤ a) Q (l * p) n) at (mul_le_left Q (pos l *ℤ c) ((pos p *ℤ a) +ℤ pos ((l * p) * n)) h)) room (omega arith))
+    (rw (spread (pos p *ℤ a) Q (l * p) n) at (mul-le_ℤ Q (pos l *ℤ c) ((pos p *ℤ a) +ℤ pos ((l * p) * n)) h)) room (omega arith))
   where
     left : (c i : ℤ) (l p Q : ℕ) → (c -ℤ (pos p *ℤ i)) *ℤ pos (Q * l) ≡ (pos Q *ℤ (pos l *ℤ c)) -ℤ (pos Q *ℤ ((pos l *ℤ pos p) *ℤ i))
     left c i l p Q = ring (c ∷ i ∷ pos l ∷ pos p ∷ pos Q ∷ []) ((at 0 ⊖ (at 3 ⊗ at 1)) ⊗ (at 4 ⊗ at 2)) ((at 4 ⊗ (at 2 ⊗ at 0)) ⊖ (at 4 ⊗ ((at 2 ⊗ at 3) ⊗ at 1))) refl
@@ -139,7 +139,7 @@ held-at_zero : (v k : ℤ) (b g : ℕ) → held v k b g 0 ≡ pos 0
 held-at_zero v k b g =
     let none : min 0 g ≡ 0 = omega arith in
     let rest : 0 - g ≡ 0 = omega arith in
-    rw (none, rest, approach-at_zero v k b) (ring (v ∷ pos b ∷ []) ((((num (pos 2) ⊗ at 0) ⊗ num (pos 0)) ⊗ at 1) ⊕ num (pos 0)) (num (pos 0)) refl)
+    rw (none, rest, approach-at_once v k b) (ring (v ∷ pos b ∷ []) ((((num (pos 2) ⊗ at 0) ⊗ num (pos 0)) ⊗ at 1) ⊕ num (pos 0)) (num (pos 0)) refl)
 
 zero_plus : (t : ℕ) → 0 + t ≡ t
 zero_plus t = omega arith
@@ -168,7 +168,7 @@ pub higher_across : (q : ℕ) (h v w k : ℤ) (b g b' g' t d : ℕ) → 0 < q �
     IsLessThanAbove thinnest (value q (flight t h v w k b g)) (value q (flight t h (v +ℤ pos d) w k b' g'))
 higher_across q h v w k b g b' g' t d p s s' r u i j =
     gain_across (held v k b g t) (held (v +ℤ pos d) k b' g' t) ((h *ℤ pos (q * q * q)) +ℤ ((pos 2 *ℤ w) *ℤ pos t)) b b' (q * q * q) (2 * (d * t)) s s'
-    (line _ _ _ _ ((b * b') * (2 * (d * t))) (mul_le_left b (held (v +ℤ pos d) k b' g' t) (steady (v +ℤ pos d) t b') top) (mul_le_left b' (steady v t b) (held v k b g t) bottom) (swap v d t b b'))
+    (le_by_gain _ _ _ _ ((b * b') * (2 * (d * t))) (mul-le_ℤ b (held (v +ℤ pos d) k b' g' t) (steady (v +ℤ pos d) t b') top) (mul-le_ℤ b' (steady v t b) (held v k b g t) bottom) (swap v d t b b'))
     (room_across q t d p r u)
   where
     top : held (v +ℤ pos d) k b' g' t ≤ℤ steady (v +ℤ pos d) t b'
@@ -182,6 +182,3 @@ higher_across q h v w k b g b' g' t d p s s' r u i j =
         (at 3 ⊗ (((num (pos 2) ⊗ (at 0 ⊕ at 1)) ⊗ at 2) ⊗ at 4))
         ((at 4 ⊗ (((num (pos 2) ⊗ at 0) ⊗ at 2) ⊗ at 3)) ⊕ ((at 3 ⊗ at 4) ⊗ (num (pos 2) ⊗ (at 1 ⊗ at 2))))
         refl
-
-    line : (c st sb a : ℤ) (n : ℕ) → c ≤ℤ st → sb ≤ℤ a → st ≡ sb +ℤ pos n → c ≤ℤ (a +ℤ pos n)
-    line c st sb a n m o e = omega (arith, ints)

@@ -2,14 +2,16 @@
 -- one of its two curves stays over.
 use Rattle.std.proofs.Common.{◌≡◌, ℕ, ◌*◌, ◌<◌, ◌↔◌, inr, ⊎_elim, refl, sym, subst, ◌∙◌, arith, Bool, true, false, [], ◌∷◌, ℤ, pos, neg_ℤ, ◌*ℤ◌, ◌<ℤ◌, ◌≤ℤ◌, int_lt, IsTrue, mul-pos}
 use Rattle.std.proofs.lemmas.Int.{ints}
+use Rattle.std.specs.Int.Signed.{<ℤ-≤ℤ_trans}
 use lib.IntN.{*ℤ_comm}
+use Rattle.acas_frac.proofs.SignedProducts.{mul-lt_ℤ, lt-from_mul_ℤ, mul-neg_ℤ}
 use Rattle.acas_frac.specs.Fraction.{Fraction}
 use Rattle.acas_flight.specs.Response.{Demand}
 use Rattle.acas_flight.specs.Window.{Times, IsDuring}
 use Rattle.acas_flight.specs.Clear.{Area, IsClear, IsClearAbove, IsClearBelow}
 use Rattle.acas_flight.specs.Border.{Border, border_of, border_gap, gap_number, low_border_of, high_border_of, IsGapAt, IsLeastGap, IsNearestTime}
-use Rattle.acas_flight.proofs.IntRing.{at, ◌⊗◌, ring, mul_neg_ℤ}
-use Rattle.acas_flight.proofs.Orders.{mul_lt_left, lt_from_mul_left, cases_lt_ℤ}
+use Rattle.acas_flight.proofs.IntRing.{at, ◌⊗◌, ring}
+use Rattle.acas_flight.proofs.Orders.{cases_lt_ℤ, neg-lt_ℤ}
 use Rattle.acas_flight.proofs.EndTimes.{first_least, last_least}
 use Rattle.acas_flight.proofs.Gaps.{IsGapAt-of, low_pull-border, high_pull-border, least_gap-border, greatest_gap-border}
 use Rattle.acas_region.specs.Chases.{StaysOver}
@@ -26,27 +28,24 @@ time d n = record { num = pos n; den = d }
 is_gap : (s : Border) (d n : ℕ) → 0 < d → IsGapAt s (time d n) (gap_at s d n)
 is_gap s d n p = IsGapAt-of s (time d n) (gap_at s d n) n refl p refl
 
-turned : (half d q P : ℕ) → pos (q * q * q * P) *ℤ pos (half * d) ≡ pos d *ℤ (pos P *ℤ pos (half * (q * q * q)))
+pub turned : (half d q P : ℕ) → pos (q * q * q * P) *ℤ pos (half * d) ≡ pos d *ℤ (pos P *ℤ pos (half * (q * q * q)))
 turned half d q P = ring (pos half ∷ pos d ∷ pos q ∷ pos P ∷ []) ((((at 2 ⊗ at 2) ⊗ at 2) ⊗ at 3) ⊗ (at 0 ⊗ at 1)) (at 1 ⊗ (at 3 ⊗ (at 0 ⊗ ((at 2 ⊗ at 2) ⊗ at 2)))) refl
-
-less_le : (a b c : ℤ) → a <ℤ b → b ≤ℤ c → a <ℤ c
-less_le a b c h k = omega (arith, ints)
 
 -- a least gap of more than the half height is so at each time
 above : (half : ℕ) (s : Border) (w : Times) (time y : Fraction) → 0 < s.pull → IsLeastGap s w time y → pos (half * y.den) <ℤ y.num → StaysOver half s w
 above half s w time y b l h q t p i =
-    lt_from_mul_left y.den (pos (s.pull * q) *ℤ pos (half * (q * q * q))) (border_gap s q t)
+    lt-from_mul_ℤ y.den (pos (s.pull * q) *ℤ pos (half * (q * q * q))) (border_gap s q t)
     (rw (← turned half y.den q (s.pull * q), *ℤ_comm (pos y.den) (border_gap s q t))
-    (less_le _ _ _ (mul_lt_left (q * q * q * (s.pull * q)) (pos (half * y.den)) y.num (mul-pos (mul-pos (mul-pos p p) p) (mul-pos b p)) h)
+    (<ℤ-≤ℤ_trans (mul-lt_ℤ (q * q * q * (s.pull * q)) (pos (half * y.den)) y.num (mul-pos (mul-pos (mul-pos p p) p) (mul-pos b p)) h)
     (rw (*ℤ_comm (pos (q * q * q * (s.pull * q))) y.num) (l.least q t p i))))
 
 -- a gap at one of the times
 at_time : (half : ℕ) (s : Border) (w : Times) (d n : ℕ) → 0 < d → 0 < s.pull → IsDuring d w n → StaysOver half s w → pos (half * (d * d * s.pull)) <ℤ gap_number s d n
 at_time half s w d n p b i over =
     let y = is_gap s d n p in
-    lt_from_mul_left (d * d * d * (s.pull * d)) (pos (half * (d * d * s.pull))) (gap_number s d n)
+    lt-from_mul_ℤ (d * d * d * (s.pull * d)) (pos (half * (d * d * s.pull))) (gap_number s d n)
     (rw (turned half (d * d * s.pull) d (s.pull * d), *ℤ_comm (pos (d * d * d * (s.pull * d))) (gap_number s d n) ∙ y.over d n p refl ∙ *ℤ_comm (border_gap s d n) (pos (d * d * s.pull)))
-    (mul_lt_left (d * d * s.pull) (pos (s.pull * d) *ℤ pos (half * (d * d * d))) (border_gap s d n) (mul-pos (mul-pos p p) b) (over d n p i)))
+    (mul-lt_ℤ (d * d * s.pull) (pos (s.pull * d) *ℤ pos (half * (d * d * d))) (border_gap s d n) (mul-pos (mul-pos p p) b) (over d n p i)))
 
 test_of : (a b : ℤ) (r : Bool) → r ≡ int_lt a b → IsTrue r → a <ℤ b
 test_of a b r e t = let h : int_lt a b ≡ true = sym e ∙ t in omega (arith, ints)
@@ -143,16 +142,13 @@ clear_above half a area w = (
   λ o q t p i. rw (least_gap-border a area q p t, low_pull-border a area q p) at (o q t p i),
 )
 
-under : (a b : ℤ) → a <ℤ b → neg_ℤ b <ℤ neg_ℤ a
-under a b h = omega (arith, ints)
-
 over_again : (a b : ℤ) → neg_ℤ b <ℤ neg_ℤ a → a <ℤ b
 over_again a b h = omega (arith, ints)
 
 clear_below : (half : ℕ) (a : Demand) (area : Area) (w : Times) → StaysOver half (high_border_of a area) w ↔ IsClearBelow half a area w
 clear_below half a area w = (
-  λ o q t p i. rw (greatest_gap-border a area q p t, high_pull-border a area q p, mul_neg_ℤ (pos ((high_border_of a area).pull * q)) (pos (half * (q * q * q)))) (under _ _ (o q t p i)),
-  λ o q t p i. over_again _ _ (rw (greatest_gap-border a area q p t, high_pull-border a area q p, mul_neg_ℤ (pos ((high_border_of a area).pull * q)) (pos (half * (q * q * q)))) at (o q t p i)),
+  λ o q t p i. rw (greatest_gap-border a area q p t, high_pull-border a area q p, mul-neg_ℤ (pos ((high_border_of a area).pull * q)) (pos (half * (q * q * q)))) (neg-lt_ℤ _ _ (o q t p i)),
+  λ o q t p i. over_again _ _ (rw (greatest_gap-border a area q p t, high_pull-border a area q p, mul-neg_ℤ (pos ((high_border_of a area).pull * q)) (pos (half * (q * q * q)))) at (o q t p i)),
 )
 
 -- what is answered of a border of the area

@@ -1,8 +1,9 @@
 -- The ends of a window, as fractions.
-use Rattle.std.proofs.Common.{◌≡◌, ℕ, ◌+◌, ◌-◌, ◌*◌, ◌<◌, ◌≤◌, ◌↔◌, refl, ap, ◌∙◌, arith, [], ◌∷◌, ℤ, pos, ◌*ℤ◌, ◌≤ℤ◌, mul-le-mul}
+use Rattle.std.proofs.Common.{◌≡◌, ℕ, ◌+◌, ◌-◌, ◌*◌, ◌<◌, ◌≤◌, ◌↔◌, refl, ap, ◌∙◌, arith, [], ◌∷◌, pos, ◌*ℤ◌, ◌≤ℤ◌, mul-le-mul}
 use Rattle.std.proofs.lemmas.Int.{ints}
+use lib.IntN.{*ℤ_comm}
+use Rattle.acas_frac.proofs.SignedProducts.{mul-le_ℤ, le-from_mul_ℤ}
 use Rattle.acas_flight.proofs.IntRing.{at, ◌⊗◌, ring}
-use Rattle.acas_flight.proofs.Orders.{mul_le_left, le_from_mul_left}
 use Rattle.acas_flight.proofs.Windows.{window_of_cell}
 use Rattle.acas_flight.proofs.BoxWindows.{window_of_box}
 use Rattle.acas_spec.specs.Model.{ModelData}
@@ -15,7 +16,7 @@ use Rattle.acas_region.specs.Limits.{IsEnd, AreEnds}
 use Rattle.acas_frac.proofs.Lowest.{den_at_most, ReducesWithinBounds-over}
 use Rattle.acas_units.specs.declared.limits.TheConstants.{GREATEST_CLOSING, WINDOW_SECONDS}
 
-le_pos : (m n : ℕ) → pos m ≤ℤ pos n → m ≤ n
+pub le_pos : (m n : ℕ) → pos m ≤ℤ pos n → m ≤ n
 le_pos m n h = omega (arith, ints)
 
 -- a fraction of the value n/d against a number over q, by cross products
@@ -28,38 +29,35 @@ module _ (f : Fraction) (n d q t : ℕ) (s : 0 < f.den) (p : 0 < d) (e : f.num *
   right = ring (pos t ∷ pos d ∷ pos f.den ∷ []) (at 1 ⊗ (at 0 ⊗ at 2)) (at 2 ⊗ (at 0 ⊗ at 1)) refl
 
   pub to_lower : (f.num *ℤ pos q) ≤ℤ pos (t * f.den) → n * q ≤ t * d
-  to_lower h = le_pos (n * q) (t * d) (le_from_mul_left f.den (pos (n * q)) (pos (t * d)) s (rw (← left, ← right) (mul_le_left d (f.num *ℤ pos q) (pos (t * f.den)) h)))
+  to_lower h = le_pos (n * q) (t * d) (le-from_mul_ℤ f.den (pos (n * q)) (pos (t * d)) s (rw (← left, ← right) (mul-le_ℤ d (f.num *ℤ pos q) (pos (t * f.den)) h)))
 
   pub from_lower : n * q ≤ t * d → (f.num *ℤ pos q) ≤ℤ pos (t * f.den)
-  from_lower h = le_from_mul_left d (f.num *ℤ pos q) (pos (t * f.den)) p (rw (left, right) (mul_le_left f.den (pos (n * q)) (pos (t * d)) (omega (arith, ints))))
+  from_lower h = le-from_mul_ℤ d (f.num *ℤ pos q) (pos (t * f.den)) p (rw (left, right) (mul-le_ℤ f.den (pos (n * q)) (pos (t * d)) (omega (arith, ints))))
 
   pub to_upper : pos (t * f.den) ≤ℤ (f.num *ℤ pos q) → t * d ≤ n * q
-  to_upper h = le_pos (t * d) (n * q) (le_from_mul_left f.den (pos (t * d)) (pos (n * q)) s (rw (← left, ← right) (mul_le_left d (pos (t * f.den)) (f.num *ℤ pos q) h)))
+  to_upper h = le_pos (t * d) (n * q) (le-from_mul_ℤ f.den (pos (t * d)) (pos (n * q)) s (rw (← left, ← right) (mul-le_ℤ d (pos (t * f.den)) (f.num *ℤ pos q) h)))
 
   pub from_upper : t * d ≤ n * q → pos (t * f.den) ≤ℤ (f.num *ℤ pos q)
-  from_upper h = le_from_mul_left d (pos (t * f.den)) (f.num *ℤ pos q) p (rw (left, right) (mul_le_left f.den (pos (t * d)) (pos (n * q)) (omega (arith, ints))))
+  from_upper h = le-from_mul_ℤ d (pos (t * f.den)) (f.num *ℤ pos q) p (rw (left, right) (mul-le_ℤ f.den (pos (t * d)) (pos (n * q)) (omega (arith, ints))))
 
 -- a fraction of the value n/d, of at most ten minutes
 pub end_of : (f : Fraction) (n d : ℕ) → IsFrac f → 0 < d → d ≤ GREATEST_CLOSING → n ≤ WINDOW_SECONDS * d → f.num *ℤ pos d ≡ pos n *ℤ pos f.den → IsEnd f
 end_of f n d h p small most e = record {
   some = h.some;
   den = (let k = den_at_most f (pos n) d h p e in omega arith);
-  least = le_from_mul_left d (pos 0) f.num p (let turned : pos d *ℤ f.num ≡ pos (n * f.den) = turn f.num d ∙ e in rw turned (omega (arith, ints)));
-  greatest = le_from_mul_left d f.num (pos (WINDOW_SECONDS * f.den)) p
-      (let turned : pos d *ℤ f.num ≡ pos (n * f.den) = turn f.num d ∙ e in
+  least = le-from_mul_ℤ d (pos 0) f.num p (let turned : pos d *ℤ f.num ≡ pos (n * f.den) = *ℤ_comm (pos d) f.num ∙ e in rw turned (omega (arith, ints)));
+  greatest = le-from_mul_ℤ d f.num (pos (WINDOW_SECONDS * f.den)) p
+      (let turned : pos d *ℤ f.num ≡ pos (n * f.den) = *ℤ_comm (pos d) f.num ∙ e in
       let k = mul-le-mul most (let same : f.den ≤ f.den = omega arith in same) in
       rw turned (omega (arith, ints, k)));
 }
-  where
-    turn : (a : ℤ) (d : ℕ) → pos d *ℤ a ≡ a *ℤ pos d
-    turn a d = ring (a ∷ pos d ∷ []) (at 1 ⊗ at 0) (at 0 ⊗ at 1) refl
 
 -- two fractions by their values m/c and n/d
 pub ordered : (f g : Fraction) (m c n d : ℕ) → 0 < f.den → 0 < g.den → 0 < c → 0 < d → f.num *ℤ pos c ≡ pos m *ℤ pos f.den → g.num *ℤ pos d ≡ pos n *ℤ pos g.den → m * d ≤ n * c → IsAtMost f g
 ordered f g m c n d sf sg pc pd ef eg h =
-    le_from_mul_left c (f.num *ℤ pos g.den) (g.num *ℤ pos f.den) pc
-    (le_from_mul_left d (pos c *ℤ (f.num *ℤ pos g.den)) (pos c *ℤ (g.num *ℤ pos f.den)) pd
-    (rw (left, right) (let k = mul_le_left (f.den * g.den) (pos (m * d)) (pos (n * c)) (omega (arith, ints)) in omega (arith, ints, k))))
+    le-from_mul_ℤ c (f.num *ℤ pos g.den) (g.num *ℤ pos f.den) pc
+    (le-from_mul_ℤ d (pos c *ℤ (f.num *ℤ pos g.den)) (pos c *ℤ (g.num *ℤ pos f.den)) pd
+    (rw (left, right) (let k = mul-le_ℤ (f.den * g.den) (pos (m * d)) (pos (n * c)) (omega (arith, ints)) in omega (arith, ints, k))))
   where
     left : pos d *ℤ (pos c *ℤ (f.num *ℤ pos g.den)) ≡ pos ((f.den * g.den) * (m * d))
     left = ring (pos d ∷ pos c ∷ f.num ∷ pos g.den ∷ []) (at 0 ⊗ (at 1 ⊗ (at 2 ⊗ at 3))) ((at 2 ⊗ at 1) ⊗ (at 3 ⊗ at 0)) refl ∙ ap (λ z. z *ℤ (pos g.den *ℤ pos d)) ef

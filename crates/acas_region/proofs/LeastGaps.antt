@@ -16,7 +16,7 @@ use Rattle.acas_flight.proofs.EndTimes.{first_least, last_least}
 use Rattle.acas_flight.proofs.Gaps.{high_extreme_of}
 use Rattle.acas_region.specs.Limits.{AreEnds}
 
-test_true : (a b : ℤ) → int_le a b ≡ true → a ≤ℤ b
+pub test_true : (a b : ℤ) → int_le a b ≡ true → a ≤ℤ b
 test_true a b e = omega (arith, ints)
 
 pub natural : {P : Type 0} (z : ℤ) → pos 0 ≤ℤ z → ((n : ℕ) → z ≡ pos n → P) → P
@@ -31,7 +31,7 @@ first_of_ends v k b g h w win y z o eg sb e fy fz vy vz t =
     rw eg (natural win.from.num e.from.least (λ m em. natural win.to.num e.to.least (λ n en.
     first_least v k b h w win y z m n o sb em en e.from.some e.to.some fy.some fz.some (rw eg at vy) (rw eg at vz) e.order (test_true (y.num *ℤ pos z.den) (z.num *ℤ pos y.den) t))))
 
-strictly : (a b : ℤ) → int_le a b ≡ false → b <ℤ a
+pub strictly : (a b : ℤ) → int_le a b ≡ false → b <ℤ a
 strictly a b e = omega (arith, ints)
 
 pub last_of_ends : (v k : ℤ) (b g : ℕ) (h w : ℤ) (win : Times) (y z : Fraction) → k ≤ℤ v → g ≡ 0 → 0 < b → AreEnds win → IsFrac y → IsFrac z →

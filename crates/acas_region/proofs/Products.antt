@@ -1,5 +1,5 @@
 -- Bounds of products and of curves.
-use Rattle.std.proofs.Common.{◌≡◌, ℕ, ◌+◌, ◌-◌, ◌*◌, ◌^◌, ◌<◌, ◌≤◌, refl, ap, ◌∙◌, arith, Bool, true, false, ℤ, pos, ◌-ℤ◌, ◌*ℤ◌, unsigned_abs, int_le, min, to_z, of_z, mul-le-mul, mul-le-mul_left}
+use Rattle.std.proofs.Common.{◌≡◌, ℕ, ◌+◌, ◌-◌, ◌*◌, ◌^◌, ◌<◌, ◌≤◌, refl, ap, ◌∙◌, arith, ℤ, pos, ◌-ℤ◌, ◌*ℤ◌, unsigned_abs, int_le, min, to_z, of_z, mul-le-mul, mul-le-mul_left}
 use Rattle.std.specs.Int.{w64}
 use Rattle.std.proofs.lemmas.Int.{ints, unsigned_abs-mul}
 use Rattle.acas_units.specs.declared.limits.TheConstants.{GREATEST_CLOSING, GREATEST_LIMIT}
@@ -7,8 +7,9 @@ use Rattle.acas_flight.proofs.Curves.{steady}
 use Rattle.acas_flight.proofs.Held.{held_one_form}
 use Rattle.acas_frac.specs.Fraction.{ReducesWithinBounds}
 use Rattle.acas_flight.specs.Curves.{held}
-use Rattle.acas_flight.specs.Values.{all_lost, less_or_more}
+use Rattle.acas_flight.specs.Values.{all_lost}
 use Rattle.acas_frac.proofs.Lowest.{ReducesWithinBounds-over}
+use Rattle.acas_region.proofs.Sizes.{size_with}
 use Rattle.acas_units.specs.declared.limits.TheConstants.{GREATEST_RATE, WINDOW_SECONDS}
 
 pub small : (a : ℤ) (n m k : ℕ) → unsigned_abs a ≤ m → n ≤ k → unsigned_abs (a *ℤ pos n) ≤ m * k
@@ -19,10 +20,6 @@ whole64 z h = omega (arith, ints)
 
 pub small_reduces : (n : ℤ) (d : ℕ) → unsigned_abs n ≤ 2 * 10 ^ 20 → 0 < d → d ≤ GREATEST_CLOSING * GREATEST_CLOSING * GREATEST_LIMIT → ReducesWithinBounds (unsigned_abs n) d
 small_reduces n d h p k = ReducesWithinBounds-over (unsigned_abs n) d (unsigned_abs n) d p p refl (omega arith) (omega arith)
-
-size_with : (r : Bool) (s : ℤ) (l : ℕ) → unsigned_abs (less_or_more r s l) ≤ unsigned_abs s + l
-size_with true s l = omega (arith, ints)
-size_with false s l = omega (arith, ints)
 
 -- the numbers of a curve from whole rates, over a closing speed at most
 pub held_small : (v k : ℤ) (b g t : ℕ) → unsigned_abs v ≤ unsigned_abs GREATEST_RATE * GREATEST_CLOSING → unsigned_abs k ≤ unsigned_abs GREATEST_RATE * GREATEST_CLOSING → b * t ≤ GREATEST_LIMIT * (WINDOW_SECONDS * GREATEST_CLOSING) → unsigned_abs (held v k b g t) ≤ 10 ^ 20

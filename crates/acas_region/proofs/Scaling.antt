@@ -64,9 +64,6 @@ module _ (v k b g t : Fraction) (bn gn tn : ℕ) (w : IsHeldCurve v k b g t) (eb
   time_most : tn ≤ WINDOW_SECONDS * t.den
   time_most = let h = rw et at w.curve.time.greatest in omega (arith, ints)
 
-  abbrev Fine : Type 0
-  Fine = IsFine v.den k.den b.den g.den t.den bn
-
   if_whole : AreWhole v k b → t.den * g.den ≤ TIME_PARTS → IsFine v.den k.den b.den g.den t.den bn
   if_whole a h = rw (a.0, a.1, a.2) (all_whole g.den t.den bn h (let m = rw a.2 at pull_most in omega arith))
 

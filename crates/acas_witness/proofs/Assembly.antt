@@ -65,12 +65,12 @@ pull_some b h = (omega (arith, ints, h.least, h.some), omega (arith, ints, h.lea
 pub bend_den : (v k b y : Fraction) → IsRate v → IsRate k → IsPull b → IsBend v k b y → IsFrac y → y.den ≤ v.den * k.den * unsigned_abs b.num
 bend_den v k b y iv ik ib is f = den_at_most y (pos (unsigned_abs ((k.num *ℤ pos v.den) -ℤ (v.num *ℤ pos k.den)) * b.den)) (v.den * k.den * unsigned_abs b.num) f (mul-pos (mul-pos iv.some ik.some) (pull_some b ib).0) is.over
 
+pub from_none : (z : ℤ) (d : ℕ) → (pos 0 *ℤ pos d) ≤ℤ z → pos 0 ≤ℤ z
+from_none z d h = omega (arith, ints)
+
 pub bend_least : (v k b y : Fraction) → IsRate v → IsRate k → IsPull b → IsBend v k b y → pos 0 ≤ℤ y.num
-bend_least v k b y iv ik ib is = line y.num y.den
+bend_least v k b y iv ik ib is = from_none y.num y.den
     (at_least y (pos (unsigned_abs ((k.num *ℤ pos v.den) -ℤ (v.num *ℤ pos k.den)) * b.den)) (pos 0) (v.den * k.den * unsigned_abs b.num) (mul-pos (mul-pos iv.some ik.some) (pull_some b ib).0) is.over (omega (arith, ints)))
-  where
-    line : (z : ℤ) (d : ℕ) → (pos 0 *ℤ pos d) ≤ℤ z → pos 0 ≤ℤ z
-    line z d h = omega (arith, ints)
 
 -- ---- the difference's fraction
 
@@ -79,23 +79,17 @@ module _ (f g r : Fraction) (pf : 0 < f.den) (pg : 0 < g.den) (is : IsDifference
   difference_den = den_at_most r ((f.num *ℤ pos g.den) -ℤ (g.num *ℤ pos f.den)) (f.den * g.den) fr (mul-pos pf pg) is.over
 
   pub difference_least : pos 0 ≤ℤ r.num
-  difference_least = line r.num r.den
+  difference_least = from_none r.num r.den
       (at_least r ((f.num *ℤ pos g.den) -ℤ (g.num *ℤ pos f.den)) (pos 0) (f.den * g.den) (mul-pos pf pg) is.over (above (f.num *ℤ pos g.den) (g.num *ℤ pos f.den) (f.den * g.den) order))
     where
-      line : (z : ℤ) (d : ℕ) → (pos 0 *ℤ pos d) ≤ℤ z → pos 0 ≤ℤ z
-      line z d h = omega (arith, ints)
-
       above : (a b : ℤ) (d : ℕ) → b ≤ℤ a → (pos 0 *ℤ pos d) ≤ℤ (a -ℤ b)
       above a b d h = omega (arith, ints)
 
   pub difference_most : r.num ≤ℤ pos (600 * r.den)
   difference_most =
       at_most r ((f.num *ℤ pos g.den) -ℤ (g.num *ℤ pos f.den)) (pos 600) (f.den * g.den) (mul-pos pf pg) is.over
-      (under (f.num *ℤ pos g.den) (g.num *ℤ pos f.den) (600 * (f.den * g.den)) (let h = scaled_le f.num (pos (600 * f.den)) g.den most in let e : (600 * f.den) * g.den ≡ 600 * (f.den * g.den) = omega arith in rw e at h) (from_zero g.num f.den (scaled_le (pos 0) g.num f.den least)))
+      (under (f.num *ℤ pos g.den) (g.num *ℤ pos f.den) (600 * (f.den * g.den)) (let h = scaled_le f.num (pos (600 * f.den)) g.den most in let e : (600 * f.den) * g.den ≡ 600 * (f.den * g.den) = omega arith in rw e at h) (from_none (g.num *ℤ pos f.den) f.den (scaled_le (pos 0) g.num f.den least)))
     where
-      from_zero : (a : ℤ) (d : ℕ) → (pos 0 *ℤ pos d) ≤ℤ (a *ℤ pos d) → pos 0 ≤ℤ (a *ℤ pos d)
-      from_zero a d h = omega (arith, ints)
-
       under : (a b : ℤ) (n : ℕ) → a ≤ℤ pos n → pos 0 ≤ℤ b → (a -ℤ b) ≤ℤ pos n
       under a b n h k = omega (arith, ints)
 

@@ -3,27 +3,21 @@ use Rattle.std.proofs.Common.{subst, ◌≡◌, ℕ, ◌+◌, ◌-◌, ◌*◌, 
 use Rattle.std.proofs.lemmas.Bool.{cases_lt}
 use Rattle.std.proofs.lemmas.Int.{ints, int_max_is, int_min_is, unsigned_abs-mul}
 use Rattle.std.specs.Int.{int_max, int_min}
-use Rattle.acas_flight.proofs.Orders.{le_from_mul_left}
-use Rattle.acas_flight.proofs.IntRing.{at, num, ◌⊖◌, ◌⊗◌, ring}
+use Rattle.acas_frac.proofs.SignedProducts.{le-from_mul_ℤ}
+use Rattle.acas_flight.proofs.IntRing.{at, num, ◌⊖◌, ◌⊗◌, ring, mul_swapped_ℤ}
 use Rattle.acas_flight.proofs.Scales.{cancel_left}
 use Rattle.acas_flight.proofs.Held.{min_scaled}
 use Rattle.acas_frac.specs.Fraction.{Fraction, whole_of}
 use Rattle.acas_flight.specs.Values.{IsOver}
 use Rattle.acas_flight.proofs.Windows.{Near, IsHorizontalContact-of}
-use Rattle.acas_flight.proofs.BoxWindows.{IsTimeOfBox, window_of_box}
+use Rattle.acas_flight.proofs.BoxWindows.{IsTimeOfBox, window_of_box, IsInSpans}
 use Rattle.acas_flight.specs.State.{Interval, IsInside}
 use Rattle.acas_flight.specs.Contact.{IsHorizontalContact}
 use Rattle.acas_flight.specs.Window.{IsContactTimeOfBox}
 use Rattle.acas_witness.specs.Ranges.{IsBoxesRange, IsContactOfBox}
+use Rattle.acas_witness.proofs.Portions.{finer as finer_over}
 use Rattle.acas_witness.proofs.CellRanges.{numbers, same_over}
 use native.Mathlib.Nat.{le_of_mul-le-mul_left, lt_of_mul-lt-mul_left, mul-lt-mul_of_pos_left}
-
--- a range and a closing speed over q that are within the intervals of a box
-record IsInSpans (near far slow fast q range speed : ℕ) : Type 0 where
-  not_near : near * q ≤ range
-  not_far : range ≤ far * q
-  not_slow : slow * q ≤ speed
-  not_fast : speed ≤ fast * q
 
 -- The rule at the time t over q; over some multiple of q the range and the speed are in the box and in horizontal contact.
 record IsNearBy (radius near far slow fast q t : ℕ) (distance rate : Fraction) : Type 0 where
@@ -60,7 +54,7 @@ lt_over x y d q a t p e h =
 nearest_over : (r : Fraction) (near far slow d q a t : ℕ) → 0 < d → t * d ≡ a * q → r.num *ℤ pos d ≡ pos (max (near * d) (min (far * d) (slow * a))) *ℤ pos r.den → IsOver q (pos (max (near * q) (min (far * q) (slow * t)))) r
 nearest_over r near far slow d q a t p e h =
     cancel_left d (pos (max (near * q) (min (far * q) (slow * t)) * r.den)) (r.num *ℤ pos q) p
-    (one d (max (near * q) (min (far * q) (slow * t))) r.den ∙ ap (λ z. pos z *ℤ pos r.den) same ∙ two (max (near * d) (min (far * d) (slow * a))) q r.den ∙ ap (λ z. z *ℤ pos q) (sym h) ∙ three r.num d q)
+    (one d (max (near * q) (min (far * q) (slow * t))) r.den ∙ ap (λ z. pos z *ℤ pos r.den) same ∙ two (max (near * d) (min (far * d) (slow * a))) q r.den ∙ ap (λ z. z *ℤ pos q) (sym h) ∙ mul_swapped_ℤ r.num (pos d) (pos q))
   where
     same : max (near * q) (min (far * q) (slow * t)) * d ≡ max (near * d) (min (far * d) (slow * a)) * q
     same =
@@ -77,9 +71,6 @@ nearest_over r near far slow d q a t p e h =
 
     two : (k q n : ℕ) → pos (k * q) *ℤ pos n ≡ (pos k *ℤ pos n) *ℤ pos q
     two k q n = ring (pos k ∷ pos q ∷ pos n ∷ []) ((at 0 ⊗ at 1) ⊗ at 2) ((at 0 ⊗ at 2) ⊗ at 1) refl
-
-    three : (r : ℤ) (d q : ℕ) → (r *ℤ pos d) *ℤ pos q ≡ pos d *ℤ (r *ℤ pos q)
-    three r d q = ring (r ∷ pos d ∷ pos q ∷ []) ((at 0 ⊗ at 1) ⊗ at 2) (at 1 ⊗ (at 0 ⊗ at 2)) refl
 
 slow_near : (radius near far slow q t r : ℕ) → near ≤ far → r ≡ max (near * q) (min (far * q) (slow * t)) → (near - radius) * q ≤ slow * t → slow * t ≤ (far + radius) * q → Near radius q r (slow * q) t
 slow_near radius near far slow q t r o e h k = record {
@@ -208,8 +199,8 @@ nearest_is near far q n =
 -- two fractions of one value: where one is within an interval so is the other
 inside_of : (n q a b r : ℕ) (x : ℤ) (f : Fraction) → 0 < n → 0 < f.den → IsOver n (pos r) f → IsOver q x f → a * n ≤ r → r ≤ b * n → IsInside q (interval a b) x
 inside_of n q a b r x f p pf o ox h k = (
-  le_from_mul_left n (pos a *ℤ pos q) x p (rw (turn a q n, same) (let m = mul-le-mul_right q h in omega (arith, ints))),
-  le_from_mul_left n x (pos b *ℤ pos q) p (rw (turn b q n, same) (let m = mul-le-mul_right q k in omega (arith, ints))),
+  le-from_mul_ℤ n (pos a *ℤ pos q) x p (rw (turn a q n, same) (let m = mul-le-mul_right q h in omega (arith, ints))),
+  le-from_mul_ℤ n x (pos b *ℤ pos q) p (rw (turn b q n, same) (let m = mul-le-mul_right q k in omega (arith, ints))),
 )
   where
     turn : (a q n : ℕ) → pos n *ℤ (pos a *ℤ pos q) ≡ pos ((a * n) * q)
@@ -220,10 +211,6 @@ inside_of n q a b r x f p pf o ox h k = (
         (ring (pos f.den ∷ pos n ∷ x ∷ []) (at 0 ⊗ (at 1 ⊗ at 2)) ((at 2 ⊗ at 0) ⊗ at 1) refl ∙ ap (λ z. z *ℤ pos n) ox
         ∙ ring (f.num ∷ pos q ∷ pos n ∷ []) ((at 0 ⊗ at 1) ⊗ at 2) ((at 0 ⊗ at 2) ⊗ at 1) refl ∙ ap (λ z. z *ℤ pos q) (sym o)
         ∙ ring (pos r ∷ pos f.den ∷ pos q ∷ []) ((at 0 ⊗ at 1) ⊗ at 2) (at 1 ⊗ (at 0 ⊗ at 2)) refl)
-
-finer_over : (q m : ℕ) (x : ℤ) (f : Fraction) → IsOver q x f → IsOver (q * m) (x *ℤ pos m) f
-finer_over q m x f o = ring (x ∷ pos m ∷ pos f.den ∷ []) ((at 0 ⊗ at 1) ⊗ at 2) ((at 0 ⊗ at 2) ⊗ at 1) refl ∙ ap (λ z. z *ℤ pos m) o
-    ∙ ring (f.num ∷ pos q ∷ pos m ∷ []) ((at 0 ⊗ at 1) ⊗ at 2) (at 0 ⊗ (at 1 ⊗ at 2)) refl
 
 coarser : (radius q m t : ℕ) (x y : ℤ) → 0 < m → IsHorizontalContact radius (q * m) (x *ℤ pos m) (y *ℤ pos m) (t * m) → IsHorizontalContact radius q x y t
 coarser radius q m t x y p h =
@@ -254,7 +241,7 @@ module _ (radius near far slow fast : ℕ) (f r v : Fraction) (a d : ℕ) (ea : 
     where
       by : (q t : ℕ) (x y : ℤ) → IsNearBy radius near far slow fast q t r v → IsOver q x r → IsOver q y v → IsHorizontalContact radius q x y t
       by q t x y n ox oy = coarser radius q n.m t x y n.some
-          (rw (same_over (q * n.m) (x *ℤ pos n.m) (pos n.r) r pr (finer_over q n.m x r ox) n.range, same_over (q * n.m) (y *ℤ pos n.m) (pos n.s) v pv (finer_over q n.m y v oy) n.speed)
+          (rw (same_over (q * n.m) (x *ℤ pos n.m) (pos n.r) r pr (finer_over r q n.m x ox) n.range, same_over (q * n.m) (y *ℤ pos n.m) (pos n.s) v pv (finer_over v q n.m y oy) n.speed)
           (IsHorizontalContact-of radius (q * n.m) n.r n.s (t * n.m) n.contact))
 
 -- ---- by the speed

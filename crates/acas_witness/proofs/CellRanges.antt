@@ -1,27 +1,20 @@
 -- The range of a cell's witness is in horizontal contact.
-use Rattle.std.proofs.Common.{unsigned_abs, arith, ◌-ℤ◌, ◌≡◌, ℕ, ◌+◌, ◌-◌, ◌*◌, ◌<◌, ◌≤◌, ◌⊎◌, inl, inr, ⊎_elim, refl, ap, ap₂, sym, ◌∙◌, [], ◌∷◌, ℤ, pos, ◌*ℤ◌, min, mul-le-mul_left, mul-le-mul_right}
+use Rattle.std.proofs.Common.{unsigned_abs, arith, ◌≡◌, ℕ, ◌+◌, ◌-◌, ◌*◌, ◌<◌, ◌≤◌, ◌⊎◌, inl, inr, ⊎_elim, refl, ap, ap₂, sym, ◌∙◌, [], ◌∷◌, ℤ, pos, ◌*ℤ◌, min, mul-le-mul_left, mul-le-mul_right}
 use Rattle.std.proofs.lemmas.Bool.{cases_lt}
-use Rattle.std.proofs.lemmas.Int.{ints, int_max_is}
-use Rattle.acas_flight.proofs.IntRing.{at, num, ◌⊕◌, ◌⊗◌, ring}
+use lib.IntN.{*ℤ_comm}
+use Rattle.acas_flight.proofs.IntRing.{at, num, ◌⊕◌, ◌⊗◌, ring, mul_swapped_ℤ}
 use Rattle.acas_flight.proofs.Scales.{cancel_left, pos_inj}
 use Rattle.acas_flight.proofs.Held.{min_scaled}
 use Rattle.acas_frac.specs.Fraction.{Fraction, whole_of}
 use Rattle.acas_flight.specs.Values.{IsOver}
 use Rattle.acas_spec.specs.Model.{ModelData}
-use Rattle.acas_flight.proofs.Windows.{Near, IsTimeOfCell, IsHorizontalContact-of, window_of_cell}
-use Rattle.acas_flight.specs.State.{IsSecondsAway, outside_radius}
+use Rattle.acas_flight.proofs.Windows.{Near, IsTimeOfCell, IsHorizontalContact-of, window_of_cell, Away, IsSecondsAway-of}
+use Rattle.acas_flight.specs.State.{IsSecondsAway}
 use Rattle.acas_flight.specs.Contact.{IsHorizontalContact}
 use Rattle.acas_flight.specs.Window.{IsContactTimeOfCell}
 use Rattle.acas_witness.specs.Ranges.{IsCellsRange, IsContactOfCell}
 use Rattle.acas_witness.specs.Ranges as ranges
 use native.Mathlib.Nat.{le_of_mul-le-mul_left}
-
--- a range and a closing speed over q from which horizontal separation is lost in n to n + 1 seconds
-record IsInRange (radius slow fast n q range speed : ℕ) : Type 0 where
-  at_least : slow * q ≤ speed
-  at_most : speed ≤ fast * q
-  after : n * speed ≤ range - radius * q
-  before : range - radius * q ≤ (n + 1) * speed
 
 -- a time's number over q, as natural numbers
 pub numbers : (f : Fraction) (a d q t : ℕ) → f.num ≡ pos a → f.den ≡ d → IsOver q (pos t) f → t * d ≡ a * q
@@ -37,16 +30,13 @@ window_over radius slow n d a q t p e w = (
 range_over : (r : Fraction) (radius slow d q m k : ℕ) → 0 < d → k * d ≡ m * q → r.num *ℤ pos d ≡ pos (radius * d + slow * m) *ℤ pos r.den → IsOver q (pos (radius * q + slow * k)) r
 range_over r radius slow d q m k p e h =
     cancel_left d (pos ((radius * q + slow * k) * r.den)) (r.num *ℤ pos q) p
-    (one radius slow d q k r.den ∙ ap (λ z. pos ((radius * d * q + slow * z) * r.den)) e ∙ two radius slow d q m r.den ∙ ap (λ z. z *ℤ pos q) (sym h) ∙ three r.num d q)
+    (one radius slow d q k r.den ∙ ap (λ z. pos ((radius * d * q + slow * z) * r.den)) e ∙ two radius slow d q m r.den ∙ ap (λ z. z *ℤ pos q) (sym h) ∙ mul_swapped_ℤ r.num (pos d) (pos q))
   where
     one : (radius slow d q k n : ℕ) → pos d *ℤ pos ((radius * q + slow * k) * n) ≡ pos ((radius * d * q + slow * (k * d)) * n)
     one radius slow d q k n = ring (pos radius ∷ pos slow ∷ pos d ∷ pos q ∷ pos k ∷ pos n ∷ []) (at 2 ⊗ (((at 0 ⊗ at 3) ⊕ (at 1 ⊗ at 4)) ⊗ at 5)) ((((at 0 ⊗ at 2) ⊗ at 3) ⊕ (at 1 ⊗ (at 4 ⊗ at 2))) ⊗ at 5) refl
 
     two : (radius slow d q m n : ℕ) → pos ((radius * d * q + slow * (m * q)) * n) ≡ (pos (radius * d + slow * m) *ℤ pos n) *ℤ pos q
     two radius slow d q m n = ring (pos radius ∷ pos slow ∷ pos d ∷ pos q ∷ pos m ∷ pos n ∷ []) ((((at 0 ⊗ at 2) ⊗ at 3) ⊕ (at 1 ⊗ (at 4 ⊗ at 3))) ⊗ at 5) ((((at 0 ⊗ at 2) ⊕ (at 1 ⊗ at 4)) ⊗ at 5) ⊗ at 3) refl
-
-    three : (r : ℤ) (d q : ℕ) → (r *ℤ pos d) *ℤ pos q ≡ pos d *ℤ (r *ℤ pos q)
-    three r d q = ring (r ∷ pos d ∷ pos q ∷ []) ((at 0 ⊗ at 1) ⊗ at 2) (at 1 ⊗ (at 0 ⊗ at 2)) refl
 
 lesser : (t n q d a : ℕ) → t * d ≡ a * q → min t (n * q) * d ≡ min a (n * d) * q
 lesser t n q d a e =
@@ -59,7 +49,7 @@ range_of_cell : (r f : Fraction) (radius slow n a d q t : ℕ) → f.num ≡ pos
     IsOver q (pos (radius * q + slow * min t (n * q))) r
 range_of_cell r f radius slow n a d q t ea ed p o h = range_over r radius slow d q (min a (n * d)) (min t (n * q)) p (lesser t n q d a (numbers f a d q t ea ed o)) h
 
-in_range : (radius slow fast n q t m : ℕ) → slow ≤ fast → n * q ≤ m → m ≤ (n + 1) * q → IsInRange radius slow fast n q (radius * q + slow * m) (slow * q)
+in_range : (radius slow fast n q t m : ℕ) → slow ≤ fast → n * q ≤ m → m ≤ (n + 1) * q → Away radius slow fast n q (radius * q + slow * m) (slow * q)
 in_range radius slow fast n q t m h k l =
     let less : (radius * q + slow * m) - radius * q ≡ slow * m = omega arith in
     record {
@@ -75,7 +65,7 @@ near radius slow q t m n h c w = record {
   not_past = ⊎_elim (λ e. rw e (omega arith)) (λ e. rw e (let s = mul-le-mul_right q w in omega arith)) c;
 }
 
-cell_in : (f : Fraction) (radius slow fast n a d q t : ℕ) → f.num ≡ pos a → f.den ≡ d → 0 < d → slow ≤ fast → IsOver q (pos t) f → IsTimeOfCell radius slow n d a → IsInRange radius slow fast n q (radius * q + slow * min t ((n + 1) * q)) (slow * q)
+cell_in : (f : Fraction) (radius slow fast n a d q t : ℕ) → f.num ≡ pos a → f.den ≡ d → 0 < d → slow ≤ fast → IsOver q (pos t) f → IsTimeOfCell radius slow n d a → Away radius slow fast n q (radius * q + slow * min t ((n + 1) * q)) (slow * q)
 cell_in f radius slow fast n a d q t ea ed p h o w =
     let v = window_over radius slow n d a q t p (numbers f a d q t ea ed o) w in
     in_range radius slow fast n q t (min t ((n + 1) * q)) h (let l = v.0 in let m : n * q ≤ (n + 1) * q = omega arith in omega arith) (omega arith)
@@ -87,25 +77,9 @@ cell_near f radius slow n a d q t ea ed p o w =
 
 -- ---- over each denominator
 
-outside : (radius q range : ℕ) → outside_radius radius q (pos range) ≡ pos (range - radius * q)
-outside radius q range =
-    let e = int_max_is (pos 0) (pos range -ℤ pos (radius * q)) in
-    omega (arith, ints, e)
-
-away : (m : ModelData) (n q range speed : ℕ) → IsInRange m.radius m.least_closing m.greatest_closing n q range speed → IsSecondsAway m n q (pos range) (pos speed)
-away m n q range speed a = record {
-  ahead = omega (arith, ints);
-  speed = (omega (arith, ints, a.at_least), omega (arith, ints, a.at_most));
-  not_before = rw (outside m.radius q range) (omega (arith, ints, a.after));
-  not_after = rw (outside m.radius q range) (omega (arith, ints, a.before));
-}
-
 -- what a fraction is over q is one number
 pub same_over : (q : ℕ) (i j : ℤ) (f : Fraction) → 0 < f.den → IsOver q i f → IsOver q j f → i ≡ j
-same_over q i j f p a b = cancel_left f.den i j p (turn i f.den ∙ a ∙ sym b ∙ sym (turn j f.den))
-  where
-    turn : (i : ℤ) (d : ℕ) → pos d *ℤ i ≡ i *ℤ pos d
-    turn i d = ring (i ∷ pos d ∷ []) (at 1 ⊗ at 0) (at 0 ⊗ at 1) refl
+same_over q i j f p a b = cancel_left f.den i j p (*ℤ_comm (pos f.den) i ∙ a ∙ sym b ∙ *ℤ_comm j (pos f.den))
 
 pub whole_over : (q n : ℕ) (f : Fraction) → f ≡ whole_of (pos n) → IsOver q (pos (n * q)) f
 whole_over q n f e = rw e (ring (pos n ∷ pos q ∷ []) ((at 0 ⊗ at 1) ⊗ num (pos 1)) (at 0 ⊗ at 1) refl)
@@ -132,7 +106,7 @@ module _ (m : ModelData) (n : ℕ) (f r v : Fraction) (a d : ℕ) (some : 0 < m.
   pub contact_of_cell : IsContactOfCell m n f r v
   contact_of_cell = record {
     away = λ q t x y s o ox oy. numbers_of q t x y ox oy (range_of_cell r f m.radius m.least_closing (n + 1) a d q t ea ed p o hr) (λ x y. IsSecondsAway m n q x y)
-        (away m n q (ranges.cell_range m n q t) (m.least_closing * q) (cell_in f m.radius m.least_closing m.greatest_closing n a d q t ea ed p order o window));
+        (IsSecondsAway-of m n q (ranges.cell_range m n q t) (m.least_closing * q) (cell_in f m.radius m.least_closing m.greatest_closing n a d q t ea ed p order o window));
     contact = λ q t x y s o ox oy. numbers_of q t x y ox oy (range_of_cell r f m.radius m.least_closing (n + 1) a d q t ea ed p o hr) (λ x y. IsHorizontalContact m.radius q x y t)
         (IsHorizontalContact-of m.radius q (ranges.cell_range m n q t) (m.least_closing * q) t (cell_near f m.radius m.least_closing n a d q t ea ed p o window));
   }

@@ -1,21 +1,21 @@
 -- The printed flight ends in contact.
-use Rattle.std.proofs.Common.{◌≡◌, ℕ, ◌+◌, ◌-◌, ◌*◌, ◌<◌, ◌≤◌, ⊎_elim, refl, ap, sym, ◌∙◌, arith, List, [], ◌∷◌, ◌++◌, ℤ, pos, ◌*ℤ◌, ◌≤ℤ◌, unsigned_abs, min, mul-pos, mul-le-mul}
+use Rattle.std.proofs.Common.{◌≡◌, ℕ, ◌*◌, ◌<◌, ◌≤◌, ⊎_elim, refl, ap, sym, ◌∙◌, arith, [], ◌∷◌, pos, ◌*ℤ◌, ◌≤ℤ◌, unsigned_abs, mul-pos, mul-le-mul}
 use Rattle.std.proofs.lemmas.Int.{ints}
+use Rattle.acas_frac.proofs.SignedProducts.{le-from_mul_ℤ}
 use Rattle.acas_frac.specs.Fraction.{Fraction}
-use Rattle.acas_flight.specs.Response.{Demand, Segment, lasting}
+use Rattle.acas_flight.specs.Response.{Demand}
 use Rattle.acas_flight.specs.Clear.{Area}
 use Rattle.acas_flight.specs.Window.{Times, IsDuring}
 use Rattle.acas_flight.specs.Values.{IsOver}
-use Rattle.acas_flight.proofs.IntRing.{at, ◌⊗◌, ring}
-use Rattle.acas_flight.proofs.Orders.{le_from_mul_left}
+use Rattle.acas_flight.proofs.IntRing.{at, ◌⊗◌, ring, mul_swapped_ℤ}
 use Rattle.acas_flight.proofs.Rising.{scaled_le}
 use Rattle.acas_region.specs.Limits.{IsHeldCurve, IsOneAtMostNotWhole, IsEnd}
 use Rattle.acas_passes.specs.Value.{thinnest}
 use Rattle.acas_passes.specs.Flights.{Flight}
 use Rattle.acas_passes.specs.Search.{Search, IsSearch, IsTimed, IsFound, CanMeet, unit}
-use Rattle.acas_passes.specs.Responses.{IsResponse, fine, scale}
+use Rattle.acas_passes.specs.Responses.{IsResponse, fine}
 use Rattle.acas_passes.proofs.Ends.{found-contact}
-use Rattle.acas_passes.proofs.Flown.{response-lasting, approach-lasting}
+use Rattle.acas_passes.proofs.Touching.{lasts}
 use Rattle.acas_witness.specs.declared.plan.Plan.{Plan}
 use Rattle.acas_witness.specs.declared.flight.Flight as printed
 use Rattle.acas_witness.specs.Witness.{search_between, IsPlanIn, IsFlightInContact}
@@ -49,14 +49,6 @@ planned_dens v k b g t w = ⊎_elim
         q)
         o
 
-length_of : (q : ℕ) (c : Flight) (h r : List Segment) → IsResponse q c h r → lasting (h ++ r) ≡ c.time * scale q c
-length_of q c h r is =
-    response-lasting (min c.time c.hold * scale q c) ((c.time - c.hold) * scale q c) h r is.held (approach-lasting _ _ _ r is.approached)
-    ∙ sums (min c.time c.hold) (c.time - c.hold) c.time (scale q c) (omega arith)
-  where
-    sums : (i j t m : ℕ) → t ≡ i + j → i * m + j * m ≡ t * m
-    sums i j t m e = rw e (omega arith)
-
 along : (q b : ℕ) → q * (q * b) ≡ (q * q) * b
 along q b = omega arith
 
@@ -71,7 +63,7 @@ contact_at half s w c f thick is timed can found fl = record {
   intruder = c.intruder *ℤ pos c.pull;
   hold = fl.hold.segments;
   rest = fl.segments.segments;
-  time_over = rw (length_of (unit s) c fl.hold.segments fl.segments.segments (response_of (unit s) c f fl)) (finer f.time (unit s) (unit s * c.pull) (pos c.time) fl.time);
+  time_over = rw (lasts (unit s) c fl.hold.segments fl.segments.segments (response_of (unit s) c f fl)) (finer f.time (unit s) (unit s * c.pull) (pos c.time) fl.time);
   altitude_over = ap (λ z. z *ℤ pos (fine (unit s) c)) (sym fl.altitude);
   own_over = rw (along (unit s) c.pull) (finer f.v0 (unit s * unit s) c.pull c.own fl.own);
   intruder_over = rw (along (unit s) c.pull) (finer f.v1 (unit s * unit s) c.pull c.intruder fl.intruder);
@@ -90,15 +82,12 @@ contact_of half a area w p f n fl =
 pub during_of : (w : Times) (f : Fraction) (q t : ℕ) → 0 < q → pos 0 ≤ℤ f.num → IsOver q (pos t) f → IsDuring q w t → IsDuring f.den w (unsigned_abs f.num)
 during_of w f q t p h o i = by (unsigned_abs f.num) (omega (arith, ints))
   where
-    turn : (a : ℤ) (q d : ℕ) → pos q *ℤ (a *ℤ pos d) ≡ (a *ℤ pos q) *ℤ pos d
-    turn a q d = ring (a ∷ pos q ∷ pos d ∷ []) (at 1 ⊗ (at 0 ⊗ at 2)) ((at 0 ⊗ at 1) ⊗ at 2) refl
-
     over : (n c : ℕ) → f.num ≡ pos n → pos q *ℤ pos (n * c) ≡ pos (t * c) *ℤ pos f.den
     over n c e = ring (pos n ∷ pos q ∷ pos c ∷ []) (at 1 ⊗ (at 0 ⊗ at 2)) ((at 0 ⊗ at 1) ⊗ at 2) refl ∙ ap (λ z. (z *ℤ pos q) *ℤ pos c) (sym e) ∙ ap (λ z. z *ℤ pos c) (sym o)
         ∙ ring (pos t ∷ pos f.den ∷ pos c ∷ []) ((at 0 ⊗ at 1) ⊗ at 2) ((at 0 ⊗ at 2) ⊗ at 1) refl
 
     by : (n : ℕ) → f.num ≡ pos n → IsDuring f.den w n
     by n e = (
-      le_from_mul_left q (w.from.num *ℤ pos f.den) (pos (n * w.from.den)) p (rw (turn w.from.num q f.den, over n w.from.den e) (scaled_le (w.from.num *ℤ pos q) (pos (t * w.from.den)) f.den i.0)),
-      le_from_mul_left q (pos (n * w.to.den)) (w.to.num *ℤ pos f.den) p (rw (turn w.to.num q f.den, over n w.to.den e) (scaled_le (pos (t * w.to.den)) (w.to.num *ℤ pos q) f.den i.1)),
+      le-from_mul_ℤ q (w.from.num *ℤ pos f.den) (pos (n * w.from.den)) p (rw (← mul_swapped_ℤ w.from.num (pos q) (pos f.den), over n w.from.den e) (scaled_le (w.from.num *ℤ pos q) (pos (t * w.from.den)) f.den i.0)),
+      le-from_mul_ℤ q (pos (n * w.to.den)) (w.to.num *ℤ pos f.den) p (rw (← mul_swapped_ℤ w.to.num (pos q) (pos f.den), over n w.to.den e) (scaled_le (pos (t * w.to.den)) (w.to.num *ℤ pos q) f.den i.1)),
     )

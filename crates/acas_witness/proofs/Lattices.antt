@@ -1,8 +1,8 @@
 -- The points of the lattices are fractions over small denominators.
 use Rattle.std.proofs.Common.{◌≡◌, ℕ, ◌+◌, ◌-◌, ◌*◌, ◌<◌, ◌≤◌, refl, ap, ◌∙◌, sym, arith, [], ◌∷◌, ℤ, pos, negsuc, ◌*ℤ◌, ◌≤ℤ◌, ◌<ℤ◌, unsigned_abs, mul-le-mul_right}
 use Rattle.std.proofs.lemmas.Int.{ints}
-use Rattle.acas_flight.proofs.IntRing.{at, num, ◌⊗◌, ring}
-use Rattle.acas_flight.proofs.Orders.{le_from_mul_left}
+use Rattle.acas_frac.proofs.SignedProducts.{le-from_mul_ℤ}
+use Rattle.acas_flight.proofs.IntRing.{at, num, ◌⊗◌, ring, mul_swapped_ℤ}
 use Rattle.acas_flight.proofs.Rising.{scaled_le}
 use Rattle.acas_frac.specs.Fraction.{Fraction, IsFrac, ReducesWithinBounds}
 use Rattle.acas_flight.specs.Values.{IsOver}
@@ -17,16 +17,10 @@ ratio_reduces n d h p k = ReducesWithinBounds-over (unsigned_abs n) (unsigned_ab
 
 -- the value n/d is at least i and at most j
 pub at_least : (f : Fraction) (n i : ℤ) (d : ℕ) → 0 < d → f.num *ℤ pos d ≡ n *ℤ pos f.den → (i *ℤ pos d) ≤ℤ n → (i *ℤ pos f.den) ≤ℤ f.num
-at_least f n i d p e h = le_from_mul_left d (i *ℤ pos f.den) f.num p (rw (*ℤ_comm (pos d) f.num, e, turn i f.den d) (scaled_le (i *ℤ pos d) n f.den h))
-  where
-    turn : (i : ℤ) (m d : ℕ) → pos d *ℤ (i *ℤ pos m) ≡ (i *ℤ pos d) *ℤ pos m
-    turn i m d = ring (i ∷ pos m ∷ pos d ∷ []) (at 2 ⊗ (at 0 ⊗ at 1)) ((at 0 ⊗ at 2) ⊗ at 1) refl
+at_least f n i d p e h = le-from_mul_ℤ d (i *ℤ pos f.den) f.num p (rw (*ℤ_comm (pos d) f.num, e, ← mul_swapped_ℤ i (pos d) (pos f.den)) (scaled_le (i *ℤ pos d) n f.den h))
 
 pub at_most : (f : Fraction) (n j : ℤ) (d : ℕ) → 0 < d → f.num *ℤ pos d ≡ n *ℤ pos f.den → n ≤ℤ (j *ℤ pos d) → f.num ≤ℤ (j *ℤ pos f.den)
-at_most f n j d p e h = le_from_mul_left d f.num (j *ℤ pos f.den) p (rw (*ℤ_comm (pos d) f.num, e, turn j f.den d) (scaled_le n (j *ℤ pos d) f.den h))
-  where
-    turn : (i : ℤ) (m d : ℕ) → pos d *ℤ (i *ℤ pos m) ≡ (i *ℤ pos d) *ℤ pos m
-    turn i m d = ring (i ∷ pos m ∷ pos d ∷ []) (at 2 ⊗ (at 0 ⊗ at 1)) ((at 0 ⊗ at 2) ⊗ at 1) refl
+at_most f n j d p e h = le-from_mul_ℤ d f.num (j *ℤ pos f.den) p (rw (*ℤ_comm (pos d) f.num, e, ← mul_swapped_ℤ j (pos d) (pos f.den)) (scaled_le n (j *ℤ pos d) f.den h))
 
 pub rate_of : (f : Fraction) (n : ℤ) → IsFrac f → f.num *ℤ pos 8 ≡ n *ℤ pos f.den → unsigned_abs n ≤ 80000 → IsRate f
 rate_of f n l e h = record {
@@ -68,6 +62,12 @@ later_most a b c d n h k =
     let l : d * (256 * a + n * b) < d * (600 * (256 * b)) = omega arith in
     let r = lt_of_mul-lt-mul_left d l in omega arith
 
+left : (k d m : ℕ) → pos ((8 * d) * k) *ℤ pos m ≡ pos (8 * d) *ℤ (pos k *ℤ pos m)
+left k d m = ring (pos k ∷ pos d ∷ pos m ∷ []) (((num (pos 8) ⊗ at 1) ⊗ at 0) ⊗ at 2) ((num (pos 8) ⊗ at 1) ⊗ (at 0 ⊗ at 2)) refl
+
+right : (x : ℤ) (b d : ℕ) → pos (8 * d) *ℤ (x *ℤ pos (256 * b)) ≡ x *ℤ pos (2048 * (b * d))
+right x b d = ring (x ∷ pos b ∷ pos d ∷ []) ((num (pos 8) ⊗ at 2) ⊗ (at 0 ⊗ (num (pos 256) ⊗ at 1))) (at 0 ⊗ (num (pos 2048) ⊗ (at 1 ⊗ at 2))) refl
+
 pub over_later : (f : Fraction) (a b c d n : ℕ) → f.num *ℤ pos (256 * b) ≡ pos (256 * a + n * b) *ℤ pos f.den → 256 * a * d + n * (b * d) < 256 * c * b →
     IsOver (2048 * (b * d)) (pos (toward (a * (2048 * d)) (c * (2048 * b)) (n * (8 * (b * d))))) f
 over_later f a b c d n e h =
@@ -76,12 +76,6 @@ over_later f a b c d n e h =
   where
     place : (x y m z : ℕ) → x + m < y → z ≡ x + m → toward x y m ≡ z
     place x y m z h e = omega arith
-
-    left : (k d m : ℕ) → pos ((8 * d) * k) *ℤ pos m ≡ pos (8 * d) *ℤ (pos k *ℤ pos m)
-    left k d m = ring (pos k ∷ pos d ∷ pos m ∷ []) (((num (pos 8) ⊗ at 1) ⊗ at 0) ⊗ at 2) ((num (pos 8) ⊗ at 1) ⊗ (at 0 ⊗ at 2)) refl
-
-    right : (x : ℤ) (b d : ℕ) → pos (8 * d) *ℤ (x *ℤ pos (256 * b)) ≡ x *ℤ pos (2048 * (b * d))
-    right x b d = ring (x ∷ pos b ∷ pos d ∷ []) ((num (pos 8) ⊗ at 2) ⊗ (at 0 ⊗ (num (pos 256) ⊗ at 1))) (at 0 ⊗ (num (pos 2048) ⊗ (at 1 ⊗ at 2))) refl
 
 pub sooner_room : (a b c d n : ℕ) → 0 < d → 256 * c * b + n * (b * d) < 256 * a * d → n * b ≤ 256 * a
 sooner_room a b c d n p h =
@@ -94,12 +88,6 @@ over_sooner f a b c d n s e h = by (256 * a - n * b) (let r = sooner_room a b c 
   where
     place : (x y m z : ℕ) → y + m < x → z + m ≡ x → toward x y m ≡ z
     place x y m z h e = omega arith
-
-    left : (k d m : ℕ) → pos ((8 * d) * k) *ℤ pos m ≡ pos (8 * d) *ℤ (pos k *ℤ pos m)
-    left k d m = ring (pos k ∷ pos d ∷ pos m ∷ []) (((num (pos 8) ⊗ at 1) ⊗ at 0) ⊗ at 2) ((num (pos 8) ⊗ at 1) ⊗ (at 0 ⊗ at 2)) refl
-
-    right : (x : ℤ) (b d : ℕ) → pos (8 * d) *ℤ (x *ℤ pos (256 * b)) ≡ x *ℤ pos (2048 * (b * d))
-    right x b d = ring (x ∷ pos b ∷ pos d ∷ []) ((num (pos 8) ⊗ at 2) ⊗ (at 0 ⊗ (num (pos 256) ⊗ at 1))) (at 0 ⊗ (num (pos 2048) ⊗ (at 1 ⊗ at 2))) refl
 
     by : (z : ℕ) → 256 * a ≡ z + n * b → f.num *ℤ pos (256 * b) ≡ pos z *ℤ pos f.den → IsOver (2048 * (b * d)) (pos (toward (a * (2048 * d)) (c * (2048 * b)) (n * (8 * (b * d))))) f
     by z g e =

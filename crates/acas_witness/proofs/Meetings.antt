@@ -1,9 +1,13 @@
 -- In a area that is not clear the lowest flight is not above the puck, and the highest is not below it.
-use Rattle.std.proofs.Common.{subst, ◌≡◌, ◌↔◌, IsTrue, ℕ, ◌*◌, ◌<◌, inl, inr, ⊎_elim, refl, sym, ap, ◌∙◌, arith, Bool, true, false, true≢false, cond, [], ◌∷◌, ℤ, pos, neg_ℤ, ◌+ℤ◌, ◌-ℤ◌, ◌*ℤ◌, ◌<ℤ◌, ◌≤ℤ◌, int_lt, mul-pos}
+use Rattle.std.proofs.Common.{subst, ◌≡◌, ◌↔◌, IsTrue, ℕ, ◌*◌, ◌<◌, inl, inr, ⊎_elim, refl, sym, ap, ◌∙◌, arith, Bool, true, false, true≢false, [], ◌∷◌, ℤ, pos, neg_ℤ, ◌+ℤ◌, ◌-ℤ◌, ◌*ℤ◌, ◌<ℤ◌, ◌≤ℤ◌, int_lt, mul-pos}
 use Rattle.std.proofs.lemmas.Int.{ints}
-use Rattle.acas_flight.proofs.IntRing.{at, num, ◌⊕◌, ◌⊖◌, ◌⊗◌, ring, mul_neg_ℤ}
-use Rattle.acas_flight.proofs.Orders.{mul_le_left, mul_lt_left, le_from_mul_left, lt_from_mul_left, cases_lt_ℤ}
+use Rattle.std.specs.Int.Signed.{<ℤ-≤ℤ_trans}
+use Rattle.acas_frac.proofs.SignedProducts.{mul-le_ℤ, mul-lt_ℤ, le-from_mul_ℤ, lt-from_mul_ℤ, mul-neg_ℤ}
+use Rattle.acas_flight.proofs.IntRing.{at, num, ◌⊕◌, ◌⊖◌, ◌⊗◌, ring, zero-sub_ℤ}
+use Rattle.acas_flight.proofs.Orders.{cases_lt_ℤ}
+use Rattle.acas_flight.proofs.Safe.{low_pull-some, high_pull-some}
 use Rattle.acas_flight.proofs.Gaps.{low_pull-border, high_pull-border}
+use Rattle.acas_region.proofs.Clears.{turned}
 use Rattle.acas_frac.specs.Fraction.{Fraction, Same}
 use Rattle.acas_passes.specs.Value.{is_below, IsWithinHalf}
 use Rattle.acas_passes.proofs.Halvings.{IsWithin-Same}
@@ -30,59 +34,42 @@ turn_half : (half d D : ℕ) → pos D *ℤ pos (half * d) ≡ pos d *ℤ pos (h
 turn_half half d D = ring (pos half ∷ pos d ∷ pos D ∷ []) (at 2 ⊗ (at 0 ⊗ at 1)) (at 1 ⊗ (at 0 ⊗ at 2)) refl
 
 not_above : (half : ℕ) (y n : ℤ) (d D : ℕ) → 0 < d → y *ℤ pos D ≡ n *ℤ pos d → y ≤ℤ pos (half * d) → n ≤ℤ pos (half * D)
-not_above half y n d D p e h = le_from_mul_left d n (pos (half * D)) p
-    (rw (*ℤ_comm (pos d) n, ← e, ← turn_half half d D, *ℤ_comm y (pos D)) (mul_le_left D y (pos (half * d)) h))
+not_above half y n d D p e h = le-from_mul_ℤ d n (pos (half * D)) p
+    (rw (*ℤ_comm (pos d) n, ← e, ← turn_half half d D, *ℤ_comm y (pos D)) (mul-le_ℤ D y (pos (half * d)) h))
 
 not_below : (half : ℕ) (y n : ℤ) (d D : ℕ) → 0 < d → y *ℤ pos D ≡ n *ℤ pos d → neg_ℤ (pos (half * d)) ≤ℤ y → neg_ℤ (pos (half * D)) ≤ℤ n
-not_below half y n d D p e h = le_from_mul_left d (neg_ℤ (pos (half * D))) n p
-    (rw (mul_neg_ℤ (pos d) (pos (half * D)), ← turn_half half d D, ← mul_neg_ℤ (pos D) (pos (half * d)), *ℤ_comm (pos d) n, ← e, *ℤ_comm y (pos D)) (mul_le_left D (neg_ℤ (pos (half * d))) y h))
+not_below half y n d D p e h = le-from_mul_ℤ d (neg_ℤ (pos (half * D))) n p
+    (rw (mul-neg_ℤ (pos d) (pos (half * D)), ← turn_half half d D, ← mul-neg_ℤ (pos D) (pos (half * d)), *ℤ_comm (pos d) n, ← e, *ℤ_comm y (pos D)) (mul-le_ℤ D (neg_ℤ (pos (half * d))) y h))
 
 -- ---- the low side: an area whose least gap is above the puck is clear
 
 low_pull_some : (a : Demand) (area : Area) (q : ℕ) → 0 < q → CanBeMet a → 0 < low_pull_of q a area
-low_pull_some a area q p f = rw (low_pull-border a area q p) (mul-pos (by (int_lt area.own.least a.lo)) p)
-  where
-    by : (t : Bool) → 0 < cond t a.pull a.limit
-    by true = f.some_pull
-    by false = omega (arith, f.some_pull, f.pull_within)
+low_pull_some a area q p f = rw (low_pull-border a area q p) (mul-pos (low_pull-some a area.own.least f) p)
 
 above_low : (half : ℕ) (a : Demand) (area : Area) (w : Times) (time y : Fraction) → CanBeMet a → IsLowExtreme a area w time y → pos (half * y.den) <ℤ y.num → IsClearAbove half a area w
 above_low half a area w time y f low h q t p i =
-    lt_from_mul_left y.den (pos (low_pull_of q a area) *ℤ pos (half * (q * q * q))) (least_gap q a area t)
+    lt-from_mul_ℤ y.den (pos (low_pull_of q a area) *ℤ pos (half * (q * q * q))) (least_gap q a area t)
     (rw (← turned half y.den q (low_pull_of q a area), *ℤ_comm (pos y.den) (least_gap q a area t))
-    (less_le _ _ _ (mul_lt_left (q * q * q * low_pull_of q a area) (pos (half * y.den)) y.num (mul-pos (mul-pos (mul-pos p p) p) (low_pull_some a area q p f)) h)
+    (<ℤ-≤ℤ_trans (mul-lt_ℤ (q * q * q * low_pull_of q a area) (pos (half * y.den)) y.num (mul-pos (mul-pos (mul-pos p p) p) (low_pull_some a area q p f)) h)
     (rw (*ℤ_comm (pos (q * q * q * low_pull_of q a area)) y.num) (low.least q t p i))))
-  where
-    less_le : (a b c : ℤ) → a <ℤ b → b ≤ℤ c → a <ℤ c
-    less_le a b c h k = omega (arith, ints)
-
-    turned : (half d q P : ℕ) → pos (q * q * q * P) *ℤ pos (half * d) ≡ pos d *ℤ (pos P *ℤ pos (half * (q * q * q)))
-    turned half d q P = ring (pos half ∷ pos d ∷ pos q ∷ pos P ∷ []) ((((at 2 ⊗ at 2) ⊗ at 2) ⊗ at 3) ⊗ (at 0 ⊗ at 1)) (at 1 ⊗ (at 3 ⊗ (at 0 ⊗ ((at 2 ⊗ at 2) ⊗ at 2)))) refl
 
 -- ---- the high side: a area whose greatest gap is below the puck is clear
 
 pull_some : (a : Demand) (area : Area) (q : ℕ) → 0 < q → CanBeMet a → 0 < high_pull_of q a area
-pull_some a area q p f = rw (high_pull-border a area q p) (mul-pos (by (int_lt a.hi area.own.greatest)) p)
-  where
-    by : (t : Bool) → 0 < cond t a.pull a.limit
-    by true = f.some_pull
-    by false = omega (arith, f.some_pull, f.pull_within)
+pull_some a area q p f = rw (high_pull-border a area q p) (mul-pos (high_pull-some a area.own.greatest f) p)
 
 below_high : (half : ℕ) (a : Demand) (area : Area) (w : Times) (time y : Fraction) → CanBeMet a → IsHighExtreme a area w time y → y.num <ℤ neg_ℤ (pos (half * y.den)) →
     (q t : ℕ) → 0 < q → IsDuring q w t → greatest_gap q a area t <ℤ (pos (high_pull_of q a area) *ℤ neg_ℤ (pos (half * (q * q * q))))
 below_high half a area w time y f high h q t p i =
-    lt_from_mul_left y.den (greatest_gap q a area t) (pos (high_pull_of q a area) *ℤ neg_ℤ (pos (half * (q * q * q))))
+    lt-from_mul_ℤ y.den (greatest_gap q a area t) (pos (high_pull_of q a area) *ℤ neg_ℤ (pos (half * (q * q * q))))
     (le_less _ _ _ (rw (*ℤ_comm (pos y.den) (greatest_gap q a area t), *ℤ_comm (pos (q * q * q * high_pull_of q a area)) y.num) (high.greatest q t p i))
-    (rw (turned half y.den q (high_pull_of q a area)) at (mul_lt_left (q * q * q * high_pull_of q a area) y.num (neg_ℤ (pos (half * y.den))) (mul-pos (mul-pos (mul-pos p p) p) (pull_some a area q p f)) h)))
+    (rw (turned half y.den q (high_pull_of q a area)) at (mul-lt_ℤ (q * q * q * high_pull_of q a area) y.num (neg_ℤ (pos (half * y.den))) (mul-pos (mul-pos (mul-pos p p) p) (pull_some a area q p f)) h)))
   where
     le_less : (a b c : ℤ) → a ≤ℤ b → b <ℤ c → a <ℤ c
     le_less a b c h k = omega (arith, ints)
 
-    negative : (n : ℕ) → neg_ℤ (pos n) ≡ pos 0 -ℤ pos n
-    negative n = omega (arith, ints)
-
     turned : (half d q P : ℕ) → pos (q * q * q * P) *ℤ neg_ℤ (pos (half * d)) ≡ pos d *ℤ (pos P *ℤ neg_ℤ (pos (half * (q * q * q))))
-    turned half d q P = rw (negative (half * d), negative (half * (q * q * q))) (ring (pos half ∷ pos d ∷ pos q ∷ pos P ∷ [])
+    turned half d q P = rw (← zero-sub_ℤ (pos (half * d)), ← zero-sub_ℤ (pos (half * (q * q * q)))) (ring (pos half ∷ pos d ∷ pos q ∷ pos P ∷ [])
         ((((at 2 ⊗ at 2) ⊗ at 2) ⊗ at 3) ⊗ (num (pos 0) ⊖ (at 0 ⊗ at 1))) (at 1 ⊗ (at 3 ⊗ (num (pos 0) ⊖ (at 0 ⊗ ((at 2 ⊗ at 2) ⊗ at 2))))) refl)
 
 -- ---- both flights
@@ -120,12 +107,6 @@ pub renamed : (P : ℕ → Search → Type 0) (half n : ℕ) (s t : Search) → 
 renamed P half n s t e f h = subst (λ k. P k t) e (subst (λ x. P n x) f h)
 
 -- ---- tests of contact
-
-pub below_of : (half : ℕ) (f : Fraction) → f.num ≤ℤ pos (half * f.den) → ¬ IsWithinHalf half f → is_below half f ≡ true
-below_of half f h n = ⊎_elim
-    (λ (l : f.num <ℤ neg_ℤ (pos (half * f.den))). let e : true ≡ int_lt f.num (neg_ℤ (pos (half * f.den))) = omega (arith, ints) in sym e)
-    (λ l. absurd (n (record { not_below = l; not_above = h })))
-    (cases_lt_ℤ f.num (neg_ℤ (pos (half * f.den))))
 
 pub above_of : (half : ℕ) (f : Fraction) → neg_ℤ (pos (half * f.den)) ≤ℤ f.num → is_below half f ≡ false
 above_of half f h = let e : false ≡ int_lt f.num (neg_ℤ (pos (half * f.den))) = omega (arith, ints) in sym e

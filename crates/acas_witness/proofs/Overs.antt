@@ -1,10 +1,9 @@
 -- The fractions of the passes are their numbers over the common denominator.
-use Rattle.std.proofs.Common.{◌≡◌, ℕ, ◌+◌, ◌-◌, ◌*◌, ◌<◌, ◌≤◌, ⊎_elim, refl, ap, ap₂, sym, ◌∙◌, arith, Bool, true, false, cond, [], ◌∷◌, ℤ, pos, ◌+ℤ◌, ◌-ℤ◌, ◌*ℤ◌, ◌≤ℤ◌, ◌<ℤ◌, unsigned_abs, int_lt, min, mul-pos}
+use Rattle.std.proofs.Common.{◌≡◌, ℕ, ◌+◌, ◌-◌, ◌*◌, ◌<◌, ◌≤◌, refl, ap, ap₂, sym, ◌∙◌, arith, cond, [], ◌∷◌, ℤ, pos, ◌+ℤ◌, ◌-ℤ◌, ◌*ℤ◌, ◌≤ℤ◌, unsigned_abs, int_lt, min, mul-pos}
 use Rattle.std.proofs.lemmas.Int.{ints, unsigned_abs-mul}
 use Rattle.acas_flight.proofs.IntRing.{at, num, ◌⊕◌, ◌⊖◌, ◌⊗◌, ring}
-use Rattle.acas_flight.proofs.Orders.{mul_lt_left, cases_lt_ℤ}
-use Rattle.acas_flight.proofs.Rising.{scaled_le}
 use Rattle.acas_flight.proofs.Held.{min_scaled, sub_scaled}
+use Rattle.acas_flight.proofs.Gaps.{test_scaled, cond_times, cond_none}
 use Rattle.acas_frac.specs.Fraction.{Fraction, whole_of}
 use Rattle.acas_flight.specs.Values.{IsOver}
 use Rattle.acas_flight.specs.Curves.{low_pull, low_hold}
@@ -53,21 +52,18 @@ high_over s h = by (unsigned_abs s.high.num) (omega (arith, ints))
 
 -- ---- the ways of the passes, over a step
 
+way_scaled : (b a : ℤ) (m : ℕ) → unsigned_abs ((b *ℤ pos m) -ℤ (a *ℤ pos m)) ≡ unsigned_abs (b -ℤ a) * m
+way_scaled b a m = ap unsigned_abs (ring (b ∷ a ∷ pos m ∷ []) ((at 0 ⊗ at 2) ⊖ (at 1 ⊗ at 2)) ((at 0 ⊖ at 1) ⊗ at 2) refl) ∙ unsigned_abs-mul (b -ℤ a) (pos m)
+
 pub rising_scaled : (a b : ℤ) (i m : ℕ) → rising (a *ℤ pos m) (b *ℤ pos m) (i * m) ≡ rising a b i *ℤ pos m
 rising_scaled a b i m =
-    ap (λ n. (a *ℤ pos m) +ℤ pos (min (i * m) n)) (way b a m) ∙ ap (λ n. (a *ℤ pos m) +ℤ pos n) (min_scaled i (unsigned_abs (b -ℤ a)) m)
+    ap (λ n. (a *ℤ pos m) +ℤ pos (min (i * m) n)) (way_scaled b a m) ∙ ap (λ n. (a *ℤ pos m) +ℤ pos n) (min_scaled i (unsigned_abs (b -ℤ a)) m)
     ∙ ring (a ∷ pos (min i (unsigned_abs (b -ℤ a))) ∷ pos m ∷ []) ((at 0 ⊗ at 2) ⊕ (at 1 ⊗ at 2)) ((at 0 ⊕ at 1) ⊗ at 2) refl
-  where
-    way : (b a : ℤ) (m : ℕ) → unsigned_abs ((b *ℤ pos m) -ℤ (a *ℤ pos m)) ≡ unsigned_abs (b -ℤ a) * m
-    way b a m = ap unsigned_abs (ring (b ∷ a ∷ pos m ∷ []) ((at 0 ⊗ at 2) ⊖ (at 1 ⊗ at 2)) ((at 0 ⊖ at 1) ⊗ at 2) refl) ∙ unsigned_abs-mul (b -ℤ a) (pos m)
 
 pub falling_scaled : (a b : ℤ) (i m : ℕ) → falling (a *ℤ pos m) (b *ℤ pos m) (i * m) ≡ falling a b i *ℤ pos m
 falling_scaled a b i m =
-    ap (λ n. (a *ℤ pos m) -ℤ pos (min (i * m) n)) (way a b m) ∙ ap (λ n. (a *ℤ pos m) -ℤ pos n) (min_scaled i (unsigned_abs (a -ℤ b)) m)
+    ap (λ n. (a *ℤ pos m) -ℤ pos (min (i * m) n)) (way_scaled a b m) ∙ ap (λ n. (a *ℤ pos m) -ℤ pos n) (min_scaled i (unsigned_abs (a -ℤ b)) m)
     ∙ ring (a ∷ pos (min i (unsigned_abs (a -ℤ b))) ∷ pos m ∷ []) ((at 0 ⊗ at 2) ⊖ (at 1 ⊗ at 2)) ((at 0 ⊖ at 1) ⊗ at 2) refl
-  where
-    way : (b a : ℤ) (m : ℕ) → unsigned_abs ((b *ℤ pos m) -ℤ (a *ℤ pos m)) ≡ unsigned_abs (b -ℤ a) * m
-    way b a m = ap unsigned_abs (ring (b ∷ a ∷ pos m ∷ []) ((at 0 ⊗ at 2) ⊖ (at 1 ⊗ at 2)) ((at 0 ⊖ at 1) ⊗ at 2) refl) ∙ unsigned_abs-mul (b -ℤ a) (pos m)
 
 pub toward_scaled : (a b i m : ℕ) → toward (a * m) (b * m) (i * m) ≡ toward a b i * m
 toward_scaled a b i m =
@@ -80,29 +76,6 @@ toward_scaled a b i m =
 
 -- ---- the pull and the hold of the highest flight, from eighths
 
-test_scaled : (a b : ℤ) (n : ℕ) → 0 < n → int_lt (a *ℤ pos n) (b *ℤ pos n) ≡ int_lt a b
-test_scaled a b n p = ⊎_elim
-    (λ l. is_true (a *ℤ pos n) (b *ℤ pos n) (rw (turn a n, turn b n) (mul_lt_left n a b p l)) ∙ sym (is_true a b l))
-    (λ l. is_false (a *ℤ pos n) (b *ℤ pos n) (scaled_le b a n l) ∙ sym (is_false a b l))
-    (cases_lt_ℤ a b)
-  where
-    turn : (a : ℤ) (n : ℕ) → a *ℤ pos n ≡ pos n *ℤ a
-    turn a n = ring (a ∷ pos n ∷ []) (at 0 ⊗ at 1) (at 1 ⊗ at 0) refl
-
-    is_true : (a b : ℤ) → a <ℤ b → int_lt a b ≡ true
-    is_true a b h = let e : true ≡ int_lt a b = omega (arith, ints) in sym e
-
-    is_false : (a b : ℤ) → b ≤ℤ a → int_lt a b ≡ false
-    is_false a b h = let e : false ≡ int_lt a b = omega (arith, ints) in sym e
-
-times : (t : Bool) (a b q : ℕ) → cond t (a * q) (b * q) ≡ cond t a b * q
-times true a b q = refl
-times false a b q = refl
-
-times_or_none : (t : Bool) (a q : ℕ) → cond t (a * q) 0 ≡ cond t a 0 * q
-times_or_none true a q = refl
-times_or_none false a q = omega arith
-
 test_eighths : (h : ℤ) (r : ℤ) (g : ℕ) → 0 < g → int_lt (h *ℤ pos ((2048 * g) * (2048 * g))) (r *ℤ pos (524288 * (g * g))) ≡ int_lt (pos 8 *ℤ h) r
 test_eighths h r g p = rw (eighths_of h g) (test_scaled (pos 8 *ℤ h) r (524288 * (g * g)) (mul-pos (omega arith) (mul-pos p p)))
 
@@ -110,16 +83,16 @@ test_square : (a b : ℤ) (g : ℕ) → 0 < g → int_lt (a *ℤ pos ((2048 * g)
 test_square a b g p = test_scaled a b ((2048 * g) * (2048 * g)) (let q : 0 < 2048 * g = omega arith in mul-pos q q)
 
 pub low_pull_over : (s : Search) → 0 < grain s → pull_at_low s ≡ low_pull s.demand s.area.own.least * unit s
-low_pull_over s p = ap (λ t. cond t (s.demand.pull * unit s) (s.demand.limit * unit s)) (test_square s.area.own.least s.demand.lo (grain s) p) ∙ times (int_lt s.area.own.least s.demand.lo) s.demand.pull s.demand.limit (unit s)
+low_pull_over s p = ap (λ t. cond t (s.demand.pull * unit s) (s.demand.limit * unit s)) (test_square s.area.own.least s.demand.lo (grain s) p) ∙ cond_times (int_lt s.area.own.least s.demand.lo) s.demand.pull s.demand.limit (unit s)
 
 pub low_hold_over : (s : Search) → 0 < grain s → hold_at_low s ≡ low_hold s.demand s.area.own.least * unit s
-low_hold_over s p = ap (λ t. cond t (s.demand.delay * unit s) 0) (test_square s.area.own.least s.demand.lo (grain s) p) ∙ times_or_none (int_lt s.area.own.least s.demand.lo) s.demand.delay (unit s)
+low_hold_over s p = ap (λ t. cond t (s.demand.delay * unit s) 0) (test_square s.area.own.least s.demand.lo (grain s) p) ∙ cond_none (int_lt s.area.own.least s.demand.lo) s.demand.delay (unit s)
 
 pub high_pull_over : (s : Search) (r : ℤ) → 0 < grain s → pull_at_high s (r *ℤ pos (rate_step s)) ≡ cond (int_lt (pos 8 *ℤ s.demand.hi) r) s.demand.pull s.demand.limit * unit s
-high_pull_over s r p = ap (λ t. cond t (s.demand.pull * unit s) (s.demand.limit * unit s)) (test_eighths s.demand.hi r (grain s) p) ∙ times (int_lt (pos 8 *ℤ s.demand.hi) r) s.demand.pull s.demand.limit (unit s)
+high_pull_over s r p = ap (λ t. cond t (s.demand.pull * unit s) (s.demand.limit * unit s)) (test_eighths s.demand.hi r (grain s) p) ∙ cond_times (int_lt (pos 8 *ℤ s.demand.hi) r) s.demand.pull s.demand.limit (unit s)
 
 pub high_hold_over : (s : Search) (r : ℤ) → 0 < grain s → hold_at_high s (r *ℤ pos (rate_step s)) ≡ cond (int_lt (pos 8 *ℤ s.demand.hi) r) s.demand.delay 0 * unit s
-high_hold_over s r p = ap (λ t. cond t (s.demand.delay * unit s) 0) (test_eighths s.demand.hi r (grain s) p) ∙ times_or_none (int_lt (pos 8 *ℤ s.demand.hi) r) s.demand.delay (unit s)
+high_hold_over s r p = ap (λ t. cond t (s.demand.delay * unit s) 0) (test_eighths s.demand.hi r (grain s) p) ∙ cond_none (int_lt (pos 8 *ℤ s.demand.hi) r) s.demand.delay (unit s)
 
 -- the same from the least rate of the box
 pub first_pull_over : (s : Search) → 0 < grain s → pull_at_high s (over_square s s.area.own.least) ≡ cond (int_lt (pos 8 *ℤ s.demand.hi) (pos 8 *ℤ s.area.own.least)) s.demand.pull s.demand.limit * unit s

@@ -2,9 +2,10 @@
 use Rattle.std.proofs.Common.{◌≡◌, ◌≢◌, ℕ, ◌-◌, ◌*◌, ◌<◌, ◌≤◌, ◌⊎◌, ⊎_elim, refl, ap, ap₂, sym, ◌∙◌, arith, true, false, cond, [], ◌∷◌, ℤ, pos, neg_ℤ, ◌-ℤ◌, ◌*ℤ◌, ◌≤ℤ◌, ◌<ℤ◌, unsigned_abs, int_le, mul-pos}
 use Rattle.std.proofs.lemmas.Int.{ints, unsigned_abs-mul}
 use Rattle.std.proofs.lemmas.Bool.{cases_lt}
-use Rattle.acas_flight.proofs.IntRing.{at, num, ◌⊖◌, ◌⊗◌, ring}
-use Rattle.acas_flight.proofs.Orders.{mul_le_left, mul_lt_left, le_from_mul_left, lt_from_mul_left}
+use Rattle.acas_frac.proofs.SignedProducts.{mul-le_ℤ, mul-lt_ℤ, le-from_mul_ℤ, lt-from_mul_ℤ}
+use Rattle.acas_flight.proofs.IntRing.{at, num, ◌⊖◌, ◌⊗◌, ring, mul_swapped_ℤ, zero-sub_ℤ}
 use Rattle.acas_flight.proofs.Scales.{cancel_left, pos_inj}
+use Rattle.acas_region.proofs.LeastGaps.{test_true, strictly}
 use Rattle.acas_frac.specs.Fraction.{Fraction, whole_of}
 use Rattle.acas_flight.specs.Values.{IsOver}
 use Rattle.acas_witness.specs.Bends.{IsBend, IsDifference}
@@ -22,25 +23,16 @@ module _ (n : ℕ) (i j : ℤ) (f g : Fraction) (p : 0 < n) (pf : 0 < f.den) (pg
       ∙ ring (j ∷ pos f.den ∷ pos g.den ∷ []) ((at 0 ⊗ at 2) ⊗ at 1) ((at 1 ⊗ at 2) ⊗ at 0) refl
 
   pub le_of : (f.num *ℤ pos g.den) ≤ℤ (g.num *ℤ pos f.den) → i ≤ℤ j
-  le_of h = le_from_mul_left (f.den * g.den) i j (mul-pos pf pg) (rw (← left, ← right) (mul_le_left n (f.num *ℤ pos g.den) (g.num *ℤ pos f.den) h))
+  le_of h = le-from_mul_ℤ (f.den * g.den) i j (mul-pos pf pg) (rw (← left, ← right) (mul-le_ℤ n (f.num *ℤ pos g.den) (g.num *ℤ pos f.den) h))
 
   pub lt_of : (g.num *ℤ pos f.den) <ℤ (f.num *ℤ pos g.den) → j <ℤ i
-  lt_of h = lt_from_mul_left (f.den * g.den) j i (rw (← left, ← right) (mul_lt_left n (g.num *ℤ pos f.den) (f.num *ℤ pos g.den) p h))
-
-pub test_le : (a b : ℤ) → int_le a b ≡ true → a ≤ℤ b
-test_le a b e = omega (arith, ints)
-
-pub test_gt : (a b : ℤ) → int_le a b ≡ false → b <ℤ a
-test_gt a b e = omega (arith, ints)
+  lt_of h = lt-from_mul_ℤ (f.den * g.den) j i (rw (← left, ← right) (mul-lt_ℤ n (g.num *ℤ pos f.den) (f.num *ℤ pos g.den) p h))
 
 is_le : (a b : ℤ) → a ≤ℤ b → int_le a b ≡ true
 is_le a b h = let e : true ≡ int_le a b = omega (arith, ints) in sym e
 
 is_gt : (a b : ℤ) → b <ℤ a → int_le a b ≡ false
 is_gt a b h = let e : false ≡ int_le a b = omega (arith, ints) in sym e
-
-pub le_ℕ : (i j : ℕ) → pos i ≤ℤ pos j → i ≤ j
-le_ℕ i j h = omega (arith, ints)
 
 pub lt_ℕ : (i j : ℕ) → pos i <ℤ pos j → i < j
 lt_ℕ i j h = omega (arith, ints)
@@ -130,24 +122,18 @@ finer f n m i o = ring (i ∷ pos m ∷ pos f.den ∷ []) ((at 0 ⊗ at 1) ⊗ a
 minus_over : (f r : Fraction) (n : ℕ) (i : ℤ) → 0 < f.den → IsOver n i f → r.num *ℤ pos f.den ≡ neg_ℤ f.num *ℤ pos r.den → IsOver n (neg_ℤ i) r
 minus_over f r n i p o e =
     cancel_left f.den (neg_ℤ i *ℤ pos r.den) (r.num *ℤ pos n) p
-    (rw (negative i) (one i f.den r.den) ∙ ap (λ z. (pos 0 -ℤ z) *ℤ pos r.den) o ∙ two f.num n r.den ∙ ap (λ z. z *ℤ pos n) (rw (← negative f.num) (sym e)) ∙ three r.num f.den n)
+    (rw (← zero-sub_ℤ i) (one i f.den r.den) ∙ ap (λ z. (pos 0 -ℤ z) *ℤ pos r.den) o ∙ two f.num n r.den ∙ ap (λ z. z *ℤ pos n) (rw (zero-sub_ℤ f.num) (sym e)) ∙ mul_swapped_ℤ r.num (pos f.den) (pos n))
   where
-    negative : (z : ℤ) → neg_ℤ z ≡ pos 0 -ℤ z
-    negative z = omega (arith, ints)
-
     one : (i : ℤ) (m d : ℕ) → pos m *ℤ ((pos 0 -ℤ i) *ℤ pos d) ≡ (pos 0 -ℤ (i *ℤ pos m)) *ℤ pos d
     one i m d = ring (i ∷ pos m ∷ pos d ∷ []) (at 1 ⊗ ((num (pos 0) ⊖ at 0) ⊗ at 2)) ((num (pos 0) ⊖ (at 0 ⊗ at 1)) ⊗ at 2) refl
 
     two : (a : ℤ) (n d : ℕ) → (pos 0 -ℤ (a *ℤ pos n)) *ℤ pos d ≡ ((pos 0 -ℤ a) *ℤ pos d) *ℤ pos n
     two a n d = ring (a ∷ pos n ∷ pos d ∷ []) ((num (pos 0) ⊖ (at 0 ⊗ at 1)) ⊗ at 2) (((num (pos 0) ⊖ at 0) ⊗ at 2) ⊗ at 1) refl
 
-    three : (r : ℤ) (m n : ℕ) → (r *ℤ pos m) *ℤ pos n ≡ pos m *ℤ (r *ℤ pos n)
-    three r m n = ring (r ∷ pos m ∷ pos n ∷ []) ((at 0 ⊗ at 1) ⊗ at 2) (at 1 ⊗ (at 0 ⊗ at 2)) refl
-
 pub up_over : (q : ℕ) (v k : ℤ) (b : ℕ) (f g p : Fraction) → 0 < q * q → 0 < f.den → 0 < g.den → IsOver (q * q) v f → IsOver (q * q) k g → IsOver q (pos b) p → int_le (f.num *ℤ pos g.den) (g.num *ℤ pos f.den) ≡ true →
     IsOver (q * (q * b)) (cond (int_le v k) (pos (b * (q * b))) (neg_ℤ (pos (b * (q * b))))) p
-up_over q v k b f g p sq pf pg ov ok op t = rw (is_le v k (le_of (q * q) v k f g sq pf pg ov ok (test_le _ _ t))) (finer p q (q * b) (pos b) op)
+up_over q v k b f g p sq pf pg ov ok op t = rw (is_le v k (le_of (q * q) v k f g sq pf pg ov ok (test_true _ _ t))) (finer p q (q * b) (pos b) op)
 
 pub down_over : (q : ℕ) (v k : ℤ) (b : ℕ) (f g p r : Fraction) → 0 < q * q → 0 < f.den → 0 < g.den → 0 < p.den → IsOver (q * q) v f → IsOver (q * q) k g → IsOver q (pos b) p → int_le (f.num *ℤ pos g.den) (g.num *ℤ pos f.den) ≡ false →
     r.num *ℤ pos p.den ≡ neg_ℤ p.num *ℤ pos r.den → IsOver (q * (q * b)) (cond (int_le v k) (pos (b * (q * b))) (neg_ℤ (pos (b * (q * b))))) r
-down_over q v k b f g p r sq pf pg pp ov ok op t e = rw (is_gt v k (lt_of (q * q) v k f g sq pf pg ov ok (test_gt _ _ t))) (minus_over p r (q * (q * b)) (pos (b * (q * b))) pp (finer p q (q * b) (pos b) op) e)
+down_over q v k b f g p r sq pf pg pp ov ok op t e = rw (is_gt v k (lt_of (q * q) v k f g sq pf pg ov ok (strictly _ _ t))) (minus_over p r (q * (q * b)) (pos (b * (q * b))) pp (finer p q (q * b) (pos b) op) e)

@@ -1,10 +1,11 @@
 use Rattle.acas_passes.specs.Flights.{value}
 use Rattle.acas_passes.specs.Search.{unit, low_flight, high_flight, at_low, at_high, between}
 use Rattle.acas_passes.proofs.Somes.{low_some, high_some}
+use Rattle.acas_passes.proofs.Ends.{below_or_not}
 use Rattle.acas_witness.specs.Surveys.{search_of}
 use Rattle.acas_witness.specs.Plans.{clearance_of}
 use Rattle.acas_witness.proofs.Chains.{search_fine}
-use Rattle.acas_witness.proofs.Meetings.{below_of, above_of, within_of, not_within_of}
+use Rattle.acas_witness.proofs.Meetings.{above_of, within_of, not_within_of}
 use Rattle.acas_witness.proofs.finding.meet.Goals as goal
 
 pub returns-then-is_in_contact-clause-found : goal.returns-then-is_in_contact-clause-found
@@ -30,7 +31,7 @@ returns-then-is_in_contact-2-clause-found c =
 pub through-requires-clause-first : goal.through-requires-clause-first
 through-requires-clause-first c =
     let s = search_of c.args.survey.now in
-    below_of c.args.survey.now.half (value (unit s) (low_flight s)) c.requires.low
+    below_or_not c.args.survey.now.half (value (unit s) (low_flight s)) c.requires.low
     (not_within_of c.args.survey.now.half (clearance_of c.low_outcome-lowest.result.climb c.low_outcome-lowest.result.intruder_end) (value (unit s) (low_flight s)) c.is_in_contact.result (low_some s (search_fine c.args.survey.now)) c.low_outcome-lowest.ensures.same c.is_in_contact.ensures c.if-is_in_contact.false)
 
 pub through-requires-clause-last : goal.through-requires-clause-last

@@ -1,5 +1,6 @@
 use Rattle.std.proofs.Common.{arith}
-use Rattle.acas_witness.proofs.Casts.{product128, product_size}
+use Rattle.acas_frac.proofs.Bounds.{product_size}
+use Rattle.acas_witness.proofs.Casts.{product128}
 use Rattle.acas_witness.proofs.numbers.common.Goals as goal
 
 pub returns-clause-value : goal.returns-clause-value

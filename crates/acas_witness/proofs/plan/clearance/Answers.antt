@@ -1,15 +1,7 @@
-use Rattle.std.proofs.Common.{◌≡◌, ◌∙◌, ap₂, ℕ, ◌≤◌, ℤ, pos, ◌-ℤ◌, ◌*ℤ◌, unsigned_abs, to_z, of_z, arith}
-use Rattle.std.specs.Int.{w128}
+use Rattle.std.proofs.Common.{◌∙◌, ap₂, ◌-ℤ◌, ◌*ℤ◌, arith}
 use Rattle.std.proofs.lemmas.Int.{ints}
-use Rattle.acas_witness.proofs.Casts.{difference128, whole128}
+use Rattle.acas_witness.proofs.Casts.{difference128, num_fits, den_fits}
 use Rattle.acas_witness.proofs.plan.clearance.Goals as goal
-
--- a part of a fraction fits
-num_fits : (z n : ℤ) → z ≡ n → unsigned_abs n ≤ 1000000000000000000000000 → to_z w128 (of_z w128 z) ≡ n
-num_fits z n e h = rw (← e) (whole128 z (rw e (omega arith)))
-
-den_fits : (z : ℤ) (d : ℕ) → z ≡ pos d → d ≤ 10000000000000 → to_z w128 (of_z w128 z) ≡ pos d
-den_fits z d e h = rw (← e) (whole128 z (rw e (omega arith)))
 
 pub returns-clause-value : goal.returns-clause-value
 returns-clause-value c =

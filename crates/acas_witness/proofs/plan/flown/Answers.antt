@@ -1,7 +1,8 @@
 use Rattle.std.proofs.Common.{◌≡◌, ◌≤◌, pos, ◌*ℤ◌, unsigned_abs, to_z, of_z, arith}
 use Rattle.std.specs.Int.{w64}
 use Rattle.std.proofs.lemmas.Int.{ints}
-use Rattle.acas_witness.proofs.Casts.{product_size, whole64}
+use Rattle.acas_frac.proofs.Bounds.{product_size}
+use Rattle.acas_witness.proofs.Casts.{whole64}
 use Rattle.acas_witness.proofs.plan.flown.Goals as goal
 
 pub returns-clause-size : goal.returns-clause-size

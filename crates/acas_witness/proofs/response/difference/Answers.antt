@@ -3,17 +3,11 @@ use Rattle.std.specs.Int.{w128}
 use Rattle.std.proofs.lemmas.Int.{ints}
 use Rattle.acas_frac.specs.Fraction.{Fraction, IsFrac, ReducesWithinBounds}
 use Rattle.acas_flight.specs.Values.{IsAtMost}
-use Rattle.acas_witness.proofs.Casts.{whole128, difference128}
+use Rattle.acas_witness.proofs.Casts.{difference128, num_fits, den_fits}
+use Rattle.acas_witness.proofs.Assembly.{from_none}
 use Rattle.acas_frac.proofs.Lowest.{ReducesWithinBounds-over}
 use Rattle.acas_flight.proofs.Rising.{scaled_le}
 use Rattle.acas_witness.proofs.response.difference.Goals as goal
-
--- a part of a fraction fits
-num_fits : (z n : ℤ) → z ≡ n → unsigned_abs n ≤ 1000000000000000000000000 → to_z w128 (of_z w128 z) ≡ n
-num_fits z n e h = rw (← e) (whole128 z (rw e (omega arith)))
-
-den_fits : (z : ℤ) (d : ℕ) → z ≡ pos d → d ≤ 10000000000000 → to_z w128 (of_z w128 z) ≡ pos d
-den_fits z d e h = rw (← e) (whole128 z (rw e (omega arith)))
 
 size : (a b : ℤ) (n : ℕ) → b ≤ℤ a → pos 0 ≤ℤ b → a ≤ℤ pos n → unsigned_abs (a -ℤ b) ≤ n
 size a b n h k l = omega (arith, ints)
@@ -23,11 +17,8 @@ small : (f g : Fraction) → f.den * g.den ≤ 10000000000000 → IsAtMost g f �
 small f g d o l m =
     let h = scaled_le f.num (pos (600 * f.den)) g.den m in
     let k = scaled_le (pos 0) g.num f.den l in
-    size (f.num *ℤ pos g.den) (g.num *ℤ pos f.den) 6000000000000000 o (zero (g.num *ℤ pos f.den) f.den k) (most (f.num *ℤ pos g.den) f.den g.den d h)
+    size (f.num *ℤ pos g.den) (g.num *ℤ pos f.den) 6000000000000000 o (from_none (g.num *ℤ pos f.den) f.den k) (most (f.num *ℤ pos g.den) f.den g.den d h)
   where
-    zero : (a : ℤ) (d : ℕ) → (pos 0 *ℤ pos d) ≤ℤ a → pos 0 ≤ℤ a
-    zero a d h = omega (arith, ints)
-
     most : (a : ℤ) (m n : ℕ) → m * n ≤ 10000000000000 → a ≤ℤ (pos (600 * m) *ℤ pos n) → a ≤ℤ pos 6000000000000000
     most a m n h k = let e : (600 * m) * n ≤ 6000000000000000 = omega arith in omega (arith, ints)
 

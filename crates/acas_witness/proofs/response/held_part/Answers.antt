@@ -2,7 +2,9 @@ use Rattle.std.proofs.Common.{◌≡◌, ◌∙◌, sym, ◌-◌, ◌≤◌, pos
 use Rattle.std.proofs.lemmas.Int.{ints}
 use Rattle.acas_frac.specs.Fraction.{Fraction}
 use Rattle.acas_flight.specs.Values.{IsAtMost}
-use Rattle.acas_witness.proofs.Portions.{le_of, lt_of, test_le, test_gt, le_ℕ, lt_ℕ, none_of, some_of, none_over, difference_over}
+use Rattle.acas_region.proofs.Ends.{le_pos}
+use Rattle.acas_region.proofs.LeastGaps.{test_true, strictly}
+use Rattle.acas_witness.proofs.Portions.{le_of, lt_of, lt_ℕ, none_of, some_of, none_over, difference_over}
 use Rattle.acas_witness.proofs.Assembly.{not_zero, hold_none, hold_some, difference_den, difference_least, difference_most}
 use Rattle.acas_witness.proofs.response.held_part.Goals as goal
 
@@ -58,15 +60,15 @@ returns-then-num-eq0-2-clause-den c = rw c.known-then-num-eq0-2.ensures.same (le
 
 pub returns-then-is_at_most-clause-parts : goal.returns-then-is_at_most-clause-parts
 returns-then-is_at_most-clause-parts c = λ n t g p ot og.
-    let l = le_ℕ t g (le_of n (pos t) (pos g) c.args.time.now c.args.hold.now p c.requires.time.some c.requires.hold.some ot og
-    (test_le (c.args.time.now.num *ℤ pos c.args.hold.now.den) (c.args.hold.now.num *ℤ pos c.args.time.now.den) (sym c.is_at_most.ensures ∙ c.if-is_at_most.true))) in
+    let l = le_pos t g (le_of n (pos t) (pos g) c.args.time.now c.args.hold.now p c.requires.time.some c.requires.hold.some ot og
+    (test_true (c.args.time.now.num *ℤ pos c.args.hold.now.den) (c.args.hold.now.num *ℤ pos c.args.time.now.den) (sym c.is_at_most.ensures ∙ c.if-is_at_most.true))) in
     let s : min t g ≡ t = omega arith in
     rw s (hold_some n t c.args.time.now (some_of n t c.args.time.now p ot (not_zero c.num-2.result c.args.time.now.num c.if-num-eq0-2.false c.num-2.ensures.value)) ot)
 
 pub returns-then-is_at_most-clause-rest : goal.returns-then-is_at_most-clause-rest
 returns-then-is_at_most-clause-rest c = λ n t g p ot og.
-    let l = le_ℕ t g (le_of n (pos t) (pos g) c.args.time.now c.args.hold.now p c.requires.time.some c.requires.hold.some ot og
-    (test_le (c.args.time.now.num *ℤ pos c.args.hold.now.den) (c.args.hold.now.num *ℤ pos c.args.time.now.den) (sym c.is_at_most.ensures ∙ c.if-is_at_most.true))) in
+    let l = le_pos t g (le_of n (pos t) (pos g) c.args.time.now c.args.hold.now p c.requires.time.some c.requires.hold.some ot og
+    (test_true (c.args.time.now.num *ℤ pos c.args.hold.now.den) (c.args.hold.now.num *ℤ pos c.args.time.now.den) (sym c.is_at_most.ensures ∙ c.if-is_at_most.true))) in
     let s : t - g ≡ 0 = omega arith in
     rw s (none_over n c.whole.result c.whole.ensures)
 
@@ -83,7 +85,7 @@ pub returns-then-is_at_most-clause-den : goal.returns-then-is_at_most-clause-den
 returns-then-is_at_most-clause-den c = rw c.whole.ensures (mul-pos c.requires.time.some c.requires.hold.some)
 
 later : (f g : Fraction) → int_le (f.num *ℤ pos g.den) (g.num *ℤ pos f.den) ≡ false → IsAtMost g f
-later f g e = let l = test_gt (f.num *ℤ pos g.den) (g.num *ℤ pos f.den) e in omega (arith, ints, l)
+later f g e = let l = strictly (f.num *ℤ pos g.den) (g.num *ℤ pos f.den) e in omega (arith, ints, l)
 
 pub difference-requires-clause-dens : goal.difference-requires-clause-dens
 difference-requires-clause-dens c = omega (arith, mul-le-mul c.requires.time.den c.requires.hold.den)
@@ -100,14 +102,14 @@ difference-requires-clause-most c = c.requires.time.greatest
 pub returns-clause-parts : goal.returns-clause-parts
 returns-clause-parts c = λ n t g p ot og.
     let l = lt_ℕ g t (lt_of n (pos t) (pos g) c.args.time.now c.args.hold.now p c.requires.time.some c.requires.hold.some ot og
-    (test_gt (c.args.time.now.num *ℤ pos c.args.hold.now.den) (c.args.hold.now.num *ℤ pos c.args.time.now.den) (sym c.is_at_most.ensures ∙ c.if-is_at_most.false))) in
+    (strictly (c.args.time.now.num *ℤ pos c.args.hold.now.den) (c.args.hold.now.num *ℤ pos c.args.time.now.den) (sym c.is_at_most.ensures ∙ c.if-is_at_most.false))) in
     let s : min t g ≡ g = omega arith in
     rw s (hold_some n g c.args.hold.now (some_of n g c.args.hold.now p og (not_zero c.num.result c.args.hold.now.num c.if-num-eq0.false c.num.ensures.value)) og)
 
 pub returns-clause-rest : goal.returns-clause-rest
 returns-clause-rest c = λ n t g p ot og.
     let l = lt_ℕ g t (lt_of n (pos t) (pos g) c.args.time.now c.args.hold.now p c.requires.time.some c.requires.hold.some ot og
-    (test_gt (c.args.time.now.num *ℤ pos c.args.hold.now.den) (c.args.hold.now.num *ℤ pos c.args.time.now.den) (sym c.is_at_most.ensures ∙ c.if-is_at_most.false))) in
+    (strictly (c.args.time.now.num *ℤ pos c.args.hold.now.den) (c.args.hold.now.num *ℤ pos c.args.time.now.den) (sym c.is_at_most.ensures ∙ c.if-is_at_most.false))) in
     difference_over c.args.time.now c.args.hold.now c.difference.result n t g c.requires.time.some c.requires.hold.some ot og (omega arith) c.difference.ensures.difference
 
 pub returns-clause-least : goal.returns-clause-least

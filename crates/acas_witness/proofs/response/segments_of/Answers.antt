@@ -1,6 +1,8 @@
 use Rattle.std.proofs.Common.{◌≡◌, ◌∙◌, sym, ◌*◌, pos, ◌-ℤ◌, ◌*ℤ◌, unsigned_abs, arith, mul-le-mul_left}
 use Rattle.std.proofs.lemmas.Int.{ints}
-use Rattle.acas_witness.proofs.Portions.{le_of, lt_of, test_le, test_gt, le_ℕ, lt_ℕ, none_of, some_of, bend_over, difference_over}
+use Rattle.acas_region.proofs.Ends.{le_pos}
+use Rattle.acas_region.proofs.LeastGaps.{test_true, strictly}
+use Rattle.acas_witness.proofs.Portions.{le_of, lt_of, lt_ℕ, none_of, some_of, bend_over, difference_over}
 use Rattle.acas_witness.proofs.Assembly.{fine_some, not_zero, without, level_only, before_bend, past_bend, pull_some, bend_den, bend_least}
 use Rattle.acas_witness.proofs.response.segments_of.Goals as goal
 
@@ -26,8 +28,8 @@ returns-then-is_at_most c = λ q v k b t p ov ok op ot.
     before_bend q v k b t c.args.time.now c.toward-acceleration.result
     (some_of (q * (q * b)) t c.args.time.now f ot (not_zero c.num.result c.args.time.now.num c.if-num-eq0.false c.num.ensures.value))
     (some_of (q * (q * b)) (unsigned_abs (k -ℤ v) * q) c.bend_of-bend.result f ob (not_zero c.num-2.result c.bend_of-bend.result.num c.if-num-eq0-2.false c.num-2.ensures.value))
-    (le_ℕ t (unsigned_abs (k -ℤ v) * q) (le_of (q * (q * b)) (pos t) (pos (unsigned_abs (k -ℤ v) * q)) c.args.time.now c.bend_of-bend.result f c.requires.some c.bend_of-bend.ensures.lowest.some ot ob
-    (test_le (c.args.time.now.num *ℤ pos c.bend_of-bend.result.den) (c.bend_of-bend.result.num *ℤ pos c.args.time.now.den) (sym c.is_at_most.ensures ∙ c.if-is_at_most.true))))
+    (le_pos t (unsigned_abs (k -ℤ v) * q) (le_of (q * (q * b)) (pos t) (pos (unsigned_abs (k -ℤ v) * q)) c.args.time.now c.bend_of-bend.result f c.requires.some c.bend_of-bend.ensures.lowest.some ot ob
+    (test_true (c.args.time.now.num *ℤ pos c.bend_of-bend.result.den) (c.bend_of-bend.result.num *ℤ pos c.args.time.now.den) (sym c.is_at_most.ensures ∙ c.if-is_at_most.true))))
     ot (c.toward-acceleration.ensures q v k b p ov ok op)
 
 pub difference-requires-clause-dens : goal.difference-requires-clause-dens
@@ -38,7 +40,7 @@ difference-requires-clause-dens c =
 
 pub difference-requires-clause-order : goal.difference-requires-clause-order
 difference-requires-clause-order c =
-    let l = test_gt (c.args.time.now.num *ℤ pos c.bend_of-bend.result.den) (c.bend_of-bend.result.num *ℤ pos c.args.time.now.den) (sym c.is_at_most.ensures ∙ c.if-is_at_most.false) in
+    let l = strictly (c.args.time.now.num *ℤ pos c.bend_of-bend.result.den) (c.bend_of-bend.result.num *ℤ pos c.args.time.now.den) (sym c.is_at_most.ensures ∙ c.if-is_at_most.false) in
     omega (arith, ints, l)
 
 pub difference-requires-clause-least : goal.difference-requires-clause-least
@@ -53,7 +55,7 @@ returns c = λ q v k b t p ov ok op ot.
     let f = fine_some q b c.args.pull.now c.requires.pull p op in
     let ob = bend_over c.args.rate.now c.args.aim.now c.args.pull.now c.bend_of-bend.result q v k b c.requires.rate.some c.requires.aim.some c.requires.pull.some s.1 ov ok op c.bend_of-bend.ensures.bend in
     let l = lt_ℕ (unsigned_abs (k -ℤ v) * q) t (lt_of (q * (q * b)) (pos t) (pos (unsigned_abs (k -ℤ v) * q)) c.args.time.now c.bend_of-bend.result f c.requires.some c.bend_of-bend.ensures.lowest.some ot ob
-    (test_gt (c.args.time.now.num *ℤ pos c.bend_of-bend.result.den) (c.bend_of-bend.result.num *ℤ pos c.args.time.now.den) (sym c.is_at_most.ensures ∙ c.if-is_at_most.false))) in
+    (strictly (c.args.time.now.num *ℤ pos c.bend_of-bend.result.den) (c.bend_of-bend.result.num *ℤ pos c.args.time.now.den) (sym c.is_at_most.ensures ∙ c.if-is_at_most.false))) in
     past_bend q v k b t c.bend_of-bend.result c.toward-acceleration.result c.difference.result c.whole-2.result
     (some_of (q * (q * b)) (unsigned_abs (k -ℤ v) * q) c.bend_of-bend.result f ob (not_zero c.num-2.result c.bend_of-bend.result.num c.if-num-eq0-2.false c.num-2.ensures.value))
     l ob (c.toward-acceleration.ensures q v k b p ov ok op)

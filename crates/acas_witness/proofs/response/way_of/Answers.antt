@@ -1,7 +1,8 @@
 use Rattle.std.proofs.Common.{◌≡◌, ℕ, ◌≤◌, ℤ, pos, ◌-ℤ◌, ◌*ℤ◌, unsigned_abs, to_z, of_z, arith}
 use Rattle.std.specs.Int.{w64}
 use Rattle.std.proofs.lemmas.Int.{ints}
-use Rattle.acas_witness.proofs.Casts.{product_size, whole64}
+use Rattle.acas_frac.proofs.Bounds.{product_size}
+use Rattle.acas_witness.proofs.Casts.{whole64}
 use Rattle.acas_witness.proofs.response.way_of.Goals as goal
 
 product : (a : ℤ) (n : ℕ) → unsigned_abs a ≤ 80000 → n ≤ 8 → (to_z w64 (of_z w64 (to_z w64 (of_z w64 a) *ℤ to_z w64 n)) ≡ a *ℤ pos n) × (unsigned_abs (a *ℤ pos n) ≤ 640000)
