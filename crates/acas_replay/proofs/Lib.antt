@@ -1,0 +1,9 @@
+pub mod Casts
+pub mod Bounds
+pub mod Layers
+pub mod Nearest
+pub mod Issued
+pub mod Courses
+pub mod Texts
+pub mod Audits
+pub mod Contacts

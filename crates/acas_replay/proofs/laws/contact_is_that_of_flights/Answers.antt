@@ -1,0 +1,5 @@
+use Rattle.acas_replay.proofs.Contacts.{of_flights}
+use Rattle.acas_replay.proofs.laws.contact_is_that_of_flights.Goals as goal
+
+pub returns : goal.returns
+returns c = of_flights

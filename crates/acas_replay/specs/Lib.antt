@@ -1,0 +1,5 @@
+pub mod States
+pub mod Issue
+pub mod Replay
+pub mod Audited
+pub mod Flown

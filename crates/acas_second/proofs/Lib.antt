@@ -1,0 +1,5 @@
+pub mod Signs
+pub mod Parabolas
+pub mod Crossings
+pub mod Contacts
+pub mod Casts

@@ -1,0 +1,112 @@
+//! A model, the advices of a table and an encounter, each from a few words.
+ghost use Rattle.std.specs.Prelude.{IfSome};
+ghost use Rattle.acas_base.specs.Advices.{AreAdvicesOf};
+ghost use Rattle.acas_encounter.specs.Encounter.{IsEncounterOf};
+
+use acas_base::{Advices, Model};
+use acas_encounter::{Encounter, read_encounter};
+use acas_model::read_model;
+use std::alloc::Global;
+
+// Two altitudes, two own rates and two of the intruder, and three advisories.
+const REST: &str = r#"
+[grid]
+altitude = [-1000, -170]
+own_rate = [0, 60]
+intruder_rate = [-60, 0]
+[closing]
+least = 500
+greatest = 500
+[pilot]
+pull = 480
+limit = 960
+[cost]
+contact = 5
+[[advisory]]
+name = "clear"
+lo = -10000
+hi = 10000
+choices = ["clear", "climb", "descend"]
+costs = [0, 0, 0]
+[[advisory]]
+name = "climb"
+lo = 1500
+hi = 10000
+choices = ["clear", "climb", "descend"]
+costs = [0, 0, 0]
+[[advisory]]
+name = "descend"
+lo = -10000
+hi = -1500
+choices = ["clear", "climb", "descend"]
+costs = [0, 0, 0]
+[[sigma]]
+weight = 1
+own = 0
+intruder = 0
+"#;
+
+/// A model of a horizon and half a height in ft, in this order. The radius of its puck is 500 ft.
+pub fn model_of(alloc: Global, words: &str) -> Option<Model> {
+    let (horizon, half) = words.split_once(' ')?;
+    let text = format!(in alloc;
+        "version = 1\nhorizon = {horizon}\npuck = {{ radius = 500, half_height = {half} }}\n{REST}"
+    ).ok()?;
+    read_model(alloc, text.as_bytes()).ok()
+}
+
+// Keeps the advice at a place of a table's advices, one layer after the other.
+fn keep(model: &Model, advices: &mut Advices, place: u32, advice: u8) -> Option<()>
+    requires { AreAdvicesOf model.now advices.old }
+    ensures { AreAdvicesOf model.now advices.new }
+{
+    let grid = model.grid();
+    let states = grid.states();
+    if states == 0 || grid.horizon <= place / states || grid.advisories <= u32::from(advice) {
+        return None;
+    }
+    advices.set(place / states + 1, place % states, advice);
+    Some(())
+}
+
+/// The advices of a table from layer 1 on, each by its digit: clear, climb, descend. The states are in the order of their numbers.
+pub fn advices_of(alloc: Global, model: &Model, digits: &str) -> Option<Advices>
+    ensures { IfSome result (AreAdvicesOf model.now) }
+{
+    let Ok(mut advices) = Advices::new(alloc, model) else {
+        return None;
+    };
+    let mut place = 0u32;
+    for digit in digits.as_bytes() {
+        keep(model, &mut advices, place, digit.checked_sub(b'0')?)?;
+        place = place.checked_add(1)?;
+    }
+    Some(advices)
+}
+
+/// An encounter: its start by the name of the present advisory, the range, the closing speed, the altitude in ft, the own and the
+/// intruder's rate; and the items of both lists.
+pub fn encounter_of(
+    alloc: Global,
+    model: &Model,
+    start: &str,
+    own: &str,
+    intruder: &str,
+) -> Option<Encounter>
+    ensures { IfSome result (IsEncounterOf model.now) }
+{
+    let mut words = start.split_whitespace();
+    let advisory = words.next()?;
+    let mut text = format!(in alloc;
+        "version = 1\nadvisory = \"{advisory}\"\nown_accel = [{own}]\nintruder_accel = [{intruder}]\n"
+    ).ok()?;
+    for key in ["range", "closing", "altitude", "own", "intruder"] {
+        let value = words.next()?;
+        let line = format!(in alloc; "{key} = {value}\n").ok()?;
+        text.push_str(line.as_str()).ok()?;
+    }
+    match read_encounter(alloc, model, text.as_bytes()) {
+        Ok(encounter) => Some(encounter),
+        Err(_) => None,
+    }
+}
