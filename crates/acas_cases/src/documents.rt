@@ -30,7 +30,8 @@ rows = [
   ["version = 1", "\"a\\nb\" = 1\nversion = 1", "key a\nb unknown"],
   ["version = 1", "\"\" = 1\nversion = 2", "key  unknown"],
   ["version = 1\n", "", "key version missing"],
-  ["version = 1", "version = 2", "key version value 2 outside 1 to 1"],
+  ["version = 1", "version = 3", "key version value 3 outside 1 to 2"],
+  ["version = 1", "version = 2", "key pilot.delay missing"],
   ["version = 1", 'version = "1"', "key version wrong kind"],
   ["version = 1", "version = 1.0", "key version wrong kind"],
   ["version = 1", "version = true", "key version wrong kind"],
@@ -39,7 +40,7 @@ rows = [
   ["horizon = 0", "horizon = -1", "key horizon value -1 outside 0 to 120"],
   ["horizon = 0", "horizon = -9223372036854775808", "key horizon value -9223372036854775808 outside 0 to 120"],
   ["horizon = 0", "horizon = 1979-05-27", "key horizon wrong kind"],
-  ["version = 1\nhorizon = 0", "version = 0\nhorizon = 121", "key version value 0 outside 1 to 1"],
+  ["version = 1\nhorizon = 0", "version = 0\nhorizon = 121", "key version value 0 outside 1 to 2"],
 ]
 runs = ["acas values a"]
 ends = ["4 model"]

@@ -45,13 +45,19 @@
 #[cfg(test)]
 mod advisories;
 #[cfg(test)]
+mod audits;
+#[cfg(test)]
 mod bounds;
+#[cfg(test)]
+mod boxes;
 #[cfg(test)]
 mod cases;
 #[cfg(test)]
 mod changed_bits;
 #[cfg(test)]
 mod documents;
+#[cfg(test)]
+mod drills;
 #[cfg(test)]
 mod each_call;
 #[cfg(test)]
@@ -70,6 +76,8 @@ mod models;
 mod numbers;
 #[cfg(test)]
 mod outside;
+#[cfg(test)]
+mod replays;
 #[cfg(test)]
 mod report;
 #[cfg(test)]

@@ -22,6 +22,7 @@ rows = [
   ["greatest = 500", "greatest = 499", "key closing.greatest value 499 outside 500 to 5000"],
   ["greatest = 500", "greatest = 5001", "key closing.greatest value 5001 outside 500 to 5000"],
   ["[pilot]\npull = 480\nlimit = 960\n", "", "key pilot missing"],
+  ["limit = 960\n", "limit = 960\ndelay = 5\n", "key pilot.delay unknown"],
   ["[pilot]\n", "[pilot]\ndelay = 0\n", "key pilot.delay unknown"],
   ["pull = 480", "pull = 0", "key pilot.pull value 0 outside 1 to 2000"],
   ["pull = 480", "pull = 2001", "key pilot.pull value 2001 outside 1 to 2000"],
@@ -76,6 +77,18 @@ files = [[
 runs = ["acas check a none"]
 ends = ["3 absent table"]
 error = "acas: absent: none\n"
+
+[[cases]]
+name = "delays in version 2"
+files = [["a", "model a", "replace version = 1 => version = 2", "replace limit = 960 => limit = 960\ndelay = $1"]]
+rows = [
+  ["0", "3 absent table", "acas: absent: none\n"],
+  ["10", "3 absent table", "acas: absent: none\n"],
+  ["11", "4 model", "acas: model refused: key pilot.delay value 11 outside 0 to 10\n"],
+]
+runs = ["acas check a none"]
+ends = ["$2"]
+error = "$3"
 
 # 20 altitudes, 20 own rates, 50 intruder rates, two advisories.
 [[cases]]

@@ -104,15 +104,21 @@ fn numbers_of(alloc: Global, failing: &[String], kind: &str) -> Result<Vec<u64>,
 fn end_text(alloc: Global, status: &Status) -> Result<String, AllocError> {
     let cause = match &status.cause {
         Cause::Done => "done",
+        Cause::Reported => "reported",
         Cause::Words => "words",
         Cause::Absent(FileRole::Model) => "absent model",
         Cause::Absent(FileRole::Table) => "absent table",
+        Cause::Absent(FileRole::Boxes) => "absent boxes",
+        Cause::Absent(FileRole::Encounter) => "absent encounter",
         Cause::Model(_) => "model",
         Cause::Table(_) => "table",
+        Cause::Input(_) => "input",
         Cause::Folder => "folder",
         Cause::Output => "output",
         Cause::TooLong(FileRole::Model) => "too long model",
         Cause::TooLong(FileRole::Table) => "too long table",
+        Cause::TooLong(FileRole::Boxes) => "too long boxes",
+        Cause::TooLong(FileRole::Encounter) => "too long encounter",
         Cause::Memory => "memory",
     };
     format!(in alloc; "{} {cause}", status.code)

@@ -3,11 +3,11 @@ use crate::runner::differences;
 use std::test::Fail;
 
 const CASES: &str = r##"
-# The first model's own text, whatever a call gives and takes, and the same model in other words.
+# The first model's own text, whatever a call gives and takes, that model in version 2, and the same model in other words.
 [[cases]]
 name = "the lines of a model"
-files = [["a", "model a"]]
-rows = [["4096"], ["1"]]
+files = [["a", "model a", "replace version = 1 => version = $2", "replace limit = 960 => limit = $3"]]
+rows = [["4096", "1", "960"], ["1", "1", "960"], ["4096", "2", "960\ndelay = 7"]]
 most = "$1"
 runs = ["acas values a"]
 ends = ["0 done"]

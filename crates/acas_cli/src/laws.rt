@@ -1,4 +1,4 @@
-//! A law of two runs. The function does nothing: its clause is the law.
+//! Laws of two runs. The functions do nothing: their clauses are the laws.
 ghost use Rattle.std.specs.Prelude.{◌≡◌, ◌≢◌, ℕ, List, Some};
 ghost use Rattle.acas_outside.specs.Files.{Files};
 ghost use Rattle.acas_outside.specs.Outside.{Outside};
@@ -6,7 +6,8 @@ ghost use Rattle.acas_command.specs.Worth.{IsNotRefused};
 ghost use Rattle.acas_command.specs.declared.status.Cause.{Cause};
 ghost use Rattle.acas_command.specs.declared.status.Cause.TheVariants.{Done};
 ghost use Rattle.acas_cli.specs.Headline.{Headline};
-ghost use Rattle.acas_cli.specs.Words.{Check, Compile};
+ghost use Rattle.acas_report.specs.declared.counts.Which.{Which};
+ghost use Rattle.acas_cli.specs.Words.{Audit, Check, Compile};
 
 /// A table that a run of `compile` has stored under another name, in a folder that tells its files, is accepted by a run of `check`
 /// over the same files: that run is not refused.
@@ -14,4 +15,11 @@ pub fn stored_tables_are_accepted()
     ensures { (model table : List ℕ) (files : Files) (cause : Cause) (before between again after : Outside)
         → model ≢ table → before.holds ≡ Some files → Headline (Some (Compile model table)) Done before between
         → again.holds ≡ between.holds → Headline (Some (Check model table)) cause again after → IsNotRefused cause again after }
+{}
+
+/// A table that a run of `check` has accepted is audited by a run of `audit` over the same files: that run is not refused.
+pub fn accepted_tables_are_audited()
+    ensures { (model table : List ℕ) (which : Which) (files : Files) (cause : Cause) (before between again after : Outside)
+        → before.holds ≡ Some files → Headline (Some (Check model table)) Done before between
+        → again.holds ≡ Some files → Headline (Some (Audit model table which)) cause again after → IsNotRefused cause again after }
 {}

@@ -7,6 +7,6 @@ mod words;
 
 pub use acas_accept::{AcceptFault, accept};
 pub use acas_command::{Cause, FileRole, Status, TableRefusal, Work};
-pub use laws::stored_tables_are_accepted;
+pub use laws::{accepted_tables_are_audited, stored_tables_are_accepted};
 pub use top_call::run;
 pub use words::{Command, command_of};

@@ -2,16 +2,21 @@
 ghost use Rattle.std.specs.Prelude.{◌≡◌, ◌↔◌, ◌≤◌, IsTrue, IfSome, All, None, map, string_bytes};
 ghost use Rattle.acas_outside.specs.Frame.{ReadsAndWrites};
 ghost use Rattle.acas_outside.specs.Outside.{outside};
-ghost use Rattle.acas_command.specs.Answers.{Answers, ended};
+ghost use Rattle.acas_command.specs.Answers.{Answers};
 ghost use Rattle.acas_command.specs.Codes.{code_of};
 ghost use Rattle.acas_command.specs.ErrorLine.{Reports};
 ghost use Rattle.acas_cli.specs.Calls.{AnswersForm, CallsFor};
-ghost use Rattle.acas_cli.specs.Forms.{form_of_command};
+ghost use Rattle.acas_cli.specs.Forms.{HasNumber, form_of_command};
 ghost use Rattle.acas_cli.specs.Headline.{Headline, IsWorth};
 ghost use Rattle.acas_cli.specs.Words.{form_of, names_of};
 
 use crate::words::{Command, command_of};
-use acas_command::{Cause, Status, Work, cause_of, report, report_memory, report_words};
+use acas_audit_commands::{audit, regions};
+use acas_command::{
+    Cause, Status, Work, cause_of, cause_of_report, report, report_memory, report_words,
+};
+use acas_drill::drill;
+use acas_encounter_commands::replay;
 use acas_outside::{Folder, Sink};
 use acas_table_commands::{check, compile, values};
 use acas_units::Line;
@@ -97,6 +102,7 @@ fn answer<F: Folder, O: Sink>(
     out: &mut O,
 ) -> Cause
     requires served { All (λ name. IsTrue (F.serves folder.old name)) (names_of (form_of_command command.now)) }
+    requires number { HasNumber (form_of_command command.now) }
     ensures answers { Answers (CallsFor (form_of_command command.now)) result
         (outside F.Folder O.Sink folder.old out.old) (outside F.Folder O.Sink folder.new out.new) }
     ensures headline { IfSome (F.holds folder.old) (λ files. IsWorth (form_of_command command.now) files result
@@ -108,5 +114,19 @@ fn answer<F: Folder, O: Sink>(
         Command::Values { model } => cause_of(values(alloc, model, folder, out)),
         Command::Compile { model, table } => cause_of(compile(alloc, model, table, folder, out)),
         Command::Check { model, table } => cause_of(check(alloc, model, table, folder, out)),
+        Command::Audit {
+            model,
+            table,
+            which,
+        } => cause_of_report(audit(alloc, model, table, *which, folder, out)),
+        Command::Regions { model, boxes } => cause_of_report(regions(
+            alloc, model, boxes, folder, out,
+        )),
+        Command::Replay {
+            model,
+            table,
+            encounter,
+        } => cause_of(replay(alloc, model, table, encounter, folder, out)),
+        Command::Drill { number } => cause_of_report(drill(alloc, *number, out)),
     }
 }

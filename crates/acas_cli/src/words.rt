@@ -1,19 +1,50 @@
 //! The forms of words.
-ghost use Rattle.std.specs.Prelude.{◌≡◌, map, string_bytes};
+ghost use Rattle.std.specs.Prelude.{◌≡◌, ◌∷◌, [], map, string_bytes};
 ghost use Rattle.acas_cli.specs.Forms.{HasForm};
 ghost use Rattle.acas_cli.specs.Words.{are_apart, are_file_names, form_of, is_file_name};
 
+use acas_audit_commands::Which;
+use acas_drill::drill_number;
 use acas_units::FILE_NAME_BYTES;
 
-/// A command, with the names of its files.
+/// A command, with the names of its files, which lines an audit prints, and the number of a drill.
 #[derive(Clone, Copy, Debug)]
 pub enum Command<'w> {
     /// `values M`: print the table of a model.
-    Values { model: &'w str },
+    Values {
+        model: &'w str,
+    },
     /// `compile M T`: store the compiled table of a model.
-    Compile { model: &'w str, table: &'w str },
+    Compile {
+        model: &'w str,
+        table: &'w str,
+    },
     /// `check M T`: check a table of a model.
-    Check { model: &'w str, table: &'w str },
+    Check {
+        model: &'w str,
+        table: &'w str,
+    },
+    /// `audit M T`, and with `--reported` behind it: rule on each advisory cell of a table.
+    Audit {
+        model: &'w str,
+        table: &'w str,
+        which: Which,
+    },
+    /// `regions M B`: rule on each box of a file.
+    Regions {
+        model: &'w str,
+        boxes: &'w str,
+    },
+    /// `replay M T E`: fly an encounter under the advice of a table.
+    Replay {
+        model: &'w str,
+        table: &'w str,
+        encounter: &'w str,
+    },
+    /// `drill K`: compile, accept and audit the model of a number.
+    Drill {
+        number: u32,
+    },
 }
 
 /// The command of the words after the program's name, or None where they are no form. It takes no memory.
@@ -21,26 +52,86 @@ pub fn command_of(words: &[String]) -> Option<Command<'_>>
     ensures { HasForm result (form_of (map string_bytes words.now)) }
 {
     match words {
-        [verb, model] if verb.as_str() == "values" && is_file_name(model.as_str()) => {
-            Some(Command::Values {
-                model: model.as_str(),
-            })
-        }
-        [verb, model, table]
-            if verb.as_str() == "compile" && are_apart(model.as_str(), table.as_str()) => {
-            Some(Command::Compile {
-                model: model.as_str(),
-                table: table.as_str(),
-            })
-        }
-        [verb, model, table]
-            if verb.as_str() == "check" && are_file_names(model.as_str(), table.as_str()) => {
-            Some(Command::Check {
-                model: model.as_str(),
-                table: table.as_str(),
-            })
+        [verb, word] => of_two_words(verb.as_str(), word.as_str()),
+        [verb, model, second] => of_three_words(verb.as_str(), model.as_str(), second.as_str()),
+        [verb, model, table, third] => {
+            of_four_words(
+                verb.as_str(),
+                model.as_str(),
+                table.as_str(),
+                third.as_str(),
+            )
         }
         _ => None,
+    }
+}
+
+fn of_two_words<'w>(verb: &str, word: &'w str) -> Option<Command<'w>>
+    ensures { HasForm result (form_of (verb.now ∷ word.now ∷ [])) }
+{
+    if verb == "values" && is_file_name(word) {
+        return Some(Command::Values { model: word });
+    }
+    if verb != "drill" {
+        return None;
+    }
+    match drill_number(word) {
+        Some(number) => Some(Command::Drill { number }),
+        None => None,
+    }
+}
+
+fn of_three_words<'w>(verb: &str, model: &'w str, second: &'w str) -> Option<Command<'w>>
+    ensures { HasForm result (form_of (verb.now ∷ model.now ∷ second.now ∷ [])) }
+{
+    if verb == "compile" && are_apart(model, second) {
+        Some(Command::Compile {
+            model,
+            table: second,
+        })
+    } else if verb == "check" && are_file_names(model, second) {
+        Some(Command::Check {
+            model,
+            table: second,
+        })
+    } else if verb == "audit" && are_file_names(model, second) {
+        Some(Command::Audit {
+            model,
+            table: second,
+            which: Which::All,
+        })
+    } else if verb == "regions" && are_file_names(model, second) {
+        Some(Command::Regions {
+            model,
+            boxes: second,
+        })
+    } else {
+        None
+    }
+}
+
+fn of_four_words<'w>(
+    verb: &str,
+    model: &'w str,
+    table: &'w str,
+    third: &'w str,
+) -> Option<Command<'w>>
+    ensures { HasForm result (form_of (verb.now ∷ model.now ∷ table.now ∷ third.now ∷ [])) }
+{
+    if verb == "audit" && are_file_names(model, table) && third == "--reported" {
+        Some(Command::Audit {
+            model,
+            table,
+            which: Which::Reported,
+        })
+    } else if verb == "replay" && are_file_names(model, table) && is_file_name(third) {
+        Some(Command::Replay {
+            model,
+            table,
+            encounter: third,
+        })
+    } else {
+        None
     }
 }
 

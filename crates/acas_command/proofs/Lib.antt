@@ -1,5 +1,9 @@
 mod Digits
 mod Lines
+pub mod Printing
 pub mod Behind
 pub mod Files
 pub mod Refused
+pub mod Says
+pub mod Reports
+pub mod Inputs

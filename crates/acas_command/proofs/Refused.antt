@@ -1,5 +1,5 @@
 -- What the files hold where a command was not to be refused by them, and a command that was to be refused by nothing.
-use Rattle.std.proofs.Common.{◌≡◌, ℕ, ◌≤◌, List, length, Bool, true, false, cond, nat_lt, Option, None, Some, Result, Ok, Err, refl, sym, ap, subst, ◌∙◌}
+use Rattle.std.proofs.Common.{◌≡◌, ℕ, ◌≤◌, List, length, Bool, true, false, cond, nat_lt, Option, None, Some, Result, Ok, Err, refl, ap, subst, ◌∙◌}
 use Rattle.std.proofs.lemmas.Bool.{le-ltb, ltb-false}
 use Rattle.sha2.specs.Sha256.{sha256}
 use Rattle.acas_units.specs.declared.limits.TheConstants.{TEXT_BYTES}
@@ -8,21 +8,24 @@ use Rattle.acas_model.specs.Whole.{model_of}
 use Rattle.acas_model.specs.declared.fault.ModelFault.{ModelFault}
 use Rattle.acas_outside.specs.Files.{Files}
 use Rattle.acas_outside.specs.Outside.{Outside}
-use Rattle.acas_command.specs.Answers.{Agrees, HasCause, MayPrint}
+use Rattle.acas_command.specs.Answers.{Agrees, HasCause}
+use Rattle.acas_command.specs.Called.{Called, MayPrint}
 use Rattle.acas_command.specs.Calls.{with_model, with_reading}
 use Rattle.acas_command.specs.Outcome.{Outcome, refuses}
 use Rattle.acas_command.specs.Worth.{IsNotRefused}
 use Rattle.acas_command.specs.declared.status.Cause.{Cause}
-use Rattle.acas_command.specs.declared.status.Cause.TheVariants.{Done, Words, Absent, Model, Table, Folder, Output, TooLong, Memory}
+use Rattle.acas_command.specs.declared.status.Cause.TheVariants.{Done, Reported, Words, Absent, Model, Table, Input, Folder, Output, TooLong, Memory}
 use Rattle.acas_command.specs.declared.status.FileRole.TheVariants.{Model as ModelFile}
 
 -- a cause that no file's absence, length or text gives
 abbrev pub IsNoFileCause : Cause → Type 0
 IsNoFileCause Done = Unit {0}
+IsNoFileCause Reported = Unit {0}
 IsNoFileCause Words = Unit {0}
 IsNoFileCause (Absent role) = ⊥
 IsNoFileCause (Model fault) = ⊥
 IsNoFileCause (Table refusal) = Unit {0}
+IsNoFileCause (Input fault) = Unit {0}
 IsNoFileCause Folder = Unit {0}
 IsNoFileCause Output = Unit {0}
 IsNoFileCause (TooLong role) = ⊥
@@ -30,10 +33,12 @@ IsNoFileCause Memory = Unit {0}
 
 pub no_file_cause-may_print : (cause : Cause) → MayPrint cause → IsNoFileCause cause
 no_file_cause-may_print Done h = tt
+no_file_cause-may_print Reported h = tt
 no_file_cause-may_print Words h = tt
 no_file_cause-may_print (Absent role) h = h
 no_file_cause-may_print (Model fault) h = h
 no_file_cause-may_print (Table refusal) h = tt
+no_file_cause-may_print (Input fault) h = tt
 no_file_cause-may_print Folder h = tt
 no_file_cause-may_print Output h = tt
 no_file_cause-may_print (TooLong role) h = h
@@ -78,14 +83,16 @@ pub with_model-read : (bytes : List ℕ) (m : ModelData) (rest : List ℕ → Mo
 with_model-read bytes m rest short read = rw (le-ltb TEXT_BYTES (length bytes) short, read) refl
 
 -- a command that is to be refused by nothing is not refused
-pub not_refused : (Called : Outcome → Type 0) (files : Files) (cause : Cause) (before after : Outside) → ((o : Outcome) → Called o → MayPrint o.cause)
-    → HasCause cause before after → Agrees Called files cause before after → IsNotRefused cause before after
-not_refused Called files Done before after prints h a = tt
-not_refused Called files Words before after prints h a = h
-not_refused Called files (Absent role) before after prints h a = subst MayPrint a.refused (prints a.outcome a.called)
-not_refused Called files (Model fault) before after prints h a = subst MayPrint a.refused (prints a.outcome a.called)
-not_refused Called files (Table refusal) before after prints h a = subst MayPrint a.refused (prints a.outcome a.called)
-not_refused Called files Folder before after prints h a = h
-not_refused Called files Output before after prints h a = h
-not_refused Called files (TooLong role) before after prints h a = subst MayPrint a.refused (prints a.outcome a.called)
-not_refused Called files Memory before after prints h a = tt
+pub not_refused : (called : Called) (files : Files) (cause : Cause) (before after : Outside) → ((o : Outcome) → called.ends files o → MayPrint o.cause)
+    → HasCause cause before after → Agrees called files cause before after → IsNotRefused cause before after
+not_refused called files Done before after prints h a = tt
+not_refused called files Reported before after prints h a = tt
+not_refused called files Words before after prints h a = h
+not_refused called files (Absent role) before after prints h a = subst MayPrint a.refused (prints a.outcome a.may)
+not_refused called files (Model fault) before after prints h a = subst MayPrint a.refused (prints a.outcome a.may)
+not_refused called files (Table refusal) before after prints h a = subst MayPrint a.refused (prints a.outcome a.may)
+not_refused called files (Input fault) before after prints h a = subst MayPrint a.refused (prints a.outcome a.may)
+not_refused called files Folder before after prints h a = h
+not_refused called files Output before after prints h a = h
+not_refused called files (TooLong role) before after prints h a = subst MayPrint a.refused (prints a.outcome a.may)
+not_refused called files Memory before after prints h a = tt

@@ -4,11 +4,12 @@ use Rattle.sha2.specs.Sha256.{sha256}
 use Rattle.acas_units.specs.declared.limits.TheConstants.{TEXT_BYTES}
 use Rattle.acas_spec.specs.Model.{ModelData}
 use Rattle.acas_model.specs.Whole.{model_of}
+use Rattle.acas_input.specs.declared.fault.InputFault.{InputFault}
 use Rattle.acas_model.specs.declared.fault.ModelFault.{ModelFault}
 use Rattle.acas_command.specs.Outcome.{Outcome, refuses}
 use Rattle.acas_command.specs.declared.status.FileRole.{FileRole}
 use Rattle.acas_command.specs.declared.status.FileRole.TheVariants.{Model as ModelFile}
-use Rattle.acas_command.specs.declared.status.Cause.TheVariants.{Absent, Model, TooLong}
+use Rattle.acas_command.specs.declared.status.Cause.TheVariants.{Absent, Input, Model, TooLong}
 
 -- a text file is there and is not too long; the rest goes on with its bytes
 abbrev pub with_text : FileRole → Option (List ℕ) → (List ℕ → Outcome) → Outcome
@@ -23,3 +24,12 @@ with_reading (Err fault) rest = refuses (Model fault)
 -- the file is a model's text; the rest goes on with its digest and the model
 abbrev pub with_model : Option (List ℕ) → (List ℕ → ModelData → Outcome) → Outcome
 with_model file rest = with_text ModelFile file (λ bytes. with_reading (model_of bytes) (rest (sha256 bytes)))
+
+-- the text of boxes or of an encounter says what the rest goes on with
+abbrev pub with_input : {A : Type 0} → Result A InputFault → (A → Outcome) → Outcome
+with_input (Ok said) rest = rest said
+with_input (Err fault) rest = refuses (Input fault)
+
+-- the file is such a text, not too long; the rest goes on with what it says
+abbrev pub with_input_file : {A : Type 0} → FileRole → (List ℕ → Result A InputFault) → Option (List ℕ) → (A → Outcome) → Outcome
+with_input_file role read file rest = with_text role file (λ bytes. with_input (read bytes) rest)

@@ -1,11 +1,16 @@
 pub mod Codes
 pub mod Outcome
+pub mod Called
 pub mod Calls
 pub mod Answers
 pub mod Worth
 pub mod Outside
+pub mod TextFile
+pub mod InputFile
 pub mod ModelFile
+pub mod Says
 pub mod FaultText
+pub mod InputText
 pub mod RefusalText
 pub mod ErrorLine
 pub mod LineParts

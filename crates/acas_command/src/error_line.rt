@@ -4,21 +4,22 @@ ghost use Rattle.acas_outside.specs.Bytes.{Appends, AppendsPart};
 ghost use Rattle.acas_outside.specs.Frame.{Emits};
 ghost use Rattle.acas_command.specs.ErrorLine.{Reports, name_of};
 ghost use Rattle.acas_command.specs.declared.status.Cause.TheVariants.{Memory, Words};
-ghost use Rattle.acas_command.specs.LineParts.{fault_head, fault_subject, line_head, line_of_parts, line_subject, line_tail};
+ghost use Rattle.acas_command.specs.LineParts.{fault_head, fault_subject, input_head, input_subject, line_head, line_of_parts, line_subject, line_tail};
 
 use crate::fault_text::write_tail;
 use crate::status::{Cause, FileRole};
+use acas_input::InputFault;
 use acas_model::ModelFault;
 use acas_outside::{Failed, Sink, emit_parts};
 use acas_units::Line;
 
-/// Writes the line of a run that is not done, with a buffer for its numbers.
+/// Writes the line of a run whose output is not all out, with a buffer for its numbers.
 pub fn report<E: Sink>(words: &[String], cause: &Cause, line: &mut Line, err: &mut E)
     ensures line { Reports cause.now (map string_bytes words.now)
         (E.written err.old) (E.written err.new) (E.faults err.old) (E.faults err.new) }
     ensures faults { E.faults err.old ≤ E.faults err.new }
 {
-    if let Cause::Done = cause {
+    if let Cause::Done | Cause::Reported = cause {
         return;
     }
     write_tail(line, cause);
@@ -76,11 +77,12 @@ fn line_head(cause: &Cause) -> &'static str
     ensures { result.now ≡ line_head cause.now }
 {
     match cause {
-        Cause::Done => "",
+        Cause::Done | Cause::Reported => "",
         Cause::Words => "words refused",
         Cause::Absent(_) => "absent: ",
         Cause::Model(fault) => fault_head(fault),
         Cause::Table(_) => "table refused: ",
+        Cause::Input(fault) => input_head(fault),
         Cause::Folder => "folder failed",
         Cause::Output => "output failed",
         Cause::TooLong(_) => "too long: ",
@@ -97,12 +99,22 @@ fn fault_head(fault: &ModelFault) -> &'static str
     }
 }
 
+fn input_head(fault: &InputFault) -> &'static str
+    ensures { result.now ≡ input_head fault.now }
+{
+    match fault {
+        InputFault::Doc(_) => "input refused: key ",
+        _ => "input refused: ",
+    }
+}
+
 fn line_subject<'c>(cause: &'c Cause, words: &'c [String]) -> &'c [u8]
     ensures { result.now ≡ line_subject cause.now (map string_bytes words.now) }
 {
     match cause {
         Cause::Absent(role) | Cause::TooLong(role) => name_of(*role, words),
         Cause::Model(fault) => fault_subject(fault),
+        Cause::Input(fault) => input_subject(fault),
         _ => b"",
     }
 }
@@ -116,12 +128,22 @@ fn fault_subject(fault: &ModelFault) -> &[u8]
     }
 }
 
+fn input_subject(fault: &InputFault) -> &[u8]
+    ensures { result.now ≡ input_subject fault.now }
+{
+    match fault {
+        InputFault::Doc(at) => at.key.bytes(),
+        _ => b"",
+    }
+}
+
 fn name_of(role: FileRole, words: &[String]) -> &[u8]
     ensures { result.now ≡ name_of role (map string_bytes words.now) }
 {
     match role {
         FileRole::Model => word_at(words, 1),
-        FileRole::Table => word_at(words, 2),
+        FileRole::Table | FileRole::Boxes => word_at(words, 2),
+        FileRole::Encounter => word_at(words, 3),
     }
 }
 

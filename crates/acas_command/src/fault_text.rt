@@ -1,14 +1,15 @@
-//! What is printed of a model's fault.
+//! What is printed of a model's fault and of an input's.
 ghost use Rattle.std.specs.Prelude.{◌≡◌, ◌+◌, ◌≤◌, ◌++◌, [], length, codes};
 ghost use Rattle.std.specs.Fmt.{decimal, signed_decimal};
 ghost use Rattle.acas_command.specs.FaultText.{axis_text, axis_word, entries_text, kind_text, range_text, repeated_text, unknown_text, weights_text, window_text};
-ghost use Rattle.acas_command.specs.LineParts.{fault_tail, line_tail};
+ghost use Rattle.acas_command.specs.LineParts.{fault_tail, input_tail, line_tail};
 
 use crate::line_fields::{put_count, put_number, put_text};
 use crate::refusal_text::write_refusal;
 use crate::status::Cause;
 use acas_doc::DocKind;
 use acas_grid::AxisFault;
+use acas_input::InputFault;
 use acas_model::{AxisName, ModelFault};
 use acas_units::{GREATEST_ENTRIES, GREATEST_TOTAL_WEIGHT, Line};
 
@@ -20,6 +21,7 @@ pub(crate) fn write_tail(line: &mut Line, cause: &Cause)
     match cause {
         Cause::Model(fault) => write_fault_tail(line, fault),
         Cause::Table(refusal) => write_refusal(line, refusal),
+        Cause::Input(fault) => write_input_tail(line, fault),
         _ => {}
     }
 }
@@ -33,10 +35,10 @@ fn write_fault_tail(line: &mut Line, fault: &ModelFault)
         ModelFault::Doc(at) => write_kind(line, at.kind),
         ModelFault::Axis { axis, fault } => write_axis(line, *axis, *fault),
         ModelFault::Interval { advisory } => {
-            write_advisory(line, "interval of advisory ", *advisory)
+            write_numbered(line, "interval of advisory ", *advisory)
         }
         ModelFault::NoChoice { advisory } => {
-            write_advisory(line, "no choice of advisory ", *advisory)
+            write_numbered(line, "no choice of advisory ", *advisory)
         }
         ModelFault::UnknownName { at } => write_unknown(line, at.advisory, at.choice),
         ModelFault::RepeatedName { at } => write_repeated(line, at.advisory, at.choice),
@@ -44,6 +46,19 @@ fn write_fault_tail(line: &mut Line, fault: &ModelFault)
         ModelFault::Window { needed, allowed } => write_window(line, *needed, *allowed),
         ModelFault::TooManyEntries { entries } => write_entries(line, *entries),
         ModelFault::Memory => put_text(line, "out of memory"),
+    }
+}
+
+fn write_input_tail(line: &mut Line, fault: &InputFault)
+    requires { line.old ≡ [] }
+    ensures { line.new ≡ input_tail fault.now }
+{
+    match fault {
+        InputFault::NotToml => put_text(line, "not toml"),
+        InputFault::Doc(at) => write_kind(line, at.kind),
+        InputFault::UnknownName { place } => write_numbered(line, "unknown advisory at ", *place),
+        InputFault::Window { place } => write_numbered(line, "window at ", *place),
+        InputFault::Memory => put_text(line, "out of memory"),
     }
 }
 
@@ -103,13 +118,13 @@ fn write_axis(line: &mut Line, axis: AxisName, fault: AxisFault)
     }
 }
 
-fn write_advisory(line: &mut Line, text: &str, advisory: u32)
+fn write_numbered(line: &mut Line, text: &str, number: u32)
     requires empty { line.old ≡ [] }
     requires short { length text.now ≤ 100 }
-    ensures { line.new ≡ text.now ++ decimal advisory }
+    ensures { line.new ≡ text.now ++ decimal number }
 {
     put_text(line, text);
-    put_count(line, u64::from(advisory));
+    put_count(line, u64::from(number));
 }
 
 fn write_choice(line: &mut Line, text: &str, advisory: u32, choice: u32)
@@ -128,7 +143,7 @@ fn write_unknown(line: &mut Line, advisory: u32, choice: Option<u32>)
     ensures { line.new ≡ unknown_text advisory choice }
 {
     match choice {
-        None => write_advisory(line, "unknown choice of advisory ", advisory),
+        None => write_numbered(line, "unknown choice of advisory ", advisory),
         Some(choice) => write_choice(line, "unknown choice of advisory ", advisory, choice),
     }
 }
@@ -138,7 +153,7 @@ fn write_repeated(line: &mut Line, advisory: u32, choice: Option<u32>)
     ensures { line.new ≡ repeated_text advisory choice }
 {
     match choice {
-        None => write_advisory(line, "repeated name of advisory ", advisory),
+        None => write_numbered(line, "repeated name of advisory ", advisory),
         Some(choice) => write_choice(line, "repeated choice of advisory ", advisory, choice),
     }
 }

@@ -1,4 +1,4 @@
-//! What all commands share: how a run ends, the line on the error output, the files of models and tables, and what they call for.
+//! What all commands share: how a run ends, the line on the error output, text files and those of models, and what they call for.
 #![tactic(auto)]
 
 mod error_line;
@@ -7,9 +7,12 @@ mod line_fields;
 mod model_file;
 mod refusal_text;
 mod status;
+mod text_file;
 
+pub use acas_input::InputFault;
 pub use acas_table::TableRefusal;
 pub use error_line::{report, report_memory, report_words};
 pub use line_fields::{put_count, put_millionths, put_number, put_text, put_wide_millionths};
 pub use model_file::{ModelFile, read_model_file};
-pub use status::{Cause, FileRole, Status, Work, cause_of};
+pub use status::{Cause, FileRole, Status, Work, cause_of, cause_of_report};
+pub use text_file::read_text_file;

@@ -1,15 +1,16 @@
 //! The file of a model.
-ghost use Rattle.std.specs.Prelude.{◌≡◌, ◌≢◌, IsTrue, IfOk, IfErr, IsErrOf};
+ghost use Rattle.std.specs.Prelude.{◌≡◌, IsTrue, IfOk, IfErr, IsErrOf};
 ghost use Rattle.acas_outside.specs.Files.{Given};
 ghost use Rattle.acas_outside.specs.Frame.{OnlyReads};
+ghost use Rattle.acas_command.specs.Answers.{EndsLooking};
 ghost use Rattle.acas_command.specs.ModelFile.{IsModelFile, RefusesModel};
 ghost use Rattle.acas_command.specs.Outside.{beside};
 
 use crate::status::{Cause, FileRole};
+use crate::text_file::read_text_file;
 use acas_base::Model;
 use acas_model::{ModelFault, read_model};
-use acas_outside::{Folder, ReadFault, read_whole};
-use acas_units::TEXT_BYTES;
+use acas_outside::Folder;
 use sha2::{Digest, Sha256};
 use std::alloc::Global;
 
@@ -29,17 +30,11 @@ pub fn read_model_file<F: Folder>(
     requires { IsTrue (F.serves folder.old name.now) }
     ensures ok { IfOk result (λ found. Given (F.holds folder.old) name.now (λ file. IsModelFile file found.digest found.model)) }
     ensures err { IfErr result (λ cause. RefusesModel name.now cause (beside F.Folder folder.old) (beside F.Folder folder.new)) }
-    ensures refused { IfErr result (λ cause. cause ≢ Cause.Done) }
+    ensures refused { IfErr result EndsLooking }
     ensures frame { OnlyReads F.Folder folder.old folder.new
         (IsErrOf result Cause.Folder) (IsErrOf result (Cause.Absent FileRole.Model)) }
 {
-    let bytes = match read_whole(alloc, folder, name, TEXT_BYTES) {
-        Ok(bytes) => bytes,
-        Err(ReadFault::Absent) => return Err(Cause::Absent(FileRole::Model)),
-        Err(ReadFault::Failed) => return Err(Cause::Folder),
-        Err(ReadFault::TooLong) => return Err(Cause::TooLong(FileRole::Model)),
-        Err(ReadFault::Memory) => return Err(Cause::Memory),
-    };
+    let bytes = read_text_file(alloc, FileRole::Model, name, folder)?;
     match read_model(alloc, &bytes) {
         Ok(model) => Ok(ModelFile {
             model,

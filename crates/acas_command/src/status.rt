@@ -1,8 +1,9 @@
 //! How a run ends.
 ghost use Rattle.std.specs.Prelude.{◌≡◌};
-ghost use Rattle.acas_command.specs.Answers.{ended};
+ghost use Rattle.acas_command.specs.Answers.{ended, report_ended};
 ghost use Rattle.acas_command.specs.Codes.{code_of};
 
+use acas_input::InputFault;
 use acas_model::ModelFault;
 use acas_table::TableRefusal;
 use std::alloc::AllocError;
@@ -12,13 +13,17 @@ use std::alloc::AllocError;
 pub enum FileRole {
     Model,
     Table,
+    Boxes,
+    Encounter,
 }
 
 /// Why a run ended.
 #[derive(Debug, Drop)]
 pub enum Cause {
-    /// The whole output is out.
+    /// The whole output is out, and reports nothing.
     Done,
+    /// The whole output is out, and reports at least one cell or box.
+    Reported,
     /// The words are no form of a command.
     Words,
     /// A file that the command reads is not there.
@@ -27,6 +32,8 @@ pub enum Cause {
     Model(ModelFault),
     /// The table's file is no accepted table of the model: the first field or entry that is not as it is to be.
     Table(TableRefusal),
+    /// The file of boxes or of an encounter is none for this model: the first rule that it fails.
+    Input(InputFault),
     /// A call on the folder failed.
     Folder,
     /// A call on the output failed.
@@ -65,6 +72,17 @@ pub fn cause_of(answer: Result<(), Cause>) -> Cause
     }
 }
 
+/// The cause that a command ended with which answers how many cells or boxes are reported.
+pub fn cause_of_report(answer: Result<u64, Cause>) -> Cause
+    ensures { result ≡ report_ended answer }
+{
+    match answer {
+        Ok(0) => Cause::Done,
+        Ok(_) => Cause::Reported,
+        Err(cause) => cause,
+    }
+}
+
 /// The counters of one run. There are none yet.
 #[derive(Debug, Drop)]
 pub struct Work {}
@@ -83,10 +101,12 @@ impl Cause {
     {
         match self {
             Cause::Done => 0,
+            Cause::Reported => 1,
             Cause::Words => 2,
             Cause::Absent(_) => 3,
             Cause::Model(_) => 4,
             Cause::Table(_) => 5,
+            Cause::Input(_) => 6,
             Cause::Folder => 7,
             Cause::Output => 8,
             Cause::TooLong(_) => 9,

@@ -1,14 +1,11 @@
 -- What the answers of the commands on tables are worth.
-use Rattle.std.proofs.Common.{◌≡◌, ℕ, ◌≤◌, List, length, Ok, Option, Some, None, ◌⊎◌, ⊎_elim, refl, sym, ap, subst, ◌∙◌}
+use Rattle.std.proofs.Common.{◌≡◌, ℕ, List, Option, Some, None, ⊎_elim, refl, sym, ap, subst, ◌∙◌}
 use Rattle.std.specs.Prelude.{IfSome, IsSomeAnd}
 use Rattle.std.specs.FinMap.{get}
 use Rattle.sha2.specs.Sha256.{sha256}
 use Rattle.sha2.proofs.Facts256.{length-sha256}
-use Rattle.acas_spec.specs.Limits.{IsModel}
 use Rattle.acas_spec.specs.Model.{ModelData}
 use Rattle.acas_spec.specs.Table.{Table}
-use Rattle.acas_model.proofs.Said.{said}
-use Rattle.acas_model.proofs.Understood.{understood}
 use Rattle.acas_outside.specs.Bytes.{Appends, IsBytes}
 use Rattle.acas_outside.specs.Files.{Files, Given}
 use Rattle.acas_outside.specs.Outside.{Outside}
@@ -17,34 +14,27 @@ use Rattle.acas_process.proofs.BoundLaws.{two_sided_bounds}
 use Rattle.acas_process.proofs.CompiledLaws.{compiled_is_sound, compiled_is_tight}
 use Rattle.acas_accept.specs.Accepted.{IsAcceptedTable}
 use Rattle.acas_accept.specs.GivenTable.{given_table}
-use Rattle.acas_accept.specs.Refusals.{first_refusal}
 use Rattle.acas_table.specs.declared.refusal.TableRefusal.{TableRefusal}
 use Rattle.acas_accept.proofs.CompiledTables.{compiled_is_accepted}
 use Rattle.acas_accept.proofs.Tables.{accepted_has_none, given_is_accepted}
-use Rattle.acas_command.specs.Answers.{Agrees, Answers, Completes, MayPrint, PrintsPart, Refuses}
-use Rattle.acas_command.specs.Calls.{with_model}
+use Rattle.acas_command.specs.Answers.{Agrees, Answers, Completes, Refuses}
+use Rattle.acas_command.specs.Called.{MayPrint, PrintsPart}
 use Rattle.acas_table_file.specs.Calls.{with_table}
 use Rattle.acas_command.specs.Outcome.{Outcome, prints, stores, with_file}
 use Rattle.acas_command.specs.declared.status.Cause.{Cause}
 use Rattle.acas_command.specs.declared.status.Cause.TheVariants.{Done, Output, Table as Refused}
-use Rattle.acas_command.proofs.Behind.{told-both, told-map}
-use Rattle.acas_command.proofs.Refused.{IsBehindModel, IsNoFileCause, behind-model, no_file_cause-may_print, not_refused, with_model-read}
-use Rattle.acas_table_file.proofs.Files.{behind-table, rejected-table, with_table-accepted}
+use Rattle.acas_command.proofs.Behind.{told-map}
+use Rattle.acas_command.proofs.Refused.{behind-model, no_file_cause-may_print, not_refused}
+use Rattle.acas_command.proofs.Says.{read-model, says-model}
+use Rattle.acas_command.specs.Says.{SaysModel}
+use Rattle.acas_table_file.proofs.Files.{behind-table, read-table, rejects-table}
+use Rattle.acas_table_file.specs.Worth.{RejectsTable}
 use Rattle.acas_table_commands.specs.AcceptedLine.{accepted_line}
 use Rattle.acas_table_commands.specs.Calls.{CallsForCheck, CallsForCompile, CallsForValues, check_of, compile_of, values_of}
 use Rattle.acas_table_commands.specs.CompiledLine.{compiled_line}
 use Rattle.acas_table_commands.specs.TableFile.{compiled_text}
-use Rattle.acas_table_commands.specs.ValuesText.{table_lines, values_text}
-use Rattle.acas_table_commands.specs.Worth.{AcceptsTable, CheckIsWorth, CompileIsWorth, PrintsTable, RejectsTable, SaysModel, StoresTable, ValuesIsWorth}
-
--- the file that a command was read behind says its model
-says-model : (files : Files) (name : List ℕ) (rest : List ℕ → ModelData → Outcome) (b : IsBehindModel (get files name) rest) → SaysModel files name b.bytes b.m
-says-model files name rest b = record { file = b.there; short = b.short; text = said b.bytes b.m b.read }
-
--- what goes on behind a file that says a model
-read-model : (files : Files) (name bytes : List ℕ) (m : ModelData) (rest : List ℕ → ModelData → Outcome) → SaysModel files name bytes m → with_model (get files name) rest ≡ rest (sha256 bytes) m
-read-model files name bytes m rest says =
-    ap (λ (file : Option (List ℕ)). with_model file rest) says.file ∙ with_model-read bytes m rest says.short (understood bytes m says.text)
+use Rattle.acas_table_commands.specs.ValuesText.{values_text}
+use Rattle.acas_table_commands.specs.Worth.{AcceptsTable, CheckIsWorth, CompileIsWorth, PrintsTable, StoresTable, ValuesIsWorth}
 
 prints-cause : (o o' : Outcome) → o ≡ o' → MayPrint o'.cause → MayPrint o.cause
 prints-cause o o' same h = subst (λ (p : Outcome). MayPrint p.cause) (sym same) h
@@ -53,10 +43,10 @@ prints-cause o o' same h = subst (λ (p : Outcome). MayPrint p.cause) (sym same)
 abbrev pub rest_of_values : List ℕ → ModelData → Outcome
 rest_of_values digest m = prints (values_text m)
 
-prints-table : (model : List ℕ) (files : Files) (before after : Outside) → Completes (CallsForValues model files) files Done before after → PrintsTable model files before after
+prints-table : (model : List ℕ) (files : Files) (before after : Outside) → Completes (CallsForValues model) files Done before after → PrintsTable model files before after
 unfolding values_text
 prints-table model files before after a =
-    let done : MayPrint (values_of (get files model)).cause = subst (λ (o : Outcome). MayPrint o.cause) a.called (subst MayPrint (sym a.ends) tt) in
+    let done : MayPrint (values_of (get files model)).cause = subst (λ (o : Outcome). MayPrint o.cause) a.may (subst MayPrint (sym a.ends) tt) in
     let b = behind-model (get files model) rest_of_values (no_file_cause-may_print _ done) in
     let says : SaysModel files model b.bytes b.m = says-model files model rest_of_values b in
     record {
@@ -66,16 +56,16 @@ prints-table model files before after a =
       says = says;
       bounds = two_sided_bounds b.m (compiled b.m) says.text.within (compiled_is_sound b.m says.text.within);
       tight = compiled_is_tight b.m says.text.within;
-      printed = subst (λ (o : Outcome). Appends before.written after.written o.output) (a.called ∙ b.is) a.printed;
+      printed = subst (λ (o : Outcome). Appends before.written after.written o.output) (a.may ∙ b.is) a.printed;
     }
 
 pub values-worth : (model : List ℕ) (cause : Cause) (before after : Outside) → Answers (CallsForValues model) cause before after
     → IfSome before.holds (λ files. ValuesIsWorth model files cause before after)
 values-worth model cause before after answers =
     told-map before.holds _ _ (λ files agrees. record {
-      done = λ is. prints-table model files before after (subst (λ (c : Cause). Agrees (CallsForValues model files) files c before after) is agrees);
+      done = λ is. prints-table model files before after (subst (λ (c : Cause). Agrees (CallsForValues model) files c before after) is agrees);
       not_refused = λ bytes m says.
-          not_refused (CallsForValues model files) files cause before after
+          not_refused (CallsForValues model) files cause before after
           (λ o called. prints-cause o _ (called ∙ read-model files model bytes m rest_of_values says) tt) answers.has_cause agrees;
     }) answers.told
 
@@ -83,7 +73,7 @@ values-worth model cause before after answers =
 abbrev pub rest_of_compile : List ℕ → List ℕ → ModelData → Outcome
 rest_of_compile table digest m = stores table (compiled_text digest m) (compiled_line m.grid)
 
-stores-table : (model table : List ℕ) (files : Files) (after : Outside) (o : Outcome) → CallsForCompile model table files o → MayPrint o.cause
+stores-table : (model table : List ℕ) (files : Files) (after : Outside) (o : Outcome) → o ≡ compile_of (get files model) table → MayPrint o.cause
     → after.holds ≡ Some (with_file o.file files) → StoresTable model table files after
 stores-table model table files after o called prints stored =
     let done : MayPrint (compile_of (get files model) table).cause = subst (λ (p : Outcome). MayPrint p.cause) called prints in
@@ -100,21 +90,21 @@ stores-table model table files after o called prints stored =
       stored = subst (λ (p : Outcome). after.holds ≡ Some (with_file p.file files)) (called ∙ b.is) stored;
     }
 
-stores-done : (model table : List ℕ) (files : Files) (before after : Outside) → Completes (CallsForCompile model table files) files Done before after → StoresTable model table files after
-stores-done model table files before after a = stores-table model table files after a.outcome a.called (subst MayPrint (sym a.ends) tt) a.stored
+stores-done : (model table : List ℕ) (files : Files) (before after : Outside) → Completes (CallsForCompile model table) files Done before after → StoresTable model table files after
+stores-done model table files before after a = stores-table model table files after a.outcome a.may (subst MayPrint (sym a.ends) tt) a.stored
 
-stores-output : (model table : List ℕ) (files : Files) (before after : Outside) → PrintsPart (CallsForCompile model table files) files before after → StoresTable model table files after
-stores-output model table files before after a = stores-table model table files after a.outcome a.called a.prints a.stored
+stores-output : (model table : List ℕ) (files : Files) (before after : Outside) → PrintsPart (compile_of (get files model) table) files before after → StoresTable model table files after
+stores-output model table files before after a = stores-table model table files after _ refl a.prints a.stored
 
 pub compile-worth : (model table : List ℕ) (cause : Cause) (before after : Outside) → Answers (CallsForCompile model table) cause before after
     → IfSome before.holds (λ files. CompileIsWorth model table files cause before after)
 compile-worth model table cause before after answers =
     told-map before.holds _ _ (λ files agrees. record {
       stored = λ either. ⊎_elim
-          (λ (is : cause ≡ Done). stores-done model table files before after (subst (λ (c : Cause). Agrees (CallsForCompile model table files) files c before after) is agrees))
-          (λ (is : cause ≡ Output). stores-output model table files before after (subst (λ (c : Cause). Agrees (CallsForCompile model table files) files c before after) is agrees)) either;
+          (λ (is : cause ≡ Done). stores-done model table files before after (subst (λ (c : Cause). Agrees (CallsForCompile model table) files c before after) is agrees))
+          (λ (is : cause ≡ Output). stores-output model table files before after (subst (λ (c : Cause). Agrees (CallsForCompile model table) files c before after) is agrees)) either;
       not_refused = λ bytes m says.
-          not_refused (CallsForCompile model table files) files cause before after
+          not_refused (CallsForCompile model table) files cause before after
           (λ o called. prints-cause o _ (called ∙ read-model files model bytes m (rest_of_compile table) says) tt) answers.has_cause agrees;
     }) answers.told
 
@@ -128,10 +118,10 @@ rest_of_check file digest m = with_table m digest file (line_of_check m)
 bytes-of : (file : Option (List ℕ)) (bytes : List ℕ) → file ≡ Some bytes → IsSomeAnd file IsBytes → IsBytes bytes
 bytes-of file bytes there h = let some : IsSomeAnd (Some bytes) IsBytes = subst (λ (f : Option (List ℕ)). IsSomeAnd f IsBytes) there h in some
 
-accepts-table : (model table : List ℕ) (files : Files) (before after : Outside) → Completes (CallsForCheck model table files) files Done before after → IsSomeAnd (get files table) IsBytes
+accepts-table : (model table : List ℕ) (files : Files) (before after : Outside) → Completes (CallsForCheck model table) files Done before after → IsSomeAnd (get files table) IsBytes
     → AcceptsTable model table files
 accepts-table model table files before after a whole =
-    let done : MayPrint (check_of (get files model) (get files table)).cause = subst (λ (o : Outcome). MayPrint o.cause) a.called (subst MayPrint (sym a.ends) tt) in
+    let done : MayPrint (check_of (get files model) (get files table)).cause = subst (λ (o : Outcome). MayPrint o.cause) a.may (subst MayPrint (sym a.ends) tt) in
     let b = behind-model (get files model) (rest_of_check (get files table)) (no_file_cause-may_print _ done) in
     let says : SaysModel files model b.bytes b.m = says-model files model (rest_of_check (get files table)) b in
     let t = behind-table b.m (sha256 b.bytes) (get files table) (line_of_check b.m) (subst (λ (o : Outcome). MayPrint o.cause) b.is done) in
@@ -148,42 +138,25 @@ accepts-table model table files before after a whole =
       bounds = two_sided_bounds b.m (given_table b.m.grid t.0) says.text.within accepted.sound;
     }
 
-rejects-table : (model table : List ℕ) (files : Files) (refusal : TableRefusal) (after : Outside) → Refuses (CallsForCheck model table files) files (Refused refusal) after → RejectsTable model table files
-rejects-table model table files refusal after a =
-    let cause : (check_of (get files model) (get files table)).cause ≡ Refused refusal = ap (λ (o : Outcome). o.cause) (sym a.called) ∙ a.refused in
-    let b = behind-model (get files model) (rest_of_check (get files table)) (subst IsNoFileCause (sym cause) tt) in
-    let says : SaysModel files model b.bytes b.m = says-model files model (rest_of_check (get files table)) b in
-    let t = rejected-table b.m (sha256 b.bytes) (get files table) (line_of_check b.m) refusal (λ bytes. tt) (ap (λ (o : Outcome). o.cause) (sym b.is) ∙ cause) in
-    record {
-      bytes = b.bytes;
-      m = b.m;
-      given = t.0;
-      says = says;
-      file = t.1;
-      none = λ table_of accepted.
-          let none = accepted_has_none b.m (sha256 b.bytes) t.0 table_of says.text.within (length-sha256 b.bytes) accepted in
-          let both = sym t.2 ∙ none in
-          absurd (cc both);
-    }
+rejected : (model table : List ℕ) (files : Files) (refusal : TableRefusal) (after : Outside) → Refuses (CallsForCheck model table) files (Refused refusal) after → RejectsTable model table files
+rejected model table files refusal after a =
+    rejects-table model table files (λ digest m. line_of_check m) refusal (λ digest m bytes is. subst MayPrint is tt) (ap (λ (o : Outcome). o.cause) (sym a.may) ∙ a.refused)
 
 checked-line : (files : Files) (model table bytes given : List ℕ) (m : ModelData) (t : Table) → SaysModel files model bytes m → get files table ≡ Some given → IsAcceptedTable m (sha256 bytes) given t
     → check_of (get files model) (get files table) ≡ prints (accepted_line m.grid)
-checked-line files model table bytes given m t says there accepted =
-    read-model files model bytes m (rest_of_check (get files table)) says
-    ∙ ap (λ (file : Option (List ℕ)). rest_of_check file (sha256 bytes) m) there
-    ∙ with_table-accepted m (sha256 bytes) given (line_of_check m) (accepted_has_none m (sha256 bytes) given t says.text.within (length-sha256 bytes) accepted)
+checked-line files model table bytes given m t says there accepted = read-table files model table bytes given m t (λ digest n. line_of_check n) says there accepted
 
 pub check-worth : (model table : List ℕ) (cause : Cause) (before after : Outside) → Answers (CallsForCheck model table) cause before after
     → (cause ≡ Done → Given before.holds table (λ file. IsSomeAnd file IsBytes)) → IfSome before.holds (λ files. CheckIsWorth model table files cause before after)
 check-worth model table cause before after answers whole = by_holds before.holds answers.told whole
   where
-    by_holds : (holds : Option Files) → IfSome holds (λ files. Agrees (CallsForCheck model table files) files cause before after) → (cause ≡ Done → Given holds table (λ file. IsSomeAnd file IsBytes))
+    by_holds : (holds : Option Files) → IfSome holds (λ files. Agrees (CallsForCheck model table) files cause before after) → (cause ≡ Done → Given holds table (λ file. IsSomeAnd file IsBytes))
         → IfSome holds (λ files. CheckIsWorth model table files cause before after)
     by_holds None agrees bytes = tt
     by_holds (Some files) agrees bytes = record {
-      done = λ is. accepts-table model table files before after (subst (λ (c : Cause). Agrees (CallsForCheck model table files) files c before after) is agrees) (bytes is);
-      refused = λ refusal is. rejects-table model table files refusal after (subst (λ (c : Cause). Agrees (CallsForCheck model table files) files c before after) is agrees);
+      done = λ is. accepts-table model table files before after (subst (λ (c : Cause). Agrees (CallsForCheck model table) files c before after) is agrees) (bytes is);
+      refused = λ refusal is. rejected model table files refusal after (subst (λ (c : Cause). Agrees (CallsForCheck model table) files c before after) is agrees);
       not_refused = λ text given m t says there accepted.
-          not_refused (CallsForCheck model table files) files cause before after
+          not_refused (CallsForCheck model table) files cause before after
           (λ o called. prints-cause o _ (called ∙ checked-line files model table text given m t says there accepted) tt) answers.has_cause agrees;
     }

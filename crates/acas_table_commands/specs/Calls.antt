@@ -1,7 +1,7 @@
 -- What each command on tables calls for, by the files of the folder.
-use Rattle.std.specs.Prelude.{◌≡◌, ℕ, List, Option}
+use Rattle.std.specs.Prelude.{ℕ, List, Option}
 use Rattle.std.specs.FinMap.{get}
-use Rattle.acas_outside.specs.Files.{Files}
+use Rattle.acas_command.specs.Called.{Called, calls_for}
 use Rattle.acas_command.specs.Calls.{with_model}
 use Rattle.acas_table_file.specs.Calls.{with_table}
 use Rattle.acas_command.specs.Outcome.{Outcome, prints, stores}
@@ -23,11 +23,11 @@ abbrev pub check_of : Option (List ℕ) → Option (List ℕ) → Outcome
 check_of file table = with_model file (λ digest model. with_table model digest table (λ bytes. prints (accepted_line model.grid)))
 
 -- the same, by the names of the files
-abbrev pub CallsForValues : List ℕ → Files → Outcome → Type 0
-CallsForValues model files outcome = outcome ≡ values_of (get files model)
+abbrev pub CallsForValues : List ℕ → Called
+CallsForValues model = calls_for (λ files. values_of (get files model))
 
-abbrev pub CallsForCompile : List ℕ → List ℕ → Files → Outcome → Type 0
-CallsForCompile model table files outcome = outcome ≡ compile_of (get files model) table
+abbrev pub CallsForCompile : List ℕ → List ℕ → Called
+CallsForCompile model table = calls_for (λ files. compile_of (get files model) table)
 
-abbrev pub CallsForCheck : List ℕ → List ℕ → Files → Outcome → Type 0
-CallsForCheck model table files outcome = outcome ≡ check_of (get files model) (get files table)
+abbrev pub CallsForCheck : List ℕ → List ℕ → Called
+CallsForCheck model table = calls_for (λ files. check_of (get files model) (get files table))

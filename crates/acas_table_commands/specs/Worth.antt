@@ -1,11 +1,9 @@
 -- What the commands on tables are worth, in the words of the subject, over a folder that tells its files.
-use Rattle.std.specs.Prelude.{◌≡◌, ◌⊎◌, ℕ, ◌≤◌, List, length, Some}
+use Rattle.std.specs.Prelude.{◌≡◌, ◌⊎◌, ℕ, List, Some}
 use Rattle.std.specs.FinMap.{get, insert}
 use Rattle.sha2.specs.Sha256.{sha256}
-use Rattle.acas_units.specs.declared.limits.TheConstants.{TEXT_BYTES}
 use Rattle.acas_spec.specs.Model.{ModelData}
 use Rattle.acas_spec.specs.Table.{Table}
-use Rattle.acas_model.specs.Text.{IsModelText}
 use Rattle.acas_outside.specs.Bytes.{Appends}
 use Rattle.acas_outside.specs.Files.{Files}
 use Rattle.acas_outside.specs.Outside.{Outside}
@@ -13,16 +11,12 @@ use Rattle.acas_process.specs.Bounds.{HasTwoSidedBounds, IsTight}
 use Rattle.acas_table.specs.Layers.{table_text}
 use Rattle.acas_accept.specs.Accepted.{IsAcceptedTable}
 use Rattle.acas_table.specs.declared.refusal.TableRefusal.{TableRefusal}
+use Rattle.acas_command.specs.Says.{SaysModel}
 use Rattle.acas_command.specs.Worth.{IsNotRefused}
+use Rattle.acas_table_file.specs.Worth.{RejectsTable}
 use Rattle.acas_command.specs.declared.status.Cause.{Cause}
 use Rattle.acas_command.specs.declared.status.Cause.TheVariants.{Done, Output, Table as Refused}
 use Rattle.acas_table_commands.specs.ValuesText.{table_lines}
-
--- the file of this name has these bytes, which are not too many and say the model m
-pub record SaysModel (files : Files) (name bytes : List ℕ) (m : ModelData) : Type 0 where
-  pub file : get files name ≡ Some bytes
-  pub short : length bytes ≤ TEXT_BYTES
-  pub text : IsModelText bytes m
 
 -- M says a model, and what was printed are the lines of a table of it, which has two-sided bounds and is tight
 pub record PrintsTable (model : List ℕ) (files : Files) (before after : Outside) : Type 0 where
@@ -56,15 +50,6 @@ pub record AcceptsTable (model table : List ℕ) (files : Files) : Type 0 where
   pub file : get files table ≡ Some given
   pub accepted : IsAcceptedTable m (sha256 bytes) given t
   pub bounds : HasTwoSidedBounds m t
-
--- M says a model, and T is the text of no table of it whose entries are all sound
-pub record RejectsTable (model table : List ℕ) (files : Files) : Type 0 where
-  pub bytes : List ℕ
-  pub m : ModelData
-  pub given : List ℕ
-  pub says : SaysModel files model bytes m
-  pub file : get files table ≡ Some given
-  pub none : (t : Table) → IsAcceptedTable m (sha256 bytes) given t → ⊥
 
 -- `values M`: what a done run has printed; and where M says a model, it is not refused
 pub record ValuesIsWorth (model : List ℕ) (files : Files) (cause : Cause) (before after : Outside) : Type 0 where

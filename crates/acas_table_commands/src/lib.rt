@@ -10,4 +10,5 @@ mod values_command;
 
 pub use check_command::check;
 pub use compile_command::compile;
-pub use values_command::values;
+pub use table_file::store_table;
+pub use values_command::{compiled_layers, values};

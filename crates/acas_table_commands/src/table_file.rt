@@ -15,7 +15,7 @@ use acas_table::TableWriter;
 
 /// Stores the compiled table of a model, which has these layers, and answers its length. Where it fails, the name holds what it
 /// held, or a proper prefix of the table's text.
-pub(crate) fn store_table<F: Folder>(
+pub fn store_table<F: Folder>(
     found: &ModelFile,
     layers: &Layers,
     writer: TableWriter,

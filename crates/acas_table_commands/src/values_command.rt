@@ -36,8 +36,8 @@ pub fn values<F: Folder, O: Sink>(
     }
 }
 
-// The layers of the compiled table.
-pub(crate) fn compiled_layers(alloc: Global, model: &Model) -> Result<Layers, AllocError>
+/// The layers of the compiled table of a model. It takes all its memory at the start.
+pub fn compiled_layers(alloc: Global, model: &Model) -> Result<Layers, AllocError>
     ensures { IfOk result (λ layers. AreLayers model.now layers) }
 {
     // By the model's limits a table takes fewer backups than the counter holds.

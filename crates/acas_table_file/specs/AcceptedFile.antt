@@ -1,18 +1,37 @@
 -- What reading a table's file answers, to any command that goes on from there.
-use Rattle.std.specs.Prelude.{◌≡◌, ℕ, List, Option, IsSomeAnd}
+use Rattle.std.specs.Prelude.{◌≡◌, ℕ, List, Option, None, Some}
 use Rattle.std.specs.FinMap.{get}
 use Rattle.acas_spec.specs.Model.{ModelData}
+use Rattle.acas_base.specs.Advices.{AdvicesData, AreAdvices, AreAdvicesOf}
+use Rattle.acas_outside.specs.Bytes.{IsBytes}
+use Rattle.acas_outside.specs.Files.{Files}
 use Rattle.acas_outside.specs.Outside.{Outside}
+use Rattle.acas_accept.specs.Answers.{HasAdvices}
+use Rattle.acas_accept.specs.Refusals.{first_refusal}
 use Rattle.acas_command.specs.Answers.{Answers}
+use Rattle.acas_command.specs.Called.{calls_for}
+use Rattle.acas_command.specs.ModelFile.{IsModelFile}
 use Rattle.acas_table_file.specs.Calls.{with_table}
 use Rattle.acas_command.specs.Outcome.{Outcome}
 use Rattle.acas_command.specs.declared.status.Cause.{Cause}
 
--- whatever goes on from the table's file goes on with its bytes
-abbrev pub IsTableFile : ModelData → List ℕ → Option (List ℕ) → Type 0
-IsTableFile model digest file = IsSomeAnd file (λ bytes. (rest : List ℕ → Outcome) → with_table model digest file rest ≡ rest bytes)
+-- the file is an accepted table of the model whose text has this digest, and these are its advices with at least one second to go
+pub record IsTableFile (model : ModelData) (digest : List ℕ) (file : Option (List ℕ)) (advices : AdvicesData) : Type 0 where
+  pub bytes : List ℕ
+  pub there : file ≡ Some bytes
+  pub accepted : first_refusal model digest bytes ≡ None
+  pub whole : IsBytes bytes
+  pub held : HasAdvices model bytes advices
 
--- whatever goes on from the table's file is answered so, and leaves the output as it was
+-- M is the file of a model, T that of an accepted table of it, and these are the table's advices
+pub record IsTableOf (model table : List ℕ) (files : Files) (m : ModelData) (advices : AdvicesData) : Type 0 where
+  pub digest : List ℕ
+  pub model_file : IsModelFile (get files model) digest m
+  pub table_file : IsTableFile m digest (get files table) advices
+  pub fits : AreAdvicesOf m advices
+  pub known : AreAdvices advices
+
+-- whatever goes on from the table's file, to other files or not, is answered so, and leaves the output as it was
 abbrev pub RefusesTable : ModelData → List ℕ → List ℕ → Cause → (Option (List ℕ) → ℕ → Outside) → (Option (List ℕ) → ℕ → Outside) → Type 0
-RefusesTable model digest name cause before after = (rest : List ℕ → Outcome) (written : Option (List ℕ)) (output_faults : ℕ) →
-    Answers (λ files outcome. outcome ≡ with_table model digest (get files name) rest) cause (before written output_faults) (after written output_faults)
+RefusesTable model digest name cause before after = (rest : Files → List ℕ → Outcome) (written : Option (List ℕ)) (output_faults : ℕ) →
+    Answers (calls_for (λ files. with_table model digest (get files name) (rest files))) cause (before written output_faults) (after written output_faults)

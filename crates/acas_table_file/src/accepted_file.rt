@@ -1,9 +1,9 @@
 //! The file of a table that is read.
-ghost use Rattle.std.specs.Prelude.{◌≡◌, ◌≢◌, IsTrue, IfOk, IfErr, IsErrOf, IsSomeAnd, OnOk};
+ghost use Rattle.std.specs.Prelude.{◌≡◌, IsTrue, IfOk, IfErr, IsErrOf};
 ghost use Rattle.acas_base.specs.Advices.{AreAdvicesOf};
-ghost use Rattle.acas_outside.specs.Bytes.{IsBytes};
 ghost use Rattle.acas_outside.specs.Files.{Given};
 ghost use Rattle.acas_outside.specs.Frame.{OnlyReads};
+ghost use Rattle.acas_command.specs.Answers.{EndsLooking};
 ghost use Rattle.acas_table_file.specs.AcceptedFile.{IsTableFile, RefusesTable};
 ghost use Rattle.acas_command.specs.Outside.{beside};
 
@@ -21,12 +21,11 @@ pub fn read_table_file<F: Folder>(
     folder: &mut F,
 ) -> Result<Advices, Cause>
     requires { IsTrue (F.serves folder.old name.now) }
-    ensures ok { OnOk result (Given (F.holds folder.old) name.now (λ file. IsTableFile found.now.model found.now.digest file)) }
+    ensures ok { IfOk result (λ advices. Given (F.holds folder.old) name.now (λ file. IsTableFile found.now.model found.now.digest file advices)) }
     ensures advices { IfOk result (λ advices. AreAdvicesOf found.now.model advices) }
-    ensures bytes { OnOk result (Given (F.holds folder.old) name.now (λ file. IsSomeAnd file IsBytes)) }
     ensures err { IfErr result (λ cause. RefusesTable found.now.model found.now.digest name.now cause
         (beside F.Folder folder.old) (beside F.Folder folder.new)) }
-    ensures refused { IfErr result (λ cause. cause ≢ Cause.Done) }
+    ensures refused { IfErr result EndsLooking }
     ensures frame { OnlyReads F.Folder folder.old folder.new
         (IsErrOf result Cause.Folder) (IsErrOf result (Cause.Absent FileRole.Table)) }
 {

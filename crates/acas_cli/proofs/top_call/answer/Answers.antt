@@ -1,5 +1,8 @@
 use Rattle.acas_outside.specs.Outside.{Outside, outside}
-use Rattle.acas_command.specs.Answers.{ended}
+use Rattle.acas_command.specs.Answers.{ended, report_ended}
+use Rattle.acas_audit_commands.proofs.Worth.{audit-worth, regions-worth}
+use Rattle.acas_drill.proofs.Worth.{drill-worth}
+use Rattle.acas_encounter_commands.proofs.Worth.{replay-worth}
 use Rattle.acas_table_commands.proofs.Worth.{check-worth, compile-worth, values-worth}
 use Rattle.acas_cli.proofs.top_call.answer.Goals as goal
 
@@ -22,3 +25,36 @@ returns-in-Check-clause-headline g c =
     let after : Outside = outside g.F.Folder g.O.Sink c.check.new.folder c.check.new.out in
     rw (c.in-Check.is, c.cause_of-in-Check.ensures)
     (check-worth c.in-Check.model.now c.in-Check.table.now (ended c.check.result) before after c.check.ensures.answers c.check.ensures.bytes)
+
+pub returns-in-Audit-clause-headline : goal.returns-in-Audit-clause-headline
+returns-in-Audit-clause-headline g c =
+    let before : Outside = outside g.F.Folder g.O.Sink c.args.folder.now c.args.out.now in
+    let after : Outside = outside g.F.Folder g.O.Sink c.audit.new.folder c.audit.new.out in
+    rw (c.in-Audit.is, c.cause_of_report.ensures)
+    (audit-worth c.in-Audit.model.now c.in-Audit.table.now c.in-Audit.which (report_ended c.audit.result) before after c.audit.ensures.answers)
+
+pub returns-in-Regions-clause-headline : goal.returns-in-Regions-clause-headline
+returns-in-Regions-clause-headline g c =
+    let before : Outside = outside g.F.Folder g.O.Sink c.args.folder.now c.args.out.now in
+    let after : Outside = outside g.F.Folder g.O.Sink c.regions.new.folder c.regions.new.out in
+    rw (c.in-Regions.is, c.cause_of_report-in-Regions.ensures)
+    (regions-worth c.in-Regions.model.now c.in-Regions.boxes.now (report_ended c.regions.result) before after c.regions.ensures.answers)
+
+pub returns-in-Replay-clause-headline : goal.returns-in-Replay-clause-headline
+returns-in-Replay-clause-headline g c =
+    let before : Outside = outside g.F.Folder g.O.Sink c.args.folder.now c.args.out.now in
+    let after : Outside = outside g.F.Folder g.O.Sink c.replay.new.folder c.replay.new.out in
+    rw (c.in-Replay.is, c.cause_of-in-Replay.ensures)
+    (replay-worth c.in-Replay.model.now c.in-Replay.table.now c.in-Replay.encounter.now (ended c.replay.result) before after c.replay.ensures.answers)
+
+pub returns-in-Drill-clause-headline : goal.returns-in-Drill-clause-headline
+returns-in-Drill-clause-headline g c =
+    let before : Outside = outside g.F.Folder g.O.Sink c.args.folder.now c.args.out.now in
+    let after : Outside = outside g.F.Folder g.O.Sink c.args.folder.now c.drill.new.out in
+    rw (c.in-Drill.is, c.cause_of_report-in-Drill.ensures)
+    (drill-worth c.in-Drill.number (report_ended c.drill.result) before after c.drill.ensures.ends (c.drill.ensures.answers before))
+
+pub returns-in-Drill-clause-answers : goal.returns-in-Drill-clause-answers
+returns-in-Drill-clause-answers g c =
+    let before : Outside = outside g.F.Folder g.O.Sink c.args.folder.now c.args.out.now in
+    rw (c.in-Drill.is, c.cause_of_report-in-Drill.ensures) (c.drill.ensures.answers before)

@@ -1,5 +1,6 @@
-use Rattle.std.proofs.Common.{Option, ◌≡◌, ◌⊎◌, refl, subst, ◌∙◌, rules}
+use Rattle.std.proofs.Common.{Option, ◌≡◌, ◌⊎◌, refl, subst, rules}
 use Rattle.std.proofs.lemmas.Result.{err_from_is_err_and}
+use Rattle.std.specs.FinMap.{get}
 use Rattle.acas_outside.specs.Bytes.{Appends, AppendsPart}
 use Rattle.acas_outside.specs.Counts.{Rose}
 use Rattle.acas_outside.specs.Files.{Files, Stores, StoresPart}
@@ -7,7 +8,7 @@ use Rattle.acas_outside.specs.Outside.{Outside, outside}
 use Rattle.acas_command.specs.Outcome.{stores}
 use Rattle.acas_command.proofs.Behind.{answers-done, answers-folder, answers-output, told-part, told-stored}
 use Rattle.acas_command.proofs.Files.{called-model}
-use Rattle.acas_table_commands.specs.Calls.{CallsForCompile}
+use Rattle.acas_table_commands.specs.Calls.{compile_of}
 use Rattle.acas_table_commands.specs.CompiledLine.{compiled_line}
 use Rattle.acas_table_commands.specs.TableFile.{compiled_text}
 use Rattle.acas_table_commands.proofs.Worth.{rest_of_compile}
@@ -26,7 +27,7 @@ returns-in-Err-clause-answers g c =
     let before : Outside = outside g.F.Folder g.O.Sink c.args.folder.now c.args.out.now in
     let after : Outside = outside g.F.Folder g.O.Sink c.store_table.new.folder c.args.out.now in
     let rose : Rose before.faults after.faults = search rules in
-    answers-folder (CallsForCompile c.args.model.now table) (stores table (compiled_text digest m) (compiled_line m.grid)) before after
+    answers-folder (λ files. compile_of (get files c.args.model.now) table) (stores table (compiled_text digest m) (compiled_line m.grid)) before after
     (called-model before.holds c.args.model.now digest m (λ files d n. rest_of_compile table d n) c.in_ok-found.ensures.ok)
     (told-part before.holds after.holds table (compiled_text digest m)
     (subst (λ (h : Option Files). (after.holds ≡ h) ⊎ StoresPart h after.holds table (compiled_text digest m)) c.read_model_file.ensures.frame.holds c.in-Err.ensures.err)) refl rose
@@ -39,7 +40,7 @@ returns-in-Ok-emit-clause-answers g c =
     let before : Outside = outside g.F.Folder g.O.Sink c.args.folder.now c.args.out.now in
     let after : Outside = outside g.F.Folder g.O.Sink c.store_table.new.folder c.emit.new.sink in
     let printed : Appends (g.O.Sink.written c.args.out.now) (g.O.Sink.written c.emit.new.sink) (compiled_line m.grid) = search rules in
-    answers-done (CallsForCompile c.args.model.now table) (stores table (compiled_text digest m) (compiled_line m.grid)) before after
+    answers-done (λ files. compile_of (get files c.args.model.now) table) (stores table (compiled_text digest m) (compiled_line m.grid)) before after
     (called-model before.holds c.args.model.now digest m (λ files d n. rest_of_compile table d n) c.in_ok-found.ensures.ok) refl
     (told-stored before.holds after.holds table (compiled_text digest m)
     (subst (λ (h : Option Files). Stores h after.holds table (compiled_text digest m)) c.read_model_file.ensures.frame.holds c.in-Ok.ensures.ok)) printed
@@ -53,7 +54,7 @@ returns-clause-answers g c =
     let after : Outside = outside g.F.Folder g.O.Sink c.store_table.new.folder c.emit.new.sink in
     let part : AppendsPart (g.O.Sink.written c.args.out.now) (g.O.Sink.written c.emit.new.sink) (compiled_line m.grid) = search rules in
     let rose : Rose before.output_faults after.output_faults = search rules in
-    answers-output (CallsForCompile c.args.model.now table) (stores table (compiled_text digest m) (compiled_line m.grid)) before after
+    answers-output (λ files. compile_of (get files c.args.model.now) table) (stores table (compiled_text digest m) (compiled_line m.grid)) before after
     (called-model before.holds c.args.model.now digest m (λ files d n. rest_of_compile table d n) c.in_ok-found.ensures.ok) tt
     (told-stored before.holds after.holds table (compiled_text digest m)
     (subst (λ (h : Option Files). Stores h after.holds table (compiled_text digest m)) c.read_model_file.ensures.frame.holds c.in-Ok.ensures.ok)) part rose

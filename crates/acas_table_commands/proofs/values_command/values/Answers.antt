@@ -1,10 +1,11 @@
-use Rattle.std.proofs.Common.{refl, ◌∙◌}
+use Rattle.std.proofs.Common.{refl}
 use Rattle.std.proofs.lemmas.Result.{err_from_is_err_and}
+use Rattle.std.specs.FinMap.{get}
 use Rattle.acas_outside.specs.Outside.{Outside, outside}
 use Rattle.acas_command.specs.Outcome.{prints}
 use Rattle.acas_command.proofs.Behind.{answers-done, answers-output, told-kept}
 use Rattle.acas_command.proofs.Files.{called-model}
-use Rattle.acas_table_commands.specs.Calls.{CallsForValues}
+use Rattle.acas_table_commands.specs.Calls.{values_of}
 use Rattle.acas_table_commands.specs.ValuesText.{values_text}
 use Rattle.acas_table_commands.proofs.Worth.{rest_of_values}
 use Rattle.acas_table_commands.proofs.values_command.values.Goals as goal
@@ -19,7 +20,7 @@ returns-in-Ok-clause-answers g c =
     let m = c.in_ok-found.found.model in
     let before : Outside = outside g.F.Folder g.O.Sink c.args.folder.now c.args.out.now in
     let after : Outside = outside g.F.Folder g.O.Sink c.read_model_file.new.folder c.print_table.new.out in
-    answers-done (CallsForValues c.args.model.now) (prints (values_text m)) before after
+    answers-done (λ files. values_of (get files c.args.model.now)) (prints (values_text m)) before after
     (called-model before.holds c.args.model.now c.in_ok-found.found.digest m (λ files digest n. rest_of_values digest n) c.in_ok-found.ensures.ok) refl
     (told-kept before.holds after.holds c.read_model_file.ensures.frame.holds) c.in-Ok.ensures.ok
 
@@ -28,6 +29,6 @@ returns-clause-answers g c =
     let m = c.in_ok-found.found.model in
     let before : Outside = outside g.F.Folder g.O.Sink c.args.folder.now c.args.out.now in
     let after : Outside = outside g.F.Folder g.O.Sink c.read_model_file.new.folder c.print_table.new.out in
-    answers-output (CallsForValues c.args.model.now) (prints (values_text m)) before after
+    answers-output (λ files. values_of (get files c.args.model.now)) (prints (values_text m)) before after
     (called-model before.holds c.args.model.now c.in_ok-found.found.digest m (λ files digest n. rest_of_values digest n) c.in_ok-found.ensures.ok) tt
     (told-kept before.holds after.holds c.read_model_file.ensures.frame.holds) c.in-Err.ensures.err (c.in-Err.ensures.frame.fault refl)

@@ -1,0 +1,3 @@
+mod Files
+pub mod Verdicts
+pub mod Worth

@@ -1,0 +1,76 @@
+use Rattle.std.proofs.Common.{refl, ◌∙◌, Option, inr, subst, arith, []}
+use Rattle.std.specs.FinMap.{get}
+use Rattle.std.proofs.lemmas.Result.{err_from_is_err_and}
+use Rattle.acas_base.specs.Advices.{AreAdvices}
+use Rattle.acas_outside.specs.Files.{Files, Given}
+use Rattle.acas_outside.specs.Outside.{Outside, outside}
+use Rattle.acas_command.specs.Called.{calls_for}
+use Rattle.acas_command.specs.Outcome.{prints, report_cause, reports}
+use Rattle.acas_command.proofs.Behind.{answers-behind, answers-printed, told-both, told-kept, told-map}
+use Rattle.acas_command.proofs.Reports.{answers-refer, may_print-report_cause, told-all}
+use Rattle.acas_table_file.specs.AcceptedFile.{IsTableFile}
+use Rattle.acas_table_file.specs.Calls.{with_table}
+use Rattle.acas_audit_commands.specs.Calls.{CallsForAudit, audit_looks_at}
+use Rattle.acas_audit_commands.proofs.Files.{audit-behind_model, audit-refers}
+use Rattle.acas_audit_commands.proofs.audit_command.audit.Goals as goal
+
+pub returns-in_err-found-clause-answers : goal.returns-in_err-found-clause-answers
+returns-in_err-found-clause-answers g c =
+    let model = c.args.model.now in
+    let table = c.args.table.now in
+    let before : Outside = outside g.F.Folder g.O.Sink c.args.folder.now c.args.out.now in
+    let after : Outside = outside g.F.Folder g.O.Sink c.read_model_file.new.folder c.args.out.now in
+    let p = err_from_is_err_and c.from_residual.result c.from_residual.ensures.1 in
+    rw (p.1, p.2)
+    (answers-refer (calls_for (audit_looks_at model table)) (CallsForAudit model table c.args.which) c.in_err-found.field-0.0 before after c.in_err-found.ensures.refused
+    (told-all before.holds _ (λ files. audit-refers model table c.args.which files (audit_looks_at model table) refl))
+    (c.in_err-found.ensures.err (λ files digest m. with_table m digest (get files table) (λ bytes. prints [])) _ _))
+
+pub returns-in_err-advices-clause-answers : goal.returns-in_err-advices-clause-answers
+returns-in_err-advices-clause-answers g c =
+    let m = c.in_ok-found.found.model in
+    let digest = c.in_ok-found.found.digest in
+    let model = c.args.model.now in
+    let table = c.args.table.now in
+    let before : Outside = outside g.F.Folder g.O.Sink c.args.folder.now c.args.out.now in
+    let mid : Outside = outside g.F.Folder g.O.Sink c.read_model_file.new.folder c.args.out.now in
+    let after : Outside = outside g.F.Folder g.O.Sink c.read_table_file.new.folder c.args.out.now in
+    let frame = c.read_model_file.ensures.frame in
+    let p = err_from_is_err_and c.from_residual-in_err-advices.result c.from_residual-in_err-advices.ensures.1 in
+    rw (p.1, p.2)
+    (answers-behind (calls_for (λ files. with_table m digest (get files table) (λ bytes. prints []))) (CallsForAudit model table c.args.which) c.in_err-advices.field-0.0 before mid after
+    c.in_err-advices.ensures.refused
+    (record { holds = frame.holds; written = refl; misses = frame.misses; taken = frame.taken; faults = frame.faults; output_faults = omega arith })
+    (told-map before.holds _ _
+    (λ files is. audit-refers model table c.args.which files (λ fs. with_table m digest (get fs table) (λ bytes. prints [])) (audit-behind_model model table digest m files is))
+    c.in_ok-found.ensures.ok)
+    (c.in_err-advices.ensures.err (λ files bytes. prints []) _ _))
+
+pub returns-in-Ok-clause-answers : goal.returns-in-Ok-clause-answers
+returns-in-Ok-clause-answers g c =
+    let m = c.in_ok-found.found.model in
+    let digest = c.in_ok-found.found.digest in
+    let model = c.args.model.now in
+    let table = c.args.table.now in
+    let advices = c.in_ok-advices.advices in
+    let counts = c.in-Ok.counts in
+    let r = c.in-Ok.ensures.report in
+    let before : Outside = outside g.F.Folder g.O.Sink c.args.folder.now c.args.out.now in
+    let after : Outside = outside g.F.Folder g.O.Sink c.read_table_file.new.folder c.write_report.new.sink in
+    let accepted : Given before.holds table (λ file. IsTableFile m digest file advices) =
+    subst (λ (h : Option Files). Given h table (λ file. IsTableFile m digest file advices)) c.read_model_file.ensures.frame.holds c.in_ok-advices.ensures.ok in
+    answers-printed (CallsForAudit model table c.args.which) (report_cause counts.reported) (reports counts.reported r.0) before after (may_print-report_cause counts.reported)
+    (told-both before.holds _ _ _ (λ files is_model is_table. inr (record {
+      reported = counts.reported;
+      text = r.0;
+      report = record {
+        m = m;
+        advices = advices;
+        advised = record { digest = digest; model_file = is_model; table_file = is_table; fits = c.in_ok-advices.ensures.advices; known = subst AreAdvices c.advices.view_is c.advices.invariant };
+        counts = counts;
+        report = r.1;
+        count = refl;
+      };
+      is = refl;
+    })) c.in_ok-found.ensures.ok accepted) refl
+    (told-kept before.holds after.holds (c.read_table_file.ensures.frame.holds ∙ c.read_model_file.ensures.frame.holds)) r.2

@@ -1,0 +1,96 @@
+-- What `audit` and `regions` are worth, in the words of the subject, over a folder that tells its files.
+use Rattle.std.specs.Prelude.{◌≡◌, ℕ, ◌≤◌, List, length, Some, ⊤}
+use Rattle.std.specs.FinMap.{get}
+use Rattle.sha2.specs.Sha256.{sha256}
+use Rattle.acas_units.specs.declared.limits.TheConstants.{TEXT_BYTES}
+use Rattle.acas_spec.specs.Model.{ModelData}
+use Rattle.acas_spec.specs.Table.{Table}
+use Rattle.acas_base.specs.Advices.{AdvicesData}
+use Rattle.acas_outside.specs.Bytes.{Appends}
+use Rattle.acas_outside.specs.Files.{Files}
+use Rattle.acas_outside.specs.Outside.{Outside}
+use Rattle.acas_accept.specs.Accepted.{IsAcceptedTable}
+use Rattle.acas_input.specs.declared.fault.InputFault.{InputFault}
+use Rattle.acas_flight.specs.State.{IsInBox, IsInCell}
+use Rattle.acas_cell.specs.Boxes.{AuditedBox, box_at}
+use Rattle.acas_cell.specs.Corners.{advisory_cells}
+use Rattle.acas_cell.specs.Rulings.{IsRuling}
+use Rattle.acas_cell.specs.declared.name.CellName.{CellName}
+use Rattle.acas_cell.specs.declared.ruling.Ruling.{Ruling}
+use Rattle.acas_boxes.specs.Text.{IsBoxesText}
+use Rattle.acas_report.specs.Regions.{places, regions_text}
+use Rattle.acas_report.specs.Report.{IsReportOn, clear_cells, report_text}
+use Rattle.acas_report.specs.declared.counts.Counts.{Counts}
+use Rattle.acas_report.specs.declared.counts.Which.{Which}
+use Rattle.acas_table.specs.declared.refusal.TableRefusal.{TableRefusal}
+use Rattle.acas_command.specs.Called.{MayPrint}
+use Rattle.acas_command.specs.Outcome.{report_cause}
+use Rattle.acas_command.specs.Says.{SaysModel}
+use Rattle.acas_command.specs.Worth.{IsNotRefused}
+use Rattle.acas_command.specs.declared.status.Cause.{Cause}
+use Rattle.acas_command.specs.declared.status.Cause.TheVariants.{Input, Table as Refused}
+use Rattle.acas_table_file.specs.Worth.{RejectsTable, TellsAdvices}
+
+-- what a ruling says of a cell under an advice: certified, that it is not endangered; reported, that it is, and that the witness shows it
+abbrev pub IsVerdictOnCell : ModelData → CellName → Ruling → Type 0
+IsVerdictOnCell m name ruling = IsRuling m name.advice (IsInCell m name.n name.i name.j name.k) (λ w. ⊤) ruling
+
+-- the same of the box at a place
+abbrev pub IsVerdictOnBox : ModelData → List AuditedBox → ℕ → Ruling → Type 0
+IsVerdictOnBox m said place ruling = IsRuling m (box_at said place).advisory (IsInBox (box_at said place).states) (λ w. ⊤) ruling
+
+-- M says a model, T is the text of a table of it whose entries are all sound, and what was printed is a report of that table's advices:
+-- each of its advisory cells is ruled on, in order. The cause says whether one is reported.
+pub record PrintsAudit (model table : List ℕ) (which : Which) (files : Files) (cause : Cause) (before after : Outside) : Type 0 where
+  pub m : ModelData
+  pub advices : AdvicesData
+  pub advised : TellsAdvices model table files m advices
+  pub counts : Counts
+  pub text : List ℕ
+  pub report : IsReportOn (IsVerdictOnCell m) (advisory_cells m advices) (clear_cells m advices) (report_text m advices which) counts text
+  pub printed : Appends before.written after.written text
+  pub kept : after.holds ≡ Some files
+  pub reported : cause ≡ report_cause counts.reported
+
+-- M says a model, B says boxes beside it, and what was printed is a report of them: each is ruled on, in order. The cause says whether
+-- one is reported.
+pub record PrintsRegions (model boxes : List ℕ) (files : Files) (cause : Cause) (before after : Outside) : Type 0 where
+  pub bytes : List ℕ
+  pub m : ModelData
+  pub given : List ℕ
+  pub said : List AuditedBox
+  pub says : SaysModel files model bytes m
+  pub file : get files boxes ≡ Some given
+  pub short : length given ≤ TEXT_BYTES
+  pub boxes_text : IsBoxesText m given said
+  pub counts : Counts
+  pub text : List ℕ
+  pub report : IsReportOn (IsVerdictOnBox m said) (places said) 0 regions_text counts text
+  pub printed : Appends before.written after.written text
+  pub kept : after.holds ≡ Some files
+  pub reported : cause ≡ report_cause counts.reported
+
+-- M says a model, and B says no boxes beside it
+pub record RejectsBoxes (model boxes : List ℕ) (files : Files) : Type 0 where
+  pub bytes : List ℕ
+  pub m : ModelData
+  pub given : List ℕ
+  pub says : SaysModel files model bytes m
+  pub file : get files boxes ≡ Some given
+  pub none : (said : List AuditedBox) → IsBoxesText m given said → ⊥
+
+-- `audit M T`: what a run has printed that is done or reports, and what one has rejected that is refused as a table; and where M says a
+-- model and T is the text of a table of it whose entries are all sound, it is not refused
+pub record AuditIsWorth (model table : List ℕ) (which : Which) (files : Files) (cause : Cause) (before after : Outside) : Type 0 where
+  pub printed : MayPrint cause → PrintsAudit model table which files cause before after
+  pub refused : (refusal : TableRefusal) → cause ≡ Refused refusal → RejectsTable model table files
+  pub not_refused : (bytes given : List ℕ) (m : ModelData) (t : Table) → SaysModel files model bytes m → get files table ≡ Some given
+      → IsAcceptedTable m (sha256 bytes) given t → IsNotRefused cause before after
+
+-- `regions M B`: what a run has printed that is done or reports, and what one has rejected that is refused as boxes; and where M says a
+-- model and B says boxes beside it, it is not refused
+pub record RegionsIsWorth (model boxes : List ℕ) (files : Files) (cause : Cause) (before after : Outside) : Type 0 where
+  pub printed : MayPrint cause → PrintsRegions model boxes files cause before after
+  pub refused : (fault : InputFault) → cause ≡ Input fault → RejectsBoxes model boxes files
+  pub not_refused : (bytes given : List ℕ) (m : ModelData) (said : List AuditedBox) → SaysModel files model bytes m → get files boxes ≡ Some given
+      → length given ≤ TEXT_BYTES → IsBoxesText m given said → IsNotRefused cause before after

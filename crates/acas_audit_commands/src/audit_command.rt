@@ -1,0 +1,38 @@
+//! The command `audit`.
+ghost use Rattle.std.specs.Prelude.{◌≤◌, IsErrOf, IsTrue};
+ghost use Rattle.acas_outside.specs.Frame.{ReadsAndWrites};
+ghost use Rattle.acas_outside.specs.Outside.{outside};
+ghost use Rattle.acas_command.specs.Answers.{Answers, report_ended};
+ghost use Rattle.acas_audit_commands.specs.Calls.{CallsForAudit};
+
+use acas_command::{Cause, read_model_file};
+use acas_outside::{Folder, Sink};
+use acas_report::{ReportFault, Which, write_report};
+use acas_table_file::read_table_file;
+use std::alloc::Global;
+
+/// Rules on each advisory cell of a table, once the whole table is accepted, and prints the report. It answers how many are reported.
+/// It keeps the table's advices, one byte each, and reads the table once.
+pub fn audit<F: Folder, O: Sink>(
+    alloc: Global,
+    model: &str,
+    table: &str,
+    which: Which,
+    folder: &mut F,
+    out: &mut O,
+) -> Result<u64, Cause>
+    requires model { IsTrue (F.serves folder.old model.now) }
+    requires table { IsTrue (F.serves folder.old table.now) }
+    ensures answers { Answers (CallsForAudit model.now table.now which) (report_ended result)
+        (outside F.Folder O.Sink folder.old out.old) (outside F.Folder O.Sink folder.new out.new) }
+    ensures folder { ReadsAndWrites F.Folder folder.old folder.new (IsErrOf result Cause.Folder) }
+    ensures output { O.faults out.old ≤ O.faults out.new }
+{
+    let found = read_model_file(alloc, model, folder)?;
+    let advices = read_table_file(alloc, &found, table, folder)?;
+    match write_report(alloc, &found.model, &advices, out, which) {
+        Ok(counts) => Ok(counts.reported),
+        Err(ReportFault::Sink) => Err(Cause::Output),
+        Err(ReportFault::Memory) => Err(Cause::Memory),
+    }
+}

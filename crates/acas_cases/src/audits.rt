@@ -1,0 +1,213 @@
+//! What `audit` prints of tables.
+use crate::runner::differences;
+use std::test::Fail;
+
+const CASES: &str = r##"
+# Under clear climb at the lower altitude and descend at the upper one; clear under the others.
+[[cases]]
+name = "a certified and a reported cell"
+files = [["c", "model c"], ["t", "compiled c", "values 10000000 -10000000", "spread 484 17 010101010202020200000000000000000000000000000000", "seal"]]
+runs = ["acas audit c t"]
+ends = ["1 reported"]
+output = """cell 0 clear 0 0 0 climb certified
+cell 0 clear 0 0 0 descend reported time 3 range 1000 speed 500 ticks -20400 own 0 intruder 0 response 3@-960
+certified 1 reported 1 clear 2
+"""
+
+[[cases]]
+name = "the reported cells alone, and all counts"
+files = [["c", "model c"], ["t", "compiled c", "values 10000000 -10000000", "spread 484 17 010101010202020200000000000000000000000000000000", "seal"]]
+runs = ["acas audit c t --reported"]
+ends = ["1 reported"]
+output = """cell 0 clear 0 0 0 descend reported time 3 range 1000 speed 500 ticks -20400 own 0 intruder 0 response 3@-960
+certified 1 reported 1 clear 2
+"""
+
+# With climb alone no cell is reported, and the certified line is left out where the reported ones are asked for.
+[[cases]]
+name = "a certified cell"
+files = [["c", "model c"], ["t", "compiled c", "values 10000000 -10000000", "spread 484 17 010101010101010100000000000000000000000000000000", "seal"]]
+runs = ["acas audit c t", "acas audit c t --reported"]
+ends = ["0 done", "0 done"]
+output = "cell 0 clear 0 0 0 climb certified\ncertified 1 reported 0 clear 2\ncertified 1 reported 0 clear 2\n"
+
+# One corner of eight is enough: the place of its advice, and the line.
+[[cases]]
+name = "an advice at any corner"
+files = [["c", "model c"], ["t", "compiled c", "values 10000000 -10000000", "put $1 01", "seal"]]
+rows = [["484"], ["501"], ["518"], ["535"], ["552"], ["569"], ["586"], ["603"]]
+runs = ["acas audit c t"]
+ends = ["0 done"]
+output = "cell 0 clear 0 0 0 climb certified\ncertified 1 reported 0 clear 2\n"
+
+# The present advisory of a cell is that of the table's state.
+[[cases]]
+name = "an advice under any present advisory"
+files = [["c", "model c"], ["t", "compiled c", "values 10000000 -10000000", "put $1 01", "seal"]]
+rows = [["484", "clear"], ["620", "climb"], ["756", "descend"]]
+runs = ["acas audit c t"]
+ends = ["0 done"]
+output = "cell 0 $2 0 0 0 climb certified\ncertified 1 reported 0 clear 2\n"
+
+[[cases]]
+name = "a table of no seconds has no cells"
+files = [["a", "model a"]]
+runs = ["acas compile a t", "acas audit a t", "acas audit a t --reported"]
+ends = ["0 done", "0 done", "0 done"]
+output = "compiled layers 1 states 16 bytes 364\ncertified 0 reported 0 clear 0\ncertified 0 reported 0 clear 0\n"
+after_sha256 = [["t", "4b30f2bc78f90332d83c772c3f339bc496bc0a8169b9380179b160cab56356b7"]]
+
+# Nothing costs anything but contact. All four advisories stand in patterns with 1, 2, 15, 20 and 30 seconds to go, and elsewhere what is
+# compiled: 1024 cells under an advice are ruled on.
+[[cases]]
+name = "the report of many cells"
+files = [["d", "model d", "replace costs = [0, 1, 1, 1] => costs = [0, 0, 0, 0]", "replace costs = [0, 1, 1, 1] => costs = [0, 0, 0, 0]", "replace costs = [0, 1, 1, 1] => costs = [0, 0, 0, 0]", "replace costs = [0, 1, 1, 1] => costs = [0, 0, 0, 0]"], [
+  "t",
+  "compiled d",
+  "values 1000000000 -1000000000",
+  "spread 1708 17 010203000102030001020300010203000102030001020300010203000102030001020300010203000102030001020300010203000102030001020300010203000102030001020300010203000102030001020300010203000102030001020300",
+  "spread 3340 17 000001000001000001000001000001000001000001000001000001000001000001000001000001000001000001000001000001000001000001000001000001000001000001000001000001000001000001000001000001000001000001000001",
+  "spread 24556 17 030000000003000000000300000000030000000003000000000300000000030000000003000000000300000000030000000003000000000300000000030000000003000000000300000000030000000003000000000300000000030000000003",
+  "spread 32716 17 020101030002010103000201010300020101030002010103000201010300020101030002010103000201010300020101030002010103000201010300020101030002010103000201010300020101030002010103000201010300020101030002",
+  "spread 49036 17 000102030001020300010203000102030001020300010203000102030001020300010203000102030001020300010203000102030001020300010203000102030001020300010203000102030001020300010203000102030001020300010203",
+  "seal",
+]]
+runs = ["acas audit d t"]
+ends = ["1 reported"]
+output_length = 108792
+output_sha256 = "4b1a7732b73694b3ae1dae872d4d445aeb975c8f67229fd331a96d079b6dc608"
+
+[[cases]]
+name = "the reported ones of many cells"
+files = [["d", "model d", "replace costs = [0, 1, 1, 1] => costs = [0, 0, 0, 0]", "replace costs = [0, 1, 1, 1] => costs = [0, 0, 0, 0]", "replace costs = [0, 1, 1, 1] => costs = [0, 0, 0, 0]", "replace costs = [0, 1, 1, 1] => costs = [0, 0, 0, 0]"], [
+  "t",
+  "compiled d",
+  "values 1000000000 -1000000000",
+  "spread 1708 17 010203000102030001020300010203000102030001020300010203000102030001020300010203000102030001020300010203000102030001020300010203000102030001020300010203000102030001020300010203000102030001020300",
+  "spread 3340 17 000001000001000001000001000001000001000001000001000001000001000001000001000001000001000001000001000001000001000001000001000001000001000001000001000001000001000001000001000001000001000001000001",
+  "spread 24556 17 030000000003000000000300000000030000000003000000000300000000030000000003000000000300000000030000000003000000000300000000030000000003000000000300000000030000000003000000000300000000030000000003",
+  "spread 32716 17 020101030002010103000201010300020101030002010103000201010300020101030002010103000201010300020101030002010103000201010300020101030002010103000201010300020101030002010103000201010300020101030002",
+  "spread 49036 17 000102030001020300010203000102030001020300010203000102030001020300010203000102030001020300010203000102030001020300010203000102030001020300010203000102030001020300010203000102030001020300010203",
+  "seal",
+]]
+runs = ["acas audit d t --reported"]
+ends = ["1 reported"]
+output_length = 100724
+output_sha256 = "9e20f96c97e9abf0dbf6a8f0f2adf5f664a816ae8b3f54d5e714700f239d92e6"
+
+# The whole table is accepted before a line goes out: its last value, its last advice and its last digit are looked at.
+[[cases]]
+name = "refused tables"
+files = [["c", "model c"], ["t", "compiled c", "values 10000000 -10000000", "spread 484 17 010101010202020200000000000000000000000000000000", "seal", "$1"]]
+rows = [
+  ["put 875 03", "layer 1 state 23 byte 3"],
+  ["cut 907", "length 907 of 908"],
+  ["cut 3", "length 3 of 908"],
+  ["text  ", "length 909 of 908"],
+  ["put 0 42", "magic"],
+  ["put 40 03", "shape 0 is 3 not 2"],
+]
+runs = ["acas audit c t"]
+ends = ["5 table"]
+error = "acas: table refused: $2\n"
+
+[[cases]]
+name = "an entry that is not sound"
+files = [["c", "model c"], ["t", "compiled c", "values 10000000 -10000000", "upper 1 23 -1", "seal"]]
+runs = ["acas audit c t --reported"]
+ends = ["5 table"]
+error = "acas: table refused: layer 1 state 23 upper -0.000001 under 10.000000\n"
+
+[[cases]]
+name = "a table of another model"
+files = [["c", "model c"], ["other", "model c", "text # another text\n"], ["t", "compiled other"]]
+runs = ["acas audit other t", "acas audit c other"]
+ends = ["0 done", "5 table"]
+output = "certified 0 reported 0 clear 3\n"
+error = "acas: table refused: magic\n"
+
+# Files are looked at in order: the model first.
+[[cases]]
+name = "an absent table"
+files = [["c", "model c"]]
+rows = [["acas audit c t"], ["acas audit c t --reported"]]
+runs = ["$1"]
+ends = ["3 absent table"]
+error = "acas: absent: t\n"
+
+[[cases]]
+name = "an absent model before an absent table"
+runs = ["acas audit c t"]
+ends = ["3 absent model"]
+error = "acas: absent: c\n"
+
+[[cases]]
+name = "a refused model before an absent table"
+files = [["c", "text version = 1"]]
+runs = ["acas audit c t"]
+ends = ["4 model"]
+error = "acas: model refused: key horizon missing\n"
+
+# The words behind `audit` are two names, and then nothing or the option.
+[[cases]]
+name = "words of an audit"
+files = [["c", "model c"]]
+rows = [
+  ["acas audit"],
+  ["acas audit c"],
+  ["acas audit --reported c t"],
+  ["acas audit c --reported"],
+  ["acas audit c t --report"],
+  ["acas audit c t --Reported"],
+  ["acas audit c t ''"],
+  ["acas audit c t --reported --reported"],
+  ["acas audit -c t"],
+  ["acas check c t --reported"],
+  ["acas regions c"],
+  ["acas regions c b --reported"],
+  ["acas regions c -b"],
+  ["acas Audit c t"],
+]
+runs = ["$1"]
+ends = ["2 words"]
+error = "acas: words refused\n"
+
+# A read gives the whole text or table, and another finds its end. One write prints all three lines; or there is one for each byte.
+[[cases]]
+name = "each call of an audit"
+files = [["c", "model c"], ["t", "compiled c", "values 10000000 -10000000", "spread 484 17 010101010202020200000000000000000000000000000000", "seal"]]
+most = "4096"
+runs = ["acas audit c t"]
+ends = ["1 reported"]
+output = """cell 0 clear 0 0 0 climb certified
+cell 0 clear 0 0 0 descend reported time 3 range 1000 speed 500 ticks -20400 own 0 intruder 0 response 3@-960
+certified 1 reported 1 clear 2
+"""
+each_call = [4, 0, 0, 1, 0]
+
+# The write that fails, and what is printed, at seven bytes a call.
+[[cases]]
+name = "a failing write of an audit"
+files = [["c", "model c"], ["t", "compiled c", "values 10000000 -10000000", "spread 484 17 010101010202020200000000000000000000000000000000", "seal"]]
+most = "7"
+failing = ["write $1"]
+rows = [
+  ["0", ""],
+  ["1", "cell 0 "],
+  ["5", "cell 0 clear 0 0 0 climb certified\n"],
+  ["24", """cell 0 clear 0 0 0 climb certified
+cell 0 clear 0 0 0 descend reported time 3 range 1000 speed 500 ticks -20400 own 0 intruder 0 response 3@-960
+certified 1 reported 1 """],
+]
+runs = ["acas audit c t"]
+ends = ["8 output"]
+output = "$2"
+error = "acas: output failed\n"
+"##;
+
+#[test]
+fn audits(rt: HostRuntime) -> Result<(), Fail> {
+    let found = differences(rt.alloc(), CASES)?;
+    assert_eq!(rt; found.as_str(), "");
+    Ok(())
+}

@@ -1,0 +1,54 @@
+//! What `drill` prints of numbers.
+use crate::runner::differences;
+use std::test::Fail;
+
+const CASES: &str = r##"
+# The table has 7 * 13 * 5 * 5 states and 11 layers. No call is made on the folder: a read that is to fail is none of the drill's.
+[[cases]]
+name = "the drill of 0"
+failing = ["read 0"]
+runs = ["acas drill 0"]
+ends = ["1 reported"]
+output = "drill 0 states 2275 entries 25025 bytes 425517\naccepted\ncertified 6342 reported 5978 clear 5012\n"
+
+# The write that fails, and what is printed, at seven bytes a call.
+[[cases]]
+name = "a failing write of a drill"
+most = "7"
+failing = ["write $1"]
+rows = [["0", ""], ["7", "drill 0 states 2275 entries 25025 bytes 425517\nac"]]
+runs = ["acas drill 0"]
+ends = ["8 output"]
+output = "$2"
+error = "acas: output failed\n"
+
+# A number is written in digits, without a sign or leading zeros, and is at most 999999999.
+[[cases]]
+name = "words of no drill"
+rows = [
+  ["acas drill"],
+  ["acas drill ''"],
+  ["acas drill 00"],
+  ["acas drill 07"],
+  ["acas drill +7"],
+  ["acas drill -7"],
+  ["acas drill 7a"],
+  ["acas drill 7.0"],
+  ["acas drill ' 7'"],
+  ["acas drill 1000000000"],
+  ["acas drill 4294967296"],
+  ["acas drill 18446744073709551616"],
+  ["acas drill 7 7"],
+  ["acas Drill 7"],
+]
+runs = ["$1"]
+ends = ["2 words"]
+error = "acas: words refused\n"
+"##;
+
+#[test]
+fn drills(rt: HostRuntime) -> Result<(), Fail> {
+    let found = differences(rt.alloc(), CASES)?;
+    assert_eq!(rt; found.as_str(), "");
+    Ok(())
+}

@@ -1,0 +1,10 @@
+use Rattle.std.proofs.lemmas.Result.{err_from_is_err_and}
+use Rattle.sha2.specs.Sha256.{sha256}
+use Rattle.acas_model.specs.Whole.{model_of}
+use Rattle.acas_command.specs.Calls.{with_reading}
+use Rattle.acas_command.proofs.model_file.read_model_file.Goals as goal
+
+pub returns-in_err-bytes-clause-err : goal.returns-in_err-bytes-clause-err
+returns-in_err-bytes-clause-err g c =
+    let p = err_from_is_err_and c.from_residual.result c.from_residual.ensures.1 in
+    rw (p.1, p.2) (λ rest written output_faults. c.in_err-bytes.ensures.err (λ files bytes. with_reading (model_of bytes) (rest files (sha256 bytes))) written output_faults)

@@ -1,0 +1,7 @@
+//! The command on encounters: `replay` flies one under the advice of a table.
+#![tactic(auto)]
+
+mod encounter_file;
+mod replay_command;
+
+pub use replay_command::replay;

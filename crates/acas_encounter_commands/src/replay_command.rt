@@ -1,0 +1,41 @@
+//! The command `replay`.
+ghost use Rattle.std.specs.Prelude.{◌≤◌, IsErrOf, IsTrue};
+ghost use Rattle.acas_outside.specs.Frame.{ReadsAndWrites};
+ghost use Rattle.acas_outside.specs.Outside.{outside};
+ghost use Rattle.acas_command.specs.Answers.{Answers, ended};
+ghost use Rattle.acas_encounter_commands.specs.Calls.{CallsForReplay};
+
+use crate::encounter_file::read_encounter_file;
+use acas_command::{Cause, read_model_file};
+use acas_outside::{Folder, Sink};
+use acas_replay::ReplayFault;
+use acas_table_file::read_table_file;
+use std::alloc::Global;
+
+/// Flies an encounter under the advice of a table, once the whole table is accepted, and prints what is issued in each second and
+/// whether the second is in contact.
+pub fn replay<F: Folder, O: Sink>(
+    alloc: Global,
+    model: &str,
+    table: &str,
+    encounter: &str,
+    folder: &mut F,
+    out: &mut O,
+) -> Result<(), Cause>
+    requires model { IsTrue (F.serves folder.old model.now) }
+    requires table { IsTrue (F.serves folder.old table.now) }
+    requires encounter { IsTrue (F.serves folder.old encounter.now) }
+    ensures answers { Answers (CallsForReplay model.now table.now encounter.now) (ended result)
+        (outside F.Folder O.Sink folder.old out.old) (outside F.Folder O.Sink folder.new out.new) }
+    ensures folder { ReadsAndWrites F.Folder folder.old folder.new (IsErrOf result Cause.Folder) }
+    ensures output { O.faults out.old ≤ O.faults out.new }
+{
+    let found = read_model_file(alloc, model, folder)?;
+    let advices = read_table_file(alloc, &found, table, folder)?;
+    let flown = read_encounter_file(alloc, &found.model, encounter, folder)?;
+    match acas_replay::replay(alloc, &found.model, &advices, &flown, out) {
+        Ok(_) => Ok(()),
+        Err(ReplayFault::Sink) => Err(Cause::Output),
+        Err(ReplayFault::Memory) => Err(Cause::Memory),
+    }
+}
