@@ -1,7 +1,7 @@
 -- The calls of one kind, of which some are to fail.
 use Rattle.std.specs.Prelude.{ℕ, List, Contains}
 use Rattle.acas_outside.specs.Counts.{raised}
-use Rattle.acas_outside.specs.declared.calls.Calls.{Calls}
+use Rattle.acas_outside.specs.declared.listed_calls.ListedCalls.{ListedCalls}
 
 pub record CallState : Type 0 where
   -- the numbers of those that are to fail
@@ -11,7 +11,7 @@ pub record CallState : Type 0 where
   pub failed : ℕ
 
 -- what is seen of the calls of one kind
-abbrev pub call_state : Calls → CallState
+abbrev pub call_state : ListedCalls → CallState
 call_state calls = record { listed = calls.listed.items; made = calls.made; failed = calls.failed }
 
 -- no call was made

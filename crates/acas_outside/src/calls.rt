@@ -1,35 +1,9 @@
-//! The calls that are to fail.
-ghost use Rattle.std.specs.Prelude.{◌≡◌, IsTrue, ◌↔◌, Contains};
-ghost use Rattle.acas_outside.specs.Counts.{raised};
+//! How many calls a folder in memory has had.
 
-/// The calls of one kind: the numbers of those that are to fail, how many were made, and how many failed.
-#[derive(Drop)]
-pub(crate) struct Calls {
-    pub(crate) listed: Vec<u64>,
-    pub(crate) made: u64,
-    pub(crate) failed: u64,
-}
-
-impl Calls {
-    pub(crate) fn new(listed: Vec<u64>) -> Calls
-        ensures listed { result.listed.items ≡ listed.items }
-        ensures made { result.made ≡ 0 }
-        ensures failed { result.failed ≡ 0 }
-    {
-        Calls {
-            listed,
-            made: 0,
-            failed: 0,
-        }
-    }
-
-    // Counts a call, and says whether it is to fail.
-    pub(crate) fn count(&mut self) -> bool
-        ensures listed { IsTrue result ↔ Contains self.old.listed.items self.old.made }
-        ensures made { self.new ≡ record self.old { made = raised self.old.made 1 } }
-    {
-        let is_listed = self.listed.contains(&self.made);
-        self.made = self.made.saturating_add(1);
-        is_listed
-    }
+/// The numbers of calls so far, each up to the end of 64 bits.
+#[derive(Copy, Clone, PartialEq, Eq, Debug)]
+pub struct Calls {
+    pub reads: u64,
+    pub creates: u64,
+    pub appends: u64,
 }

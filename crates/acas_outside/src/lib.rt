@@ -7,6 +7,7 @@
 mod calls;
 mod emitting;
 mod folder;
+mod listed_calls;
 mod memory_folder;
 mod memory_sink;
 mod real;
@@ -15,6 +16,7 @@ mod stored;
 mod storing;
 mod whole;
 
+pub use calls::Calls;
 pub use emitting::{emit, emit_four, emit_parts};
 pub use folder::{Folder, ReadMiss};
 pub use memory_folder::MemoryFolder;

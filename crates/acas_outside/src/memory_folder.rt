@@ -4,6 +4,7 @@ ghost use Rattle.acas_outside.specs.Files.{TakesFrom};
 
 use crate::calls::Calls;
 use crate::folder::{Folder, ReadMiss};
+use crate::listed_calls::ListedCalls;
 use crate::sink::Failed;
 use crate::stored::{Stored, find, grow, store};
 use std::alloc::{AllocError, Global};
@@ -14,9 +15,9 @@ use std::alloc::{AllocError, Global};
 pub struct MemoryFolder {
     alloc: Global,
     files: Stored,
-    reads: Calls,
-    creates: Calls,
-    appends: Calls,
+    reads: ListedCalls,
+    creates: ListedCalls,
+    appends: ListedCalls,
     most: u32,
     misses: u64,
     taken: u64,
@@ -46,14 +47,27 @@ impl MemoryFolder {
         Ok(MemoryFolder {
             alloc,
             files: Stored::new(alloc),
-            reads: Calls::new(reads),
-            creates: Calls::new(creates),
-            appends: Calls::new(appends),
+            reads: ListedCalls::new(reads),
+            creates: ListedCalls::new(creates),
+            appends: ListedCalls::new(appends),
             most,
             misses: 0,
             taken: 0,
             refused: 0,
         })
+    }
+
+    /// How many calls of each kind were made, those that failed among them.
+    pub fn calls(&self) -> Calls
+        ensures reads { result.reads ≡ (folder_state self.now).reads.made }
+        ensures creates { result.creates ≡ (folder_state self.now).creates.made }
+        ensures appends { result.appends ≡ (folder_state self.now).appends.made }
+    {
+        Calls {
+            reads: self.reads.made,
+            creates: self.creates.made,
+            appends: self.appends.made,
+        }
     }
 
     /// How many bytes the reads have given, up to the end of 64 bits.

@@ -1,7 +1,7 @@
 //! A sink in memory, whose listed calls fail.
 ghost use Rattle.std.specs.Prelude.{◌≡◌, ◌≤◌, IfOk};
 
-use crate::calls::Calls;
+use crate::listed_calls::ListedCalls;
 use crate::sink::{Failed, Sink};
 use std::alloc::{AllocError, Global};
 
@@ -10,7 +10,7 @@ use std::alloc::{AllocError, Global};
 #[derive(Drop)]
 pub struct MemorySink {
     bytes: Vec<u8>,
-    writes: Calls,
+    writes: ListedCalls,
     most: u32,
     refused: u64,
     ghost takes_some: { 1 ≤ most },
@@ -27,7 +27,7 @@ impl MemorySink {
     {
         Ok(MemorySink {
             bytes: Vec::new(alloc),
-            writes: Calls::new(writes),
+            writes: ListedCalls::new(writes),
             most,
             refused: 0,
         })
@@ -38,6 +38,13 @@ impl MemorySink {
         ensures { result.now ≡ (sink_state self.now).written }
     {
         &self.bytes
+    }
+
+    /// How many writes were made, those that failed among them.
+    pub fn calls(&self) -> u64
+        ensures { result ≡ (sink_state self.now).writes.made }
+    {
+        self.writes.made
     }
 
     /// How many writes failed for want of memory.

@@ -8,7 +8,7 @@ use std::io::{self, ErrorKind, Read, Seek, SeekFrom, Write};
 use std::rt::Files;
 
 /// How many bytes one read of a file asks for.
-const PIECE: usize = 4096;
+const PIECE: usize = 65_536;
 
 /// The files of the system, which a runtime opens. A read of a name that the system does not find is a miss, and
 /// each other call that fails is a fault.
