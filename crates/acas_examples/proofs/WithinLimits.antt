@@ -135,7 +135,7 @@ rates_within =
       (record { low = omega (arith, ints); high = omega (arith, ints) }, tt),
     )
 
-two_altitudes_grid : (ticks horizon : ℕ) → 0 < ticks → ticks ≤ 3600 → horizon ≤ 2 →
+two_altitudes_grid : (ticks horizon : ℕ) → 0 < ticks → ticks ≤ 3600 → horizon ≤ 3 →
     IsGrid (record { h = pos 0 ∷ pos ticks ∷ []; v0 = pos 0 ∷ pos 600 ∷ []; v1 = pos 0 ∷ pos 600 ∷ []; advisories = 2; horizon = horizon })
 two_altitudes_grid ticks horizon some most last = record {
   altitudes = record { at_least = omega arith; at_most = omega arith; rising = rises_of (pos 0) (pos ticks ∷ []) (omega (arith, ints), tt) };
@@ -154,7 +154,7 @@ two_altitudes_grid ticks horizon some most last = record {
   entries = omega arith;
 }
 
-pub is_model : (ticks horizon : ℕ) (contact lo hi : ℤ) (under_clear under_level : List Choice) (sigmas : List SigmaPoint) → 0 < ticks → ticks ≤ 3600 → horizon ≤ 2 → unsigned_abs contact ≤ 7 →
+pub is_model : (ticks horizon : ℕ) (contact lo hi : ℤ) (under_clear under_level : List Choice) (sigmas : List SigmaPoint) → 0 < ticks → ticks ≤ 3600 → horizon ≤ 3 → unsigned_abs contact ≤ 7 →
     IsAdvisory (level lo hi) → IsChoiceList 2 under_clear → IsChoiceList 2 under_level → IsNoise sigmas →
     IsModel (two_altitudes (pos ticks) horizon contact (level lo hi) (under_clear ∷ under_level ∷ []) sigmas)
 is_model ticks horizon contact lo hi under_clear under_level sigmas some most last small second first_list second_list noise = record {

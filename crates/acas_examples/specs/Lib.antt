@@ -1,3 +1,4 @@
 pub mod Parts
 pub mod Models
 pub mod Tables
+pub mod Policies

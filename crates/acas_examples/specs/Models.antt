@@ -48,6 +48,11 @@ calm = two_altitudes (pos 1200) 1 (pos 7) nearly_level (only_clear (pos 1)) no_n
 abbrev pub switching : ModelData
 switching = two_altitudes (pos 1200) 2 (pos 7) nearly_level ((choice 1 (pos 3) ∷ []) ∷ (choice 0 (pos 5) ∷ []) ∷ []) no_noise
 
+-- the same for three seconds, where under clear clear may be chosen too, at no cost
+abbrev pub levelling : ModelData
+levelling = two_altitudes (pos 1200) 3 (pos 7) nearly_level
+    ((choice 0 (pos 0) ∷ choice 1 (pos 3) ∷ []) ∷ (choice 0 (pos 5) ∷ []) ∷ []) no_noise
+
 -- without noise; under clear level may be chosen too, at the cost 1, and asks for a descent of 600 to 1000 ft/min; contact costs 7
 abbrev pub evading : ModelData
 evading = two_altitudes (pos 1200) 1 (pos 7) (level (minus 1000) (minus 600))

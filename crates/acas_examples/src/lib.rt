@@ -8,6 +8,7 @@ mod limits;
 mod models;
 mod seconds;
 mod soundness;
+mod trajectories;
 mod values;
 
 pub use cells::{axes_rise, cells_begin_at_their_numbers};
@@ -18,6 +19,7 @@ pub use limits::{
 pub use models::{entries_end_at_the_horizon, examples_are_models};
 pub use seconds::{a_second_leads_a_third_up, commands_are_worked_out};
 pub use soundness::{ends_are_sound_or_not, entries_are_sound_or_not};
+pub use trajectories::{memory_goes_back_to_the_start, noisy_trajectories_are_summed_by_hand};
 pub use values::{
     contact_ends_at_the_edge, entries_are_worked_out, noisy_values_are_rounded_twice,
 };

@@ -1,7 +1,7 @@
 //! The models are within their limits, so the laws speak of them.
 ghost use Rattle.acas_spec.specs.Limits.{IsModel};
 ghost use Rattle.acas_process.specs.Cost.{IsEntry};
-ghost use Rattle.acas_examples.specs.Models.{at_edge, at_radius, calm, evading, four_advisories, gusty, noisy, past_edge, small_climb, switching, tied};
+ghost use Rattle.acas_examples.specs.Models.{at_edge, at_radius, calm, evading, four_advisories, gusty, levelling, noisy, past_edge, small_climb, switching, tied};
 ghost use Rattle.acas_examples.specs.Parts.{vertex};
 
 /// Each model is one within its limits.
@@ -10,6 +10,7 @@ pub fn examples_are_models()
     ensures tied { IsModel tied }
     ensures calm { IsModel calm }
     ensures switching { IsModel switching }
+    ensures levelling { IsModel levelling }
     ensures evading { IsModel evading }
     ensures gusty { IsModel gusty }
     ensures small_climb { IsModel small_climb }

@@ -31,6 +31,12 @@ returns-clause-switching c =
     is_model 1200 2 (pos 7) (minus 500) (pos 500) _ _ no_noise (omega arith) (omega arith) (omega arith) (omega arith) is_nearly_level
     (is_only 1 (pos 3) (omega arith) (omega arith)) (is_only 0 (pos 5) (omega arith) (omega arith)) no_noise_is
 
+pub returns-clause-levelling : goal.returns-clause-levelling
+returns-clause-levelling c =
+    is_model 1200 3 (pos 7) (minus 500) (pos 500) _ _ no_noise (omega arith) (omega arith) (omega arith) (omega arith) is_nearly_level
+    (is_list 2 (choice 0 (pos 0) ∷ choice 1 (pos 3) ∷ []) (omega arith) (is_choice 2 0 (pos 0) (omega arith) (omega arith), (is_choice 2 1 (pos 3) (omega arith) (omega arith), tt)) ((λ e. omega (arith, e), tt), (tt, tt)))
+    (is_only 0 (pos 5) (omega arith) (omega arith)) no_noise_is
+
 pub returns-clause-evading : goal.returns-clause-evading
 returns-clause-evading c =
     is_model 1200 1 (pos 7) (minus 1000) (minus 600) _ _ no_noise (omega arith) (omega arith) (omega arith) (omega arith)

@@ -1,0 +1,4 @@
+pub mod TrajectorySums
+pub mod WeightLaws
+pub mod RecursionLaws
+pub mod BestLaws
