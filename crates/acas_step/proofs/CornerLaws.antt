@@ -10,13 +10,13 @@ use Rattle.acas_grid.specs.Grid.{vertex_number}
 use Rattle.acas_spec.specs.declared.place.Point.{Point}
 use Rattle.acas_frac.proofs.SignedProducts.{mul_assoc_ℤ}
 use Rattle.acas_process.specs.Axis.{distance, gap, gap_product, tent}
-use Rattle.acas_process.specs.Step.{grid_product}
+use Rattle.acas_process.specs.Step.{grid_product, over_vertices, share}
 use Rattle.acas_process.specs.Sums.{sum_below}
 use Rattle.acas_process.proofs.AxisLaws.{distance-add, has_cell, others}
 use Rattle.acas_process.proofs.CellLaws.{Place, at_ends, axis_sum, cell_holds, grid_sum, two_scaled}
 use Rattle.acas_process.proofs.MeanLaws.{grid_product_pos}
 use Rattle.acas_step.specs.Corners.{IsInterpolation, IsLight, IsWeighting, cell_product, corner_sum}
-use Rattle.acas_step.specs.Ends.{FitsAxis, FitsGrid, IsCorner, IsEnds, IsRound, vertex_on, weight_of_cell}
+use Rattle.acas_step.specs.Ends.{over_ends, FitsAxis, FitsGrid, IsCorner, IsEnds, IsRound, vertex_on, weight_of_cell}
 use Rattle.acas_step.specs.Sizes.{greatest_weight}
 use Rattle.acas_step.specs.declared.cell.Cell.{Cell}
 use Rattle.acas_step.specs.declared.cell.Corner.{Corner}
@@ -45,10 +45,6 @@ pub record AreEight (g : GridData) (t : Cell) (a b c d e f h i : Corner) : Type 
   pub at_f : IsCorner g t Upper Lower Upper f
   pub at_h : IsCorner g t Upper Upper Lower h
   pub at_i : IsCorner g t Upper Upper Upper i
-
--- a sum over the ends of three cells
-abbrev over_ends : Cell → (ℕ → ℕ → ℕ → ℤ) → ℤ
-over_ends t z = at_ends t.h.lower t.h.upper t.h.cell (λ i. at_ends t.v0.lower t.v0.upper t.v0.cell (λ j. at_ends t.v1.lower t.v1.upper t.v1.cell (λ k. z i j k)))
 
 one_more : (n : ℕ) → n + 1 ≡ suc n
 one_more n = omega arith
@@ -149,23 +145,34 @@ fits_grid g s t valid is = record {
 }
 
 -- a factor of a number above 0 is above 0
-factor_pos : (n t o : ℕ) → 0 < n → n ≡ t * o → 0 < t
+pub factor_pos : (n t o : ℕ) → 0 < n → n ≡ t * o → 0 < t
 factor_pos n t o p e = ⊎_elim (λ (h : 0 < t). h) (λ (h : t ≤ 0). let none : t ≡ 0 = omega arith in absurd (omega (arith, ap (λ (k : ℕ). k * o) none))) (cases_lt 0 t)
+
+-- a sum over the corners of a cell over its weight is that over all vertices by their shares over the product of all gaps
+pub ends_interpolate : (g : GridData) (s : Point) (t : Cell) (z : ℕ → ℤ) → IsGrid g → IsRound g s t →
+    pos (grid_product g) *ℤ over_ends t (λ i j k. z (vertex_number g (record { i = i; j = j; k = k })))
+    ≡ pos (weight_of_cell t) *ℤ over_vertices g (λ y. pos (share g s y) *ℤ z (vertex_number g y))
+ends_interpolate g s t z valid round =
+    let n : ℕ → ℕ → ℕ → ℤ = λ i j k. z (vertex_number g (record { i = i; j = j; k = k })) in
+    let all =
+    grid_sum g s (place_of t.h (others g.h t.h.cell)) (place_of t.v0 (others g.v0 t.v0.cell)) (place_of t.v1 (others g.v1 t.v1.cell)) (λ y. z (vertex_number g y))
+    (placed g.h s.h t.h valid.altitudes round.h).sum (placed g.v0 s.v0 t.v0 valid.own_rates round.v0).sum (placed g.v1 s.v1 t.v1 valid.intruder_rates round.v1).sum in
+    ap (λ (k : ℕ). pos k *ℤ over_ends t n) (product_of_gaps g s t valid round)
+    ∙ mul_assoc_ℤ (pos (weight_of_cell t)) (pos (others_of g t)) (over_ends t n)
+    ∙ ap (λ y. pos (weight_of_cell t) *ℤ y) (sym all)
 
 pub interpolates : (g : GridData) (s : Point) (t : Cell) (a b c d e f h i : Corner) (total : ℤ) → IsGrid g → IsRound g s t → AreEight g t a b c d e f h i →
     total ≡ pos (weight_of_cell t) → IsInterpolation g s (a ∷ b ∷ c ∷ d ∷ e ∷ f ∷ h ∷ i ∷ []) total
 interpolates g s t a b c d e f h i total valid round are is = record {
   sums = λ z.
-      let n : ℕ → ℕ → ℕ → ℤ = λ i j k. z (vertex_number g (record { i = i; j = j; k = k })) in
-      let all =
-      grid_sum g s (place_of t.h (others g.h t.h.cell)) (place_of t.v0 (others g.v0 t.v0.cell)) (place_of t.v1 (others g.v1 t.v1.cell)) (λ y. z (vertex_number g y))
-      (placed g.h s.h t.h valid.altitudes round.h).sum (placed g.v0 s.v0 t.v0 valid.own_rates round.v0).sum (placed g.v1 s.v1 t.v1 valid.intruder_rates round.v1).sum in
       ap (λ y. pos (grid_product g) *ℤ y) (eight g t a b c d e f h i z are)
-      ∙ ap (λ (k : ℕ). pos k *ℤ over_ends t n) (product_of_gaps g s t valid round)
-      ∙ mul_assoc_ℤ (pos (weight_of_cell t)) (pos (others_of g t)) (over_ends t n)
-      ∙ ap (λ y. y *ℤ (pos (others_of g t) *ℤ over_ends t n)) (sym is)
-      ∙ ap (λ y. total *ℤ y) (sym all);
+      ∙ ends_interpolate g s t z valid round
+      ∙ ap (λ y. y *ℤ over_vertices g (λ y. pos (share g s y) *ℤ z (vertex_number g y))) (sym is);
 }
+
+-- the weights of a cell are above 0 in all
+pub weight_of_cell-pos : (g : GridData) (s : Point) (t : Cell) → IsGrid g → IsRound g s t → 0 < weight_of_cell t
+weight_of_cell-pos g s t valid round = factor_pos (grid_product g) (weight_of_cell t) (others_of g t) (grid_product_pos g valid) (product_of_gaps g s t valid round)
 
 -- what holds of each of eight corners
 pub each_of_eight : (P : Corner → Type 0) (a b c d e f g i : Corner) → P a → P b → P c → P d → P e → P f → P g → P i → (n : ℕ) (o : Corner) → n < 8 → P (get_or (a ∷ b ∷ c ∷ d ∷ e ∷ f ∷ g ∷ i ∷ []) n o)
@@ -191,6 +198,6 @@ weighs g s t a b c d e f h i total valid round are is small = record {
   vertices = each_of_eight (IsIn g) a b c d e f h i are.at_a.below are.at_b.below are.at_c.below are.at_d.below are.at_e.below are.at_f.below are.at_h.below are.at_i.below;
   weights = each_of_eight IsLight a b c d e f h i (light g t _ _ _ a are.at_a) (light g t _ _ _ b are.at_b) (light g t _ _ _ c are.at_c) (light g t _ _ _ d are.at_d) (light g t _ _ _ e are.at_e) (light g t _ _ _ f are.at_f) (light g t _ _ _ h are.at_h) (light g t _ _ _ i are.at_i);
   sum = eight g t a b c d e f h i (λ n. pos 1) are ∙ ap pos (omega arith) ∙ sym is;
-  positive = omega (arith, ints, is, factor_pos (grid_product g) (weight_of_cell t) (others_of g t) (grid_product_pos g valid) (product_of_gaps g s t valid round));
+  positive = omega (arith, ints, is, weight_of_cell-pos g s t valid round);
   light = omega (arith, ints, is, small);
 }

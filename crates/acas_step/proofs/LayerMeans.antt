@@ -1,18 +1,22 @@
 -- Means of a layer that is a table's, by number and by vertex, and lists of pairs of which one more is written.
-use Rattle.std.proofs.Common.{◌≡◌, ℕ, ◌<◌, List, ◌∙◌}
+use Rattle.std.proofs.Common.{◌≡◌, ℕ, ◌<◌, ◌≤◌, unsigned_abs, List, length, refl, inl, inr, sym, subst, ◌∙◌, arith}
+use Rattle.acas_spec.specs.Limits.{IsModel}
 use Rattle.acas_spec.specs.Model.{ModelData, states}
 use Rattle.acas_spec.specs.Table.{Table}
 use Rattle.acas_spec.specs.declared.place.Vertex.{Vertex}
 use Rattle.acas_frac.specs.Rounding.{down, up}
+use Rattle.acas_grid.specs.Grid.{state_number, vertex_number}
 use Rattle.acas_grid.specs.States.{state_present, state_vertex}
 use Rattle.acas_grid.proofs.StateNumbers.{state_present-below}
 use Rattle.acas_units.specs.declared.pair.Pair.{Pair}
 use Rattle.acas_process.specs.Bounds.{mean_value}
 use Rattle.acas_process.proofs.SameLaws.{mean_same}
-use Rattle.acas_step.specs.Layer.{AreValuesOf, layer_values, pair_at}
+use Rattle.acas_process.proofs.SizeLaws.{mean_bounded}
+use Rattle.acas_step.specs.Layer.{AreValuesOf, AreWithin, layer_values, pair_at, value_of}
 use Rattle.acas_step.specs.Means.{AreMeansAt, AreMeansOf}
+use Rattle.acas_step.specs.declared.layer.Side.{Side}
 use Rattle.acas_step.specs.declared.layer.Side.TheVariants.{Lower, Upper}
-use Rattle.acas_step.proofs.NumberedStates.{layer_values-is}
+use Rattle.acas_step.proofs.NumberedStates.{layer_values-is, state_number-below}
 
 -- a mean of the values of a table's layer is that of the layer
 pub upper_mean-is : (m : ModelData) (t : Table) (n : ℕ) (pairs : List Pair) (x : Vertex) (a : ℕ) → a < m.grid.advisories → AreValuesOf m t n pairs
@@ -30,3 +34,15 @@ means_written m below means are t n values = record {
   upper = λ s here. (are s here).upper ∙ upper_mean-is m t n below (state_vertex m.grid s) (state_present m.grid s) (state_present-below m.grid s here) values;
   lower = λ s here. (are s here).lower ∙ lower_mean-is m t n below (state_vertex m.grid s) (state_present m.grid s) (state_present-below m.grid s here) values;
 }
+
+-- no mean is larger than the largest value
+pub means_bounded : (m : ModelData) (below : List Pair) (x : Vertex) (a : ℕ) (pair : Pair) (most : ℕ) (side : Side) → IsModel m → a < m.grid.advisories → length below ≡ states m.grid → AreMeansAt m below x a pair →
+    AreWithin most side below → unsigned_abs (value_of side pair) ≤ most
+means_bounded m below x a pair most Upper valid known all are within =
+    subst (λ z. unsigned_abs z ≤ most) (sym are.upper)
+    (mean_bounded up (inr refl) m (layer_values Upper m.grid below) x a most valid
+    (λ y inside. within.bounded (state_number m.grid a (vertex_number m.grid y)) (omega (arith, all, state_number-below m.grid a y known inside))))
+means_bounded m below x a pair most Lower valid known all are within =
+    subst (λ z. unsigned_abs z ≤ most) (sym are.lower)
+    (mean_bounded down (inl refl) m (layer_values Lower m.grid below) x a most valid
+    (λ y inside. within.bounded (state_number m.grid a (vertex_number m.grid y)) (omega (arith, all, state_number-below m.grid a y known inside))))

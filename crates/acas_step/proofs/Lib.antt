@@ -8,3 +8,8 @@ pub mod SigmaSteps
 pub mod NumberedStates
 pub mod Written
 pub mod LayerMeans
+pub mod Estimates
+pub mod StencilLaws
+pub mod RaisedLaws
+pub mod RaisedSums
+pub mod RaisedMeans

@@ -1,5 +1,5 @@
 -- What the inner functions say of a cell: its ends on the three axes.
-use Rattle.std.specs.Prelude.{◌≡◌, ℕ, ◌+◌, ◌*◌, ◌<◌, ◌≤◌, ℤ, pos, List, length}
+use Rattle.std.specs.Prelude.{◌≡◌, ℕ, suc, ◌+◌, ◌*◌, ◌<◌, ◌≤◌, ℤ, pos, ◌+ℤ◌, ◌*ℤ◌, List, length}
 use Rattle.acas_units.specs.declared.limits.TheConstants.{GREATEST_VERTICES}
 use Rattle.acas_spec.specs.Axis.{place_value}
 use Rattle.acas_spec.specs.Model.{GridData, vertices}
@@ -65,3 +65,11 @@ pub record IsCorner (g : GridData) (cell : Cell) (h v0 v1 : End) (c : Corner) : 
 -- what the weights of a cell's corners sum to
 abbrev pub weight_of_cell : Cell → ℕ
 weight_of_cell c = (c.h.lower + c.h.upper) * (c.v0.lower + c.v0.upper) * (c.v1.lower + c.v1.upper)
+
+-- a function of places at the two ends of a cell, by their weights
+abbrev pub at_both : Ends → (ℕ → ℤ) → ℤ
+at_both e f = pos e.lower *ℤ f e.cell +ℤ pos e.upper *ℤ f (suc e.cell)
+
+-- the same on three axes: a sum over the corners of a cell by their weights
+abbrev pub over_ends : Cell → (ℕ → ℕ → ℕ → ℤ) → ℤ
+over_ends t z = at_both t.h (λ i. at_both t.v0 (λ j. at_both t.v1 (λ k. z i j k)))

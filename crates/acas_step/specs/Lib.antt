@@ -7,3 +7,7 @@ pub mod Entries
 pub mod Means
 pub mod Choices
 pub mod Values
+pub mod Stencils
+pub mod Divisor
+pub mod Raised
+pub mod Narrow

@@ -1,6 +1,7 @@
 //! The cell that holds a point, and its eight corners with their interpolation weights.
 ghost use Rattle.std.specs.Prelude.{◌≡◌, ◌*◌, ◌+◌, ◌<◌, ◌≤◌, pos};
 ghost use Rattle.acas_spec.specs.Limits.{IsGrid};
+ghost use Rattle.acas_spec.specs.declared.place.Point.{Point};
 ghost use Rattle.acas_grid.specs.Axis.{IsBetweenEnds};
 ghost use Rattle.acas_grid.specs.Grid.{IsInside};
 ghost use Rattle.acas_step.specs.Corners.{AreCorners, IsInterpolation, IsWeighting};
@@ -35,18 +36,18 @@ enum End {
 
 // The cell of an axis that holds a number, and the weights of its two ends there: the distance to the other end.
 #[derive(Clone, Copy)]
-struct Ends {
-    cell: u32,
-    lower: u64,
-    upper: u64,
+pub(crate) struct Ends {
+    pub(crate) cell: u32,
+    pub(crate) lower: u64,
+    pub(crate) upper: u64,
 }
 
 // The ends on the three axes.
 #[derive(Clone, Copy)]
-struct Cell {
-    h: Ends,
-    v0: Ends,
-    v1: Ends,
+pub(crate) struct Cell {
+    pub(crate) h: Ends,
+    pub(crate) v0: Ends,
+    pub(crate) v1: Ends,
 }
 
 fn ends_of(axis: &Axis, x: i64) -> Ends
@@ -59,7 +60,8 @@ fn ends_of(axis: &Axis, x: i64) -> Ends
     Ends { cell, lower, upper }
 }
 
-fn cell_of(grid: &Grid, point: Point) -> Cell
+// The cell that holds a point of the grid.
+pub(crate) fn cell_of(grid: &Grid, point: Point) -> Cell
     requires grid { IsGrid grid.now }
     requires inside { IsInside grid.now point }
     ensures round { IsRound grid.now point result }
@@ -122,7 +124,22 @@ fn corner_at(grid: &Grid, cell: &Cell, h: End, v0: End, v1: End) -> Corner
     }
 }
 
-// What the weights of the corners sum to.
+// What the weights of the corners sum to: the product of the gaps.
+pub(crate) fn weight_of(cell: &Cell) -> u64
+    requires h { cell.now.h.lower + cell.now.h.upper ≤ altitude_gap }
+    requires v0 { cell.now.v0.lower + cell.now.v0.upper ≤ rate_gap }
+    requires v1 { cell.now.v1.lower + cell.now.v1.upper ≤ rate_gap }
+    ensures value { result ≡ weight_of_cell cell.now }
+    ensures light { result ≤ greatest_weight }
+{
+    product(
+        cell.h.lower + cell.h.upper,
+        cell.v0.lower + cell.v0.upper,
+        cell.v1.lower + cell.v1.upper,
+    )
+}
+
+// The same in 128 bits.
 fn total_of(cell: &Cell) -> i128
     requires h { cell.now.h.lower + cell.now.h.upper ≤ altitude_gap }
     requires v0 { cell.now.v0.lower + cell.now.v0.upper ≤ rate_gap }
@@ -130,12 +147,33 @@ fn total_of(cell: &Cell) -> i128
     ensures value { result ≡ pos (weight_of_cell cell.now) }
     ensures light { weight_of_cell cell.now ≤ greatest_weight }
 {
-    let weight = product(
-        cell.h.lower + cell.h.upper,
-        cell.v0.lower + cell.v0.upper,
-        cell.v1.lower + cell.v1.upper,
-    );
-    i128::from(weight)
+    i128::from(weight_of(cell))
+}
+
+// The eight corners of a cell, for each point that it holds.
+pub(crate) fn corner_set(grid: &Grid, cell: &Cell) -> CornerSet
+    requires grid { IsGrid grid.now }
+    requires fits { FitsGrid grid.now cell.now }
+    ensures corners { (s : Point) → IsRound grid.now s cell.now
+        → AreCorners grid.now s result.corners result.total }
+    ensures sums { (s : Point) → IsRound grid.now s cell.now
+        → IsInterpolation grid.now s result.corners result.total }
+    ensures weights { (s : Point) → IsRound grid.now s cell.now
+        → IsWeighting grid.now result.corners result.total }
+{
+    CornerSet {
+        corners: [
+            corner_at(grid, cell, Lower, Lower, Lower),
+            corner_at(grid, cell, Lower, Lower, Upper),
+            corner_at(grid, cell, Lower, Upper, Lower),
+            corner_at(grid, cell, Lower, Upper, Upper),
+            corner_at(grid, cell, Upper, Lower, Lower),
+            corner_at(grid, cell, Upper, Lower, Upper),
+            corner_at(grid, cell, Upper, Upper, Lower),
+            corner_at(grid, cell, Upper, Upper, Upper),
+        ],
+        total: total_of(cell),
+    }
 }
 
 /// The eight corners of the cell that holds a point inside the grid, lower before upper, the altitude outermost. A corner's
@@ -148,18 +186,5 @@ pub fn corners(model: &Model, point: Point) -> CornerSet
     ensures weights { IsWeighting model.now.grid result.corners result.total }
 {
     let grid = model.grid();
-    let cell = cell_of(grid, point);
-    CornerSet {
-        corners: [
-            corner_at(grid, &cell, Lower, Lower, Lower),
-            corner_at(grid, &cell, Lower, Lower, Upper),
-            corner_at(grid, &cell, Lower, Upper, Lower),
-            corner_at(grid, &cell, Lower, Upper, Upper),
-            corner_at(grid, &cell, Upper, Lower, Lower),
-            corner_at(grid, &cell, Upper, Lower, Upper),
-            corner_at(grid, &cell, Upper, Upper, Lower),
-            corner_at(grid, &cell, Upper, Upper, Upper),
-        ],
-        total: total_of(&cell),
-    }
+    corner_set(grid, &cell_of(grid, point))
 }

@@ -16,7 +16,7 @@ pub enum Side {
 }
 
 // The value of a side.
-fn value_of(pair: Pair, side: Side) -> i64
+pub(crate) fn value_of(pair: Pair, side: Side) -> i64
     ensures { result ≡ value_of side pair }
 {
     match side {

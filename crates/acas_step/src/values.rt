@@ -1,23 +1,26 @@
 //! The mean of a layer's values over the points to which a second leads.
-ghost use Rattle.std.specs.Prelude.{◌≡◌, ℕ, ◌+◌, ◌*◌, ◌<◌, ◌≤◌, pos, ◌≤ℤ◌, length, unsigned_abs};
+ghost use Rattle.std.specs.Prelude.{◌≡◌, ℕ, ◌+◌, ◌*◌, ◌<◌, ◌≤◌, pos, ◌≤ℤ◌, length, unsigned_abs, IfSome};
 ghost use Rattle.acas_spec.specs.Limits.{IsModel};
 ghost use Rattle.acas_spec.specs.Model.{states, total_weight, vertices};
-ghost use Rattle.acas_grid.specs.Grid.{IsInside};
+ghost use Rattle.acas_spec.specs.declared.place.Point.{Point};
 ghost use Rattle.acas_grid.specs.States as numbers;
 ghost use Rattle.acas_process.specs.Bounds.{interpolated, mean_value};
 ghost use Rattle.acas_process.specs.Step as process;
+ghost use Rattle.acas_step.specs.Corners.{IsInterpolation, IsWeighting};
 ghost use Rattle.acas_step.specs.Layer.{AreWithin, layer_values};
+ghost use Rattle.acas_step.specs.Stencils.{AreStencilsOf, AreUsable};
 
-use crate::cell::corners;
+use crate::cell::{CornerSet, corners};
 use crate::layer::{Side, weighted, weighted_sum};
-use crate::second::moved_from;
+use crate::second::moved;
+use crate::stencils::Stencils;
 use acas_base::Model;
 use acas_frac::Rounding;
-use acas_grid::{Grid, Point, vertex_at};
+use acas_grid::Grid;
 use acas_units::{GREATEST_TOTAL_WEIGHT, GREATEST_WEIGHT, Pair};
 
 // The number of the first state of an advisory.
-fn first_state(grid: &Grid, advisory: u8) -> usize
+pub(crate) fn first_state(grid: &Grid, advisory: u8) -> usize
     requires { advisory < grid.now.advisories }
     ensures value { result ≡ advisory * vertices grid.now }
     ensures room { result + vertices grid.now ≤ states grid.now }
@@ -25,27 +28,50 @@ fn first_state(grid: &Grid, advisory: u8) -> usize
     usize::from(advisory) * grid.vertices() as usize
 }
 
-// The values of the layer below under an advisory, interpolated at a point and rounded.
+// The corners of the cell to which a sigma point leads from a vertex within a second under an advisory, by stencils where there are
+// some.
+fn corners_led_to(
+    model: &Model,
+    stencils: Option<&Stencils>,
+    vertex: u32,
+    advisory: u8,
+    sigma: u32,
+) -> CornerSet
+    requires stencils { IfSome stencils (λ s. AreUsable model.now s.now) }
+    requires vertex { vertex < vertices model.now.grid }
+    requires advisory { advisory < model.now.grid.advisories }
+    requires sigma { sigma < length model.now.sigmas }
+    ensures sums { let x = numbers.vertex_at model.now.grid vertex in
+        let s = process.moved model.now x advisory sigma in
+        IsInterpolation model.now.grid s result.corners result.total }
+    ensures weights { IsWeighting model.now.grid result.corners result.total }
+{
+    match stencils {
+        Some(stencils) => stencils.corners(model, vertex, advisory, sigma),
+        None => corners(model, moved(model, vertex, advisory, sigma)),
+    }
+}
+
+// The values of the layer below under an advisory, interpolated by the corners of a point's cell and rounded.
 fn interpolated<R: Rounding>(
     model: &Model,
-    at: Point,
+    set: &CornerSet,
     advisory: u8,
     side: Side,
     below: &[Pair],
 ) -> i64
-    requires inside { IsInside model.now.grid at }
+    requires weights { IsWeighting model.now.grid set.now.corners set.now.total }
     requires advisory { advisory < model.now.grid.advisories }
     requires below { length below.now ≡ states model.now.grid }
-    ensures { let values = layer_values side model.now.grid below.now in
-        result ≡ interpolated R.round model.now values advisory at }
+    ensures { (at : Point) → IsInterpolation model.now.grid at set.now.corners set.now.total
+        → result ≡ interpolated R.round model.now (layer_values side model.now.grid below.now) advisory at }
 {
     let first = first_state(model.grid(), advisory);
-    let set = corners(model, at);
     let sum = weighted_sum(&set.corners, first, side, below);
     R::div(sum, set.total) as i64
 }
 
-fn sigma_count(model: &Model) -> u32
+pub(crate) fn sigma_count(model: &Model) -> u32
     ensures value { result ≡ length model.now.sigmas }
     ensures valid { IsModel model.now }
 {
@@ -62,13 +88,39 @@ fn sigma_weight(model: &Model, sigma: u32) -> i128
     i128::from(model.points()[sigma as usize].weight)
 }
 
-fn total_weight(model: &Model) -> i128
+pub(crate) fn total_weight(model: &Model) -> i128
     ensures value { result ≡ pos (total_weight model.now) }
     ensures some { 0 < total_weight model.now }
     ensures light { total_weight model.now ≤ GREATEST_TOTAL_WEIGHT }
 {
     let _ = model.grid();
     i128::from(model.total_weight())
+}
+
+// The mean of a layer's values over the points to which the sigma points lead, by stencils where there are some.
+fn mean_by<R: Rounding>(
+    model: &Model,
+    stencils: Option<&Stencils>,
+    vertex: u32,
+    advisory: u8,
+    side: Side,
+    below: &[Pair],
+) -> i64
+    requires stencils { IfSome stencils (λ s. AreUsable model.now s.now) }
+    requires vertex { vertex < vertices model.now.grid }
+    requires advisory { advisory < model.now.grid.advisories }
+    requires below { length below.now ≡ states model.now.grid }
+    ensures value { let x = numbers.vertex_at model.now.grid vertex in
+        result ≡ mean_value R.round model.now (layer_values side model.now.grid below.now) x advisory }
+    ensures bounded { (most : ℕ) → AreWithin most side below.now → unsigned_abs result ≤ most }
+{
+    let mut sum: i128 = 0;
+    for sigma in 0..sigma_count(model) {
+        let set = corners_led_to(model, stencils, vertex, advisory, sigma);
+        let value = interpolated::<R>(model, &set, advisory, side, below);
+        sum += weighted(sigma_weight(model, sigma), value);
+    }
+    R::div(sum, total_weight(model)) as i64
 }
 
 /// The mean of a layer's values over the points to which the sigma points lead from a vertex within a second under an advisory,
@@ -89,12 +141,26 @@ pub fn mean<R: Rounding>(
     // No mean is larger than the largest value.
     ensures bounded { (most : ℕ) → AreWithin most side below.now → unsigned_abs result ≤ most }
 {
-    let from = vertex_at(model.grid(), vertex);
-    let mut sum: i128 = 0;
-    for sigma in 0..sigma_count(model) {
-        let at = moved_from(model, from, advisory, sigma);
-        let value = interpolated::<R>(model, at, advisory, side, below);
-        sum += weighted(sigma_weight(model, sigma), value);
-    }
-    R::div(sum, total_weight(model)) as i64
+    mean_by::<R>(model, None, vertex, advisory, side, below)
+}
+
+/// The mean as `mean` gives it, by the stencils of the model.
+pub(crate) fn mean_with<R: Rounding>(
+    model: &Model,
+    stencils: &Stencils,
+    vertex: u32,
+    advisory: u8,
+    side: Side,
+    below: &[Pair],
+) -> i64
+    requires stencils { AreStencilsOf model.now stencils.now }
+    requires horizon { 0 < model.now.grid.horizon }
+    requires vertex { vertex < vertices model.now.grid }
+    requires advisory { advisory < model.now.grid.advisories }
+    requires below { length below.now ≡ states model.now.grid }
+    ensures value { let x = numbers.vertex_at model.now.grid vertex in
+        result ≡ mean_value R.round model.now (layer_values side model.now.grid below.now) x advisory }
+    ensures bounded { (most : ℕ) → AreWithin most side below.now → unsigned_abs result ≤ most }
+{
+    mean_by::<R>(model, Some(stencils), vertex, advisory, side, below)
 }

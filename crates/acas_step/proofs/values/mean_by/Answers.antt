@@ -1,6 +1,6 @@
 use Rattle.std.proofs.Common.{◌≡◌, ◌^◌, ◌-◌, ◌≤◌, ◌<◌, ℕ, ℤ, pos, neg_ℤ, ◌+ℤ◌, ◌*ℤ◌, ◌≤ℤ◌, length, unsigned_abs, to_z, w64, ap, sym, subst, ◌∙◌, arith, rules}
 use Rattle.std.proofs.lemmas.Int.{ints, to_z-of_z}
-use Rattle.acas_spec.specs.Model.{GridData, total_weight}
+use Rattle.acas_spec.specs.Model.{total_weight}
 use Rattle.acas_spec.specs.declared.place.Point.{Point}
 use Rattle.acas_spec.specs.declared.place.Vertex.{Vertex}
 use Rattle.acas_grid.specs.Grid.{state_number, vertex_number}
@@ -13,7 +13,7 @@ use Rattle.acas_step.specs.Layer.{layer_values}
 use Rattle.acas_step.proofs.NumberedStates.{state_number-below}
 use Rattle.acas_step.proofs.Quotients.{quotient_fits}
 use Rattle.acas_step.proofs.SigmaSteps.{IsTerm, mean_fits, mean_high, mean_low, mean_step, no_sigma}
-use Rattle.acas_step.proofs.values.mean.Goals as goal
+use Rattle.acas_step.proofs.values.mean_by.Goals as goal
 use mir.Syntax.{w128}
 use mir.Val.{SFits}
 
@@ -53,10 +53,9 @@ loop-sigma-preserved g c =
     let term = term_within (sigma_weight m q) c.sigma_weight.result c.weighted-sum.result weight (simp to_z-of_z at c.weighted-sum.ensures.high) (simp to_z-of_z at c.weighted-sum.ensures.low) in
     let p : SFits w128 (to_z w128 c.loop-sigma.sum-bits +ℤ c.weighted-sum.result) =
     mean_fits m.sigmas no_sigma q (to_z w128 c.loop-sigma.sum-bits) c.weighted-sum.result below c.loop-sigma.invariant.within term c.sigma_count-sigma-end.ensures.valid.weights in
-    let from : c.vertex_at-from.result ≡ x = c.vertex_at-from.ensures.value ∙ ap (λ (d : GridData). vertex_at d c.args.vertex) c.grid.ensures.value in
     let is : c.weighted-sum.result ≡ f q =
     term_is (sigma_weight m q) c.sigma_weight.result c.interpolated-value.result (at (moved m x c.args.advisory q)) c.weighted-sum.result (simp to_z-of_z at c.weighted-sum.ensures.value) weight
-    (c.interpolated-value.ensures ∙ ap at (c.moved_from-at.ensures.value ∙ ap (λ (y : Vertex). moved m y c.args.advisory q) from)) in
+    (c.interpolated-value.ensures (moved m x c.args.advisory q) c.corners_led_to-set.ensures.sums) in
     mean_step m.sigmas no_sigma f q (to_z w128 c.loop-sigma.sum-bits) c.weighted-sum.result _ below c.loop-sigma.invariant term is (simp to_z-of_z)
 
 pub overflow_cast-result : goal.overflow_cast-result
@@ -88,7 +87,7 @@ pub returns-clause-bounded : goal.returns-clause-bounded
 returns-clause-bounded g c = λ most within.
     let m = c.args.model.now in
     subst (λ z. unsigned_abs z ≤ most) (sym (returns-clause-value g c))
-    (mean_bounded g.R.Rounding.round g.met.R.Rounding.way m (layer_values c.args.side m.grid c.args.below.now) (vertex_at m.grid c.args.vertex) c.args.advisory most c.grid.ensures.valid
+    (mean_bounded g.R.Rounding.round g.met.R.Rounding.way m (layer_values c.args.side m.grid c.args.below.now) (vertex_at m.grid c.args.vertex) c.args.advisory most c.sigma_count-sigma-end.ensures.valid
     (λ y inside.
     let known = state_number-below m.grid c.args.advisory y c.requires.advisory inside in
     within.bounded (state_number m.grid c.args.advisory (vertex_number m.grid y)) (omega (arith, known, c.requires.below))))

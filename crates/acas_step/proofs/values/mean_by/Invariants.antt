@@ -4,7 +4,7 @@ use Rattle.acas_process.specs.Step.{moved, sigma_weight}
 use Rattle.acas_grid.specs.States.{vertex_at}
 use Rattle.acas_step.specs.Layer.{layer_values}
 use Rattle.acas_step.proofs.SigmaSteps.{IsMeanSoFar}
-use Rattle.acas_step.proofs.values.mean.Given as goal
+use Rattle.acas_step.proofs.values.mean_by.Given as goal
 
 abbrev pub invariant-loop-sigma : goal.invariant-loop-sigma
 invariant-loop-sigma g l =

@@ -1,0 +1,9 @@
+use Rattle.std.proofs.Common.{◌*◌, ◌≤◌, subst, sym}
+use Rattle.acas_step.specs.Raised.{width}
+use Rattle.acas_step.proofs.RaisedLaws.{blended-le}
+use Rattle.acas_step.proofs.raised.along_v0.Goals as goal
+
+pub returns-clause-within : goal.returns-clause-within
+returns-clause-within c =
+    subst (λ n. n ≤ 2 * c.args.by * width c.args.cell.now.v1 * width c.args.cell.now.v0) (sym c.blend.ensures)
+    (blended-le c.args.cell.now.v0 c.along_v1-near.result c.along_v1-far.result (2 * c.args.by * width c.args.cell.now.v1) c.along_v1-near.ensures.within c.along_v1-far.ensures.within)

@@ -1,0 +1,9 @@
+use Rattle.std.proofs.Common.{ap, arith}
+use Rattle.acas_spec.specs.Model.{GridData, states}
+use Rattle.acas_step.proofs.LayerMeans.{means_written}
+use Rattle.acas_step.proofs.stencil_means.fill_means_with.Goals as goal
+
+pub returns-clause-means : goal.returns-clause-means
+returns-clause-means c =
+    means_written c.args.model.now c.args.below.now c.loop-state.means
+    (λ s h. c.loop-state.invariant s (omega (arith, c.states-state-end.ensures.value, ap (λ (g : GridData). states g) c.grid-grid.ensures.value)))

@@ -1,0 +1,40 @@
+-- Values raised by a number so that none is below 0, and their sums over a cell in 64 bits.
+use Rattle.std.specs.Prelude.{ℕ, ◌+◌, ◌*◌, ◌^◌, ◌<◌, ℤ, pos, ◌+ℤ◌, unsigned_abs, List}
+use Rattle.acas_units.specs.declared.pair.Pair.{Pair}
+use Rattle.acas_step.specs.Layer.{value_at}
+use Rattle.acas_step.specs.declared.cell.Cell.{Cell}
+use Rattle.acas_step.specs.declared.cell.Ends.{Ends}
+use Rattle.acas_step.specs.declared.layer.Side.{Side}
+
+-- a value that is raised by a number, where it is no further below 0 than that
+abbrev pub raised : ℕ → ℤ → ℕ
+raised by z = unsigned_abs (z +ℤ pos by)
+
+-- the raised value of one side at a place
+abbrev pub raised_at : ℕ → Side → List Pair → ℕ → ℕ
+raised_at by side pairs place = raised by (value_at side pairs place)
+
+-- the gap between the two ends of a cell on an axis
+abbrev pub width : Ends → ℕ
+width e = e.lower + e.upper
+
+-- two numbers at the ends of a cell on an axis, by their weights
+abbrev pub blended : Ends → ℕ → ℕ → ℕ
+blended e near far = near * e.lower + far * e.upper
+
+-- numbers by place, blended on the intruder rate, then on the own rate, then on the altitude, from the place n of a corner on
+abbrev pub along_v1 : Cell → (ℕ → ℕ) → ℕ → ℕ
+along_v1 t f n = blended t.v1 (f n) (f (n + 1))
+
+abbrev pub along_v0 : Cell → ℕ → (ℕ → ℕ) → ℕ → ℕ
+along_v0 t row f n = blended t.v0 (along_v1 t f n) (along_v1 t f (n + row))
+
+abbrev pub along_h : Cell → ℕ → ℕ → (ℕ → ℕ) → ℕ → ℕ
+along_h t row plane f n = blended t.h (along_v0 t row f n) (along_v0 t row f (n + plane))
+
+-- blends over a cell of numbers up to so much have 64 bits
+pub record HasRoom (most : ℕ) (t : Cell) : Type 0 where
+  pub values : most < 2 ^ 63
+  pub v1 : most * width t.v1 < 2 ^ 63
+  pub v0 : most * width t.v1 * width t.v0 < 2 ^ 63
+  pub h : most * width t.v1 * width t.v0 * width t.h < 2 ^ 63

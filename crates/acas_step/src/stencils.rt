@@ -1,0 +1,219 @@
+//! Where the sigma points lead from each vertex under each advisory, found once for all layers.
+ghost use Rattle.std.specs.Prelude.{◌≡◌, ◌+◌, ◌*◌, ◌<◌, ◌≤◌, ℤ, length, IfOk};
+ghost use Rattle.acas_spec.specs.Limits.{IsGrid, IsModel};
+ghost use Rattle.acas_spec.specs.Model.{states, vertices};
+ghost use Rattle.acas_spec.specs.declared.place.Point.{Point};
+ghost use Rattle.acas_grid.specs.Grid.{IsInside};
+ghost use Rattle.acas_grid.specs.States as numbers;
+ghost use Rattle.acas_process.specs.Axis.{gap};
+ghost use Rattle.acas_process.specs.Step as process;
+ghost use Rattle.acas_step.specs.Corners.{AreCorners, IsInterpolation, IsWeighting};
+ghost use Rattle.acas_step.specs.Ends.{FitsGrid, IsEnds, IsRound};
+ghost use Rattle.acas_step.specs.Stencils.{AreStencils, AreStencilsOf, IsAbove, IsStencil, point_of, stencil_count};
+
+use crate::cell::{Cell, CornerSet, Ends, cell_of, corner_set};
+use crate::second::moved_from;
+use acas_base::Model;
+use acas_grid::{Axis, Grid, Vertex, state_present, state_vertex, vertex_at};
+use acas_spec::Point;
+use std::alloc::{AllocError, Global};
+
+/// The number of the vertex at the lower corner of a cell, and how far above that corner a point is on each axis, in the units of
+/// the axes. It takes 16 bytes.
+#[derive(Clone, Copy, Debug)]
+pub(crate) struct Stencil {
+    base: u32,
+    h: u32,
+    v0: u32,
+    v1: u32,
+}
+
+/// A length on each axis, in ticks or ft/min, in which offsets are counted.
+#[derive(Clone, Copy, Debug)]
+pub(crate) struct Units {
+    h: u32,
+    v0: u32,
+    v1: u32,
+}
+
+/// The stencils of a model: for each advisory, vertex and sigma point the cell that a second leads to, and where in it.
+#[derive(Debug, Drop)]
+pub struct Stencils {
+    stencils: Vec<Stencil>,
+    units: Units,
+}
+
+// The stencil of a cell that holds a point, in units of 1.
+fn stencil_of(grid: &Grid, cell: &Cell) -> Stencil
+    requires grid { IsGrid grid.now }
+    requires fits { FitsGrid grid.now cell.now }
+    ensures { (x : Point) → IsRound grid.now x cell.now
+        → IsStencil grid.now (record { h = 1; v0 = 1; v1 = 1 }) x result }
+{
+    let base = grid.vertex_number(Vertex {
+        i: cell.h.cell,
+        j: cell.v0.cell,
+        k: cell.v1.cell,
+    });
+    Stencil {
+        base,
+        h: cell.h.upper as u32,
+        v0: cell.v0.upper as u32,
+        v1: cell.v1.upper as u32,
+    }
+}
+
+// Where a second leads, by the number of a stencil.
+fn led_to(model: &Model, number: u32) -> Point
+    requires { number < states model.now.grid * length model.now.sigmas }
+    ensures value { result ≡ point_of model.now number }
+    ensures inside { IsInside model.now.grid result }
+{
+    let grid = model.grid();
+    let points = model.points().len() as u32;
+    let state = number / points;
+    let from = state_vertex(grid, state);
+    moved_from(model, from, state_present(grid, state), number % points)
+}
+
+// The stencil of a number, in units of 1.
+fn stencil_at(model: &Model, number: u32) -> Stencil
+    requires { number < states model.now.grid * length model.now.sigmas }
+    ensures { IsStencil model.now.grid (record { h = 1; v0 = 1; v1 = 1 }) (point_of model.now number) result }
+{
+    let grid = model.grid();
+    stencil_of(grid, &cell_of(grid, led_to(model, number)))
+}
+
+// How many stencils a model has.
+fn count_of(model: &Model) -> u32
+    ensures value { result ≡ stencil_count model.now }
+    ensures inside { result ≤ states model.now.grid * length model.now.sigmas }
+{
+    let grid = model.grid();
+    if grid.horizon == 0 {
+        return 0;
+    }
+    grid.states() * model.points().len() as u32
+}
+
+// Writes the stencils of a model, in units of 1.
+fn fill_stencils(model: &Model, count: u32, stencils: &mut [Stencil])
+    requires count { count ≤ states model.now.grid * length model.now.sigmas }
+    requires stencils { length stencils.old ≡ count }
+    ensures count { length stencils.new ≡ count }
+    ensures stencils { AreStencils model.now (record { h = 1; v0 = 1; v1 = 1 }) count stencils.new }
+{
+    for number in 0..count {
+        stencils[number as usize] = stencil_at(model, number);
+    }
+}
+
+// The gap from a place of an axis to the next.
+fn gap_at(axis: &Axis, place: u32) -> u64
+    requires { place + 1 < length axis.now }
+    ensures { result ≡ gap axis.now place }
+{
+    let lower = axis.value(place);
+    axis.value(place + 1).abs_diff(lower)
+}
+
+// The ends of the cell that begins at a place of an axis, for a number that is so many units above that place.
+fn ends_above(axis: &Axis, unit: u32, place: u32, offset: u32) -> Ends
+    requires { (x : ℤ) × IsAbove axis.now unit x place offset }
+    ensures { (x : ℤ) → IsAbove axis.now unit x place offset → IsEnds axis.now x result }
+{
+    let upper = u64::from(unit) * u64::from(offset);
+    let lower = gap_at(axis, place) - upper;
+    Ends {
+        cell: place,
+        lower,
+        upper,
+    }
+}
+
+// The cell of a stencil.
+fn cell_of_stencil(grid: &Grid, units: Units, stencil: Stencil) -> Cell
+    requires grid { IsGrid grid.now }
+    requires stencil { (x : Point) × IsStencil grid.now units x stencil }
+    ensures round { (x : Point) → IsStencil grid.now units x stencil → IsRound grid.now x result }
+    ensures fits { FitsGrid grid.now result }
+{
+    let base = vertex_at(grid, stencil.base);
+    Cell {
+        h: ends_above(&grid.h, units.h, base.i, stencil.h),
+        v0: ends_above(&grid.v0, units.v0, base.j, stencil.v0),
+        v1: ends_above(&grid.v1, units.v1, base.k, stencil.v1),
+    }
+}
+
+impl Stencils {
+    /// The stencils of a model. It takes 16 bytes for each, and at horizon 0 there are none. It fails only for want of memory.
+    pub fn make(alloc: Global, model: &Model) -> Result<Stencils, AllocError>
+        ensures { IfOk result (λ stencils. AreStencilsOf model.now stencils) }
+    {
+        let count = count_of(model);
+        let none = Stencil {
+            base: 0,
+            h: 0,
+            v0: 0,
+            v1: 0,
+        };
+        let mut stencils = vec![in alloc; none; count as usize]?;
+        fill_stencils(model, count, &mut stencils);
+        Ok(Stencils {
+            stencils,
+            units: Units { h: 1, v0: 1, v1: 1 },
+        })
+    }
+
+    // The stencil of a sigma point at a vertex under an advisory.
+    fn stencil(&self, model: &Model, vertex: u32, advisory: u8, sigma: u32) -> Stencil
+        requires stencils { AreStencilsOf model.now self.now }
+        requires horizon { 0 < model.now.grid.horizon }
+        requires vertex { vertex < vertices model.now.grid }
+        requires advisory { advisory < model.now.grid.advisories }
+        requires sigma { sigma < length model.now.sigmas }
+        ensures { let x = numbers.vertex_at model.now.grid vertex in
+            IsStencil model.now.grid self.now.units (process.moved model.now x advisory sigma) result }
+    {
+        let state = model.grid().state_number(advisory, vertex) as usize;
+        self.stencils[state * model.points().len() + sigma as usize]
+    }
+
+    // The cell to which a sigma point leads from a vertex within a second under an advisory.
+    pub(crate) fn cell(&self, model: &Model, vertex: u32, advisory: u8, sigma: u32) -> Cell
+        requires stencils { AreStencilsOf model.now self.now }
+        requires horizon { 0 < model.now.grid.horizon }
+        requires vertex { vertex < vertices model.now.grid }
+        requires advisory { advisory < model.now.grid.advisories }
+        requires sigma { sigma < length model.now.sigmas }
+        ensures round { let x = numbers.vertex_at model.now.grid vertex in
+            IsRound model.now.grid (process.moved model.now x advisory sigma) result }
+        ensures fits { FitsGrid model.now.grid result }
+    {
+        let grid = model.grid();
+        let stencil = self.stencil(model, vertex, advisory, sigma);
+        cell_of_stencil(grid, self.units, stencil)
+    }
+
+    /// The corners of the cell to which a sigma point leads from a vertex within a second under an advisory: those that `corners`
+    /// gives of the point that `moved` gives.
+    pub fn corners(&self, model: &Model, vertex: u32, advisory: u8, sigma: u32) -> CornerSet
+        requires stencils { AreStencilsOf model.now self.now }
+        requires horizon { 0 < model.now.grid.horizon }
+        requires vertex { vertex < vertices model.now.grid }
+        requires advisory { advisory < model.now.grid.advisories }
+        requires sigma { sigma < length model.now.sigmas }
+        ensures corners { let x = numbers.vertex_at model.now.grid vertex in
+            let s = process.moved model.now x advisory sigma in
+            AreCorners model.now.grid s result.corners result.total }
+        ensures sums { let x = numbers.vertex_at model.now.grid vertex in
+            let s = process.moved model.now x advisory sigma in
+            IsInterpolation model.now.grid s result.corners result.total }
+        ensures weights { IsWeighting model.now.grid result.corners result.total }
+    {
+        let cell = self.cell(model, vertex, advisory, sigma);
+        corner_set(model.grid(), &cell)
+    }
+}
