@@ -16,16 +16,17 @@ use crate::refusal::AcceptFault;
 use acas_base::{Advices, Model};
 use acas_bounds::check_by_means;
 use acas_outside::Folder;
-use acas_step::fill_means;
+use acas_step::{Stencils, fill_means_with};
 use acas_table::{TableFault, TableReader, TableRefusal};
 use acas_units::{Entry, Pair};
 use std::alloc::{AllocError, Global};
 
-/// A table in check: its reader, the values of the layer in work, the means of the layer below it, and the advices that
-/// were read.
+/// A table in check: its reader, the model's stencils, the values of the layer in work, the means of the layer below it, and the
+/// advices that were read.
 #[derive(Drop)]
 pub struct TableCheck {
     reader: TableReader,
+    stencils: Stencils,
     pairs: Vec<Pair>,
     means: Vec<Pair>,
     advices: Advices,
@@ -85,6 +86,7 @@ impl TableCheck {
         let states = model.grid().states() as usize;
         Ok(TableCheck {
             reader,
+            stencils: Stencils::make(alloc, model)?,
             pairs: vec![in alloc; Pair { upper: 0, lower: 0 }; states]?,
             means: vec![in alloc; Pair { upper: 0, lower: 0 }; states]?,
             advices: Advices::new(alloc, model)?,
@@ -93,6 +95,7 @@ impl TableCheck {
 
     // Makes the means of the layer below the one with n seconds to go, if there is one.
     fn begin_layer(&mut self, model: &Model, n: u32)
+        requires n { n ≤ model.now.grid.horizon }
         requires check { IsCheckOf model.now self.old (n * states model.now.grid) }
         ensures check { IsCheckOf model.now self.new (n * states model.now.grid) }
         ensures given { (digest bytes : List ℕ) →
@@ -100,7 +103,7 @@ impl TableCheck {
         ensures reader { self.new.reader ≡ self.old.reader }
     {
         if n > 0 {
-            fill_means(model, &self.pairs, &mut self.means);
+            fill_means_with(model, &self.stencils, &self.pairs, &mut self.means);
         }
     }
 
@@ -111,6 +114,7 @@ impl TableCheck {
         requires state { state < self.old.advices.states }
         requires advice { 0 < n → entry.advice < self.old.advices.advisories }
         ensures reader { self.new.reader ≡ self.old.reader }
+        ensures stencils { self.new.stencils ≡ self.old.stencils }
         ensures means { self.new.means ≡ self.old.means }
         ensures pairs { self.new.pairs.items ≡ set self.old.pairs.items state entry.pair }
         ensures advices { self.new.advices ≡ with_advice self.old.advices n state entry.advice }

@@ -22,7 +22,7 @@ use Rattle.acas_grid.specs.States.{state_present, state_vertex}
 use Rattle.acas_step.specs.declared.layer.Side.TheVariants.{Upper, Lower}
 use Rattle.acas_sweep.specs.Entries.{AreBelow, AreOver, IsWhole, listed_entry}
 use Rattle.acas_sweep.specs.Layers.{AreLayers, LayersData}
-use Rattle.acas_sweep.proofs.Over.{below_or_at}
+use Rattle.acas_sweep.proofs.Placed.{below_or_at}
 use Rattle.acas_grid.proofs.StateNumbers.{state_present-below}
 
 pub below_one : (m : ModelData) (pairs : List Pair) (advice : List ℕ)

@@ -1,5 +1,8 @@
+mod BestFrom
+mod Below
+mod Over
 mod Written
 pub mod Counts
-mod BestFrom
-mod Over
-mod Below
+pub mod Filled
+pub mod Handed
+pub mod Placed

@@ -1,9 +1,8 @@
 -- Entries over the layer below, vertex by vertex.
-use Rattle.std.proofs.Common.{◌≡◌, ◌≢◌, ℕ, ◌+◌, ◌*◌, ◌%◌, ◌<◌, ◌≤◌, ◌⊎◌, inl, inr, ⊎_elim, ◌+ℤ◌, List, length, set, ap, sym, subst, ◌∙◌, arith}
-use Rattle.std.proofs.lemmas.Bool.{cases_lt}
-use Rattle.std.proofs.lemmas.Nat.{div-add-mod', mod-mul-add, same_from_place}
+use Rattle.std.proofs.Common.{◌≡◌, ◌≢◌, ℕ, ◌+◌, ◌%◌, ◌<◌, ◌+ℤ◌, List, length, set, ap, ◌∙◌}
+use Rattle.std.proofs.lemmas.Nat.{mod-mul-add}
 use Rattle.acas_spec.specs.Limits.{IsModel}
-use Rattle.acas_spec.specs.Model.{GridData, ModelData, choices_at, states, vertices}
+use Rattle.acas_spec.specs.Model.{GridData, ModelData, choices_at, vertices}
 use Rattle.acas_grid.specs.Grid.{state_number}
 use Rattle.acas_frac.specs.Rounding.{down, up}
 use Rattle.acas_units.specs.declared.pair.Entry.{Entry}
@@ -15,31 +14,21 @@ use Rattle.acas_step.specs.Choices.{value_by_mean}
 use Rattle.acas_step.specs.Layer.{layer_values, value_at}
 use Rattle.acas_step.specs.Means.{AreVertexMeans}
 use Rattle.acas_process.proofs.Least.{first_least-same, least-same}
-use Rattle.acas_grid.specs.States.{state_present, state_vertex, vertex_at}
+use Rattle.acas_grid.specs.States.{vertex_at}
 use Rattle.acas_step.specs.declared.layer.Side.TheVariants.{Upper, Lower}
 use Rattle.acas_sweep.specs.Entries.{AreOver, IsOver, SameElsewhere, listed_entry}
 use Rattle.acas_sweep.specs.Best.{AreBest, IsBest}
-use Rattle.acas_grid.proofs.StateNumbers.{state_present-below}
-use Rattle.acas_sweep.proofs.Written.{listed_entry-other, listed_entry-written}
-
--- a number below the next one is below or at this one
-pub below_or_at : (k n : ℕ) → k < n + 1 → (k < n) ⊎ (k ≡ n)
-below_or_at k n h = ⊎_elim (λ (l : k < n). inl l) (λ (g : n ≤ k). inr (omega arith)) (cases_lt k n)
+use Rattle.acas_sweep.proofs.Placed.{entries_next, states_next}
+use Rattle.acas_sweep.proofs.Written.{listed_entry-other}
 
 -- ---- present by present
 
 pub best_next : (m : ModelData) (means : List Pair) (v p : ℕ) (pairs : List Pair) (advice : List ℕ) (e : Entry) → v < vertices m.grid
     → state_number m.grid p v < length pairs → state_number m.grid p v < length advice → AreBest m means v p pairs advice → IsBest m means p (choices_at m p) e
     → AreBest m means v (p + 1) (set pairs (state_number m.grid p v) e.pair) (set advice (state_number m.grid p v) e.advice)
-best_next m means v p pairs advice e inside h k so_far best = record { entry = λ q below. at q below }
-  where
-    at : (q : ℕ) → q < p + 1 → IsBest m means q (choices_at m q) (listed_entry (set pairs (state_number m.grid p v) e.pair) (set advice (state_number m.grid p v) e.advice) (state_number m.grid q v))
-    at q below = ⊎_elim
-        (λ (l : q < p). let apart : state_number m.grid q v ≢ state_number m.grid p v = λ same. absurd (omega (arith, (same_from_place q v p v (vertices m.grid) inside inside same).0)) in
-        subst (λ (x : Entry). IsBest m means q (choices_at m q) x) (sym (listed_entry-other pairs advice (state_number m.grid p v) (state_number m.grid q v) e apart)) (so_far.entry q l))
-        (λ (here : q ≡ p). subst (λ (r : ℕ). IsBest m means r (choices_at m r) (listed_entry (set pairs (state_number m.grid p v) e.pair) (set advice (state_number m.grid p v) e.advice) (state_number m.grid r v))) (sym here)
-        (subst (λ (x : Entry). IsBest m means p (choices_at m p) x) (sym (listed_entry-written pairs advice (state_number m.grid p v) e h k)) best))
-        (below_or_at q p below)
+best_next m means v p pairs advice e inside h k so_far best = record {
+  entry = entries_next m.grid (λ (q : ℕ) (x : Entry). IsBest m means q (choices_at m q) x) v p pairs advice e inside h k so_far.entry best;
+}
 
 pub elsewhere_next : (g : GridData) (v p : ℕ) (pairs : List Pair) (advice : List ℕ) (pairs' : List Pair) (advice' : List ℕ) (e : Entry) → v < vertices g → SameElsewhere g v pairs advice pairs' advice'
     → SameElsewhere g v pairs advice (set pairs' (state_number g p v) e.pair) (set advice' (state_number g p v) e.advice)
@@ -69,16 +58,7 @@ over_best m below means v p e valid known are best = record {
 pub over_next : (m : ModelData) (below means : List Pair) (v : ℕ) (pairs : List Pair) (advice : List ℕ) (pairs' : List Pair) (advice' : List ℕ) → IsModel m
     → AreVertexMeans m below (vertex_at m.grid v) means
     → AreOver m below v pairs advice → AreBest m means v m.grid.advisories pairs' advice' → SameElsewhere m.grid v pairs advice pairs' advice' → AreOver m below (v + 1) pairs' advice'
-over_next m below means v pairs advice pairs' advice' valid are so_far best others = record { entry = λ s inside h. at s inside h }
-  where
-    at : (s : ℕ) → s < states m.grid → s % vertices m.grid < v + 1 → IsOver m below (state_present m.grid s) (state_vertex m.grid s) (listed_entry pairs' advice' s)
-    at s inside h = ⊎_elim
-        (λ (l : s % vertices m.grid < v). let apart : s % vertices m.grid ≢ v = λ same. absurd (omega arith) in
-        subst (λ (x : Entry). IsOver m below (state_present m.grid s) (state_vertex m.grid s) x) (sym (others.entry s apart)) (so_far.entry s inside l))
-        (λ (here : s % vertices m.grid ≡ v).
-        let number : state_number m.grid (state_present m.grid s) v ≡ s = ap (λ (n : ℕ). state_present m.grid s * vertices m.grid + n) (sym here) ∙ div-add-mod' s (vertices m.grid) in
-        let known = state_present-below m.grid s inside in
-        let over = over_best m below means v (state_present m.grid s) (listed_entry pairs' advice' (state_number m.grid (state_present m.grid s) v)) valid known are (best.entry (state_present m.grid s) known) in
-        subst (λ (n : ℕ). IsOver m below (state_present m.grid s) (vertex_at m.grid n) (listed_entry pairs' advice' s)) (sym here)
-        (subst (λ (n : ℕ). IsOver m below (state_present m.grid s) (vertex_at m.grid v) (listed_entry pairs' advice' n)) number over))
-        (below_or_at (s % vertices m.grid) v h)
+over_next m below means v pairs advice pairs' advice' valid are so_far best others = record {
+  entry = states_next m.grid (λ (p w : ℕ) (x : Entry). IsOver m below p (vertex_at m.grid w) x) v pairs advice pairs' advice' so_far.entry
+      (λ p known. over_best m below means v p (listed_entry pairs' advice' (state_number m.grid p v)) valid known are (best.entry p known)) others;
+}

@@ -1,3 +1,5 @@
 pub mod Layers
 pub mod Entries
 pub mod Best
+pub mod Filled
+pub mod Handed

@@ -7,9 +7,14 @@ mod best;
 mod laws;
 mod layer;
 mod layers;
-mod sweep;
+mod list;
+mod plane;
+mod sink;
+mod stream;
 mod vertex;
 
 pub use laws::{advices_are_advisories, backups_are_few};
 pub use layers::Layers;
-pub use sweep::sweep_list;
+pub use list::sweep_list;
+pub use sink::{LayerFailed, LayerSink};
+pub use stream::{SweepFault, sweep};

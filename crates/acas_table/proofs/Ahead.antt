@@ -7,10 +7,12 @@ use Rattle.std.specs.FinMap.{get}
 use Rattle.acas_outside.specs.Bytes.{IsBytes}
 use Rattle.acas_outside.specs.Files.{Files, Given, Reads}
 use Rattle.acas_table.specs.declared.source.Source.{Source}
-use Rattle.acas_table.specs.Text.{part}
+use Rattle.acas_units.specs.declared.pair.Entry.{Entry}
+use Rattle.acas_table.specs.Text.{part, entry_of}
 use Rattle.sha2.specs.Hashers.{Holds256}
+use Rattle.sha2.specs.Sha256.{sha256}
 use Rattle.acas_table.specs.Faults.{more_fault}
-use Rattle.acas_table.specs.Source.{IsHashed, IsAt, IsAtFile, Moves, GivesMore, Fills, Finds}
+use Rattle.acas_table.specs.Source.{hashed_place, IsHashed, IsAt, IsAtFile, Moves, GivesMore, Fills, Finds}
 use Rattle.acas_table.specs.declared.source.Miss.{Miss}
 use Rattle.acas_table.specs.declared.source.Miss.TheVariants.{Ends}
 use Rattle.acas_table.specs.declared.fault.TableFault.TheVariants.{Length}
@@ -55,38 +57,43 @@ seen_more old new bytes field n place is small seen =
     (ap (λ (l : List ℕ). take old.place bytes ++ l) is ∙ sym (take-add old.place n bytes) ∙ ap (λ (k : ℕ). take k bytes) (sym place))
     (bytes_of_both (take old.place bytes) field seen small)
 
--- what was read since the mark stays
-pub hashed_moves : (old new : Source) (bytes : List ℕ) → Moves old new → IsHashed old bytes → IsHashed new bytes
-hashed_moves old new bytes moves hashed = rw (moves.hasher, moves.mark, moves.place) hashed
+-- what the digest took in stays, where it takes in no more
+hashed_same : (old new : Source) (bytes : List ℕ) → new.hasher ≡ old.hasher → new.mark ≡ old.mark → hashed_place new ≡ hashed_place old → IsHashed old bytes → IsHashed new bytes
+hashed_same old new bytes hasher mark place hashed =
+    let same : part bytes old.mark (hashed_place old - old.mark) ≡ part bytes new.mark (hashed_place new - new.mark) =
+    ap (λ (m : ℕ). part bytes old.mark (m - old.mark)) (sym place) ∙ ap (λ (m : ℕ). part bytes m (hashed_place new - m)) (sym mark) in
+    rw hasher (subst (λ (l : List ℕ). Holds256 old.hasher l) same hashed)
 
 more_file : {X : Type 0} (x : X) (file : Option (List ℕ)) (old new : Source) (into : List ℕ) (n at : ℕ) → Reads file at (Ok n) into → at ≡ old.place + (old.to - old.from)
-    → new.from ≡ old.from → new.to ≡ old.to + n → Moves old new → take (old.to + n) new.buffer.items ≡ take old.to old.buffer.items ++ take n into
+    → new.hashed ≡ old.hashed → new.from ≡ old.from → new.to ≡ old.to + n → new.hasher ≡ old.hasher → Moves old new → take (old.to + n) new.buffer.items ≡ take old.to old.buffer.items ++ take n into
     → IsAtFile old file → GivesMore {X = X} old file new (Ok x)
-more_file x None old new into n at reads place from to moves grown stands = absurd reads
-more_file x (Some bytes) old new into n at reads place from to moves grown stands =
-    let k = old.to - old.from in
-    let end : old.from + k ≡ old.to = omega (arith, old.ordered) in
-    let fresh : new.to - new.from ≡ k + n = omega (arith, old.ordered) in
-    let after : take n into ≡ take n (drop (old.place + k) bytes) = reads.bytes ∙ ap (λ (m : ℕ). take n (drop m bytes)) place in
-    let whole : take (old.from + k + n) new.buffer.items ≡ take (old.from + k) old.buffer.items ++ take n into =
+more_file x None old new into n at reads place hashed from to hasher moves grown stands = absurd reads
+more_file x (Some bytes) old new into n at reads place hashed from to hasher moves grown stands =
+    let k = old.to - old.hashed in
+    let end : old.hashed + k ≡ old.to = omega (arith, old.behind, old.ordered) in
+    let fresh : new.to - new.hashed ≡ k + n = omega (arith, old.behind, old.ordered) in
+    let same : hashed_place new ≡ hashed_place old = omega (arith, moves.place) in
+    let up : at ≡ hashed_place old + k = omega (arith, old.behind, old.ordered, old.marked) in
+    let after : take n into ≡ take n (drop (hashed_place old + k) bytes) = reads.bytes ∙ ap (λ (m : ℕ). take n (drop m bytes)) up in
+    let whole : take (old.hashed + k + n) new.buffer.items ≡ take (old.hashed + k) old.buffer.items ++ take n into =
     subst (λ (m : ℕ). take (m + n) new.buffer.items ≡ take m old.buffer.items ++ take n into) (sym end) grown in
     record {
       ahead =
-          ap (λ (m : ℕ). part new.buffer.items m (new.to - new.from)) from
-          ∙ ap (λ (m : ℕ). part new.buffer.items old.from m) fresh
-          ∙ ahead_more old.buffer.items new.buffer.items bytes into old.from k n old.place (omega (arith, old.ordered, old.room)) whole stands.ahead after
-          ∙ ap (λ (m : ℕ). part bytes old.place m) (sym fresh)
-          ∙ ap (λ (m : ℕ). part bytes m (new.to - new.from)) (sym moves.place);
+          ap (λ (m : ℕ). part new.buffer.items m (new.to - new.hashed)) hashed
+          ∙ ap (λ (m : ℕ). part new.buffer.items old.hashed m) fresh
+          ∙ ahead_more old.buffer.items new.buffer.items bytes into old.hashed k n (hashed_place old) (omega (arith, old.behind, old.ordered, old.room)) whole stands.ahead after
+          ∙ ap (λ (m : ℕ). part bytes (hashed_place old) m) (sym fresh)
+          ∙ ap (λ (m : ℕ). part bytes m (new.to - new.hashed)) (sym same);
       within = omega (arith, reads.within, stands.within, old.ordered, moves.place);
-      hashed = hashed_moves old new bytes moves stands.hashed;
+      hashed = hashed_same old new bytes hasher moves.mark same stands.hashed;
       seen = seen_moves old new bytes moves.place stands.seen;
     }
 
 pub more_given : {X : Type 0} (x : X) (holds : Option Files) (name : List ℕ) (old new : Source) (into : List ℕ) (n at : ℕ) → Given holds name (λ file. Reads file at (Ok n) into) → at ≡ old.place + (old.to - old.from)
-    → new.from ≡ old.from → new.to ≡ old.to + n → Moves old new → take (old.to + n) new.buffer.items ≡ take old.to old.buffer.items ++ take n into
+    → new.hashed ≡ old.hashed → new.from ≡ old.from → new.to ≡ old.to + n → new.hasher ≡ old.hasher → Moves old new → take (old.to + n) new.buffer.items ≡ take old.to old.buffer.items ++ take n into
     → Given holds name (λ file. IsAtFile old file → GivesMore {X = X} old file new (Ok x))
-more_given x None name old new into n at reads place from to moves grown = tt
-more_given x (Some files) name old new into n at reads place from to moves grown = more_file x (get files name) old new into n at reads place from to moves grown
+more_given x None name old new into n at reads place hashed from to hasher moves grown = tt
+more_given x (Some files) name old new into n at reads place hashed from to hasher moves grown = more_file x (get files name) old new into n at reads place hashed from to hasher moves grown
 
 -- the first n of the bytes at hand
 pub part-first : (a b : List ℕ) (i j n k : ℕ) → n ≤ k → part a i k ≡ part b j k → part a i n ≡ part b j n
@@ -108,49 +115,102 @@ pub part-join : (a : List ℕ) (i k n : ℕ) → part a i k ++ part a (i + k) n 
 part-join a i k n =
     ap (λ (l : List ℕ). part a i k ++ take n l) (sym (drop-drop k i a)) ∙ sym (take-add k n (drop i a))
 
--- the digest, as a field is passed over
-pub hashed_more : (old new : Source) (bytes : List ℕ) (n : ℕ) → new.place ≡ old.place + n → new.mark ≡ old.mark
-    → ((m : List ℕ) → Holds256 old.hasher m → Holds256 new.hasher (m ++ part bytes old.place n)) → IsHashed old bytes → IsHashed new bytes
+-- of what the buffer has, the bytes that the digest lacks
+behind_hand : (s : Source) (bytes : List ℕ) → IsAt s bytes → part s.buffer.items s.hashed (s.from - s.hashed) ≡ part bytes (hashed_place s) (s.from - s.hashed)
+behind_hand s bytes stands =
+    part-first s.buffer.items bytes s.hashed (hashed_place s) (s.from - s.hashed) (s.to - s.hashed) (omega (arith, s.ordered)) stands.ahead
+
+-- and those at hand
+at_hand : (s : Source) (bytes : List ℕ) → IsAt s bytes → part s.buffer.items s.from (s.to - s.from) ≡ part bytes s.place (s.to - s.from)
+at_hand s bytes stands =
+    let d = s.from - s.hashed in
+    let from : s.hashed + d ≡ s.from = omega (arith, s.behind) in
+    let place : hashed_place s + d ≡ s.place = omega (arith, s.behind, s.marked) in
+    let rest : s.to - s.hashed - d ≡ s.to - s.from = omega (arith, s.behind, s.ordered) in
+    ap (λ (m : ℕ). part s.buffer.items m (s.to - s.from)) (sym from)
+    ∙ ap (λ (m : ℕ). part s.buffer.items (s.hashed + d) m) (sym rest)
+    ∙ part-rest s.buffer.items bytes s.hashed (hashed_place s) d (s.to - s.hashed) (omega (arith, s.ordered)) stands.ahead
+    ∙ ap (λ (m : ℕ). part bytes (hashed_place s + d) m) rest
+    ∙ ap (λ (m : ℕ). part bytes m (s.to - s.from)) place
+
+-- the digest, as it takes in more
+hashed_more : (old new : Source) (bytes : List ℕ) (n : ℕ) → hashed_place new ≡ hashed_place old + n → new.mark ≡ old.mark
+    → ((m : List ℕ) → Holds256 old.hasher m → Holds256 new.hasher (m ++ part bytes (hashed_place old) n)) → IsHashed old bytes → IsHashed new bytes
 hashed_more old new bytes n place mark update hashed =
-    let k = old.place - old.mark in
-    let up : old.mark + k ≡ old.place = omega (arith, old.marked) in
-    let whole : part bytes old.mark k ++ part bytes old.place n ≡ part bytes new.mark (new.place - new.mark) =
+    let k = hashed_place old - old.mark in
+    let up : old.mark + k ≡ hashed_place old = omega (arith, old.marked) in
+    let whole : part bytes old.mark k ++ part bytes (hashed_place old) n ≡ part bytes new.mark (hashed_place new - new.mark) =
     ap (λ (m : ℕ). part bytes old.mark k ++ part bytes m n) (sym up) ∙ part-join bytes old.mark k n
-    ∙ ap (λ (m : ℕ). part bytes old.mark m) (omega (arith, old.marked)) ∙ ap (λ (m : ℕ). part bytes m (new.place - new.mark)) (sym mark) in
+    ∙ ap (λ (m : ℕ). part bytes old.mark m) (omega (arith, old.marked)) ∙ ap (λ (m : ℕ). part bytes m (hashed_place new - new.mark)) (sym mark) in
     subst (λ (l : List ℕ). Holds256 new.hasher l) whole (update (part bytes old.mark k) hashed)
+
+-- a source whose digest takes in all that was read
+pub hashed_file : (file : Option (List ℕ)) (old new : Source) (field : List ℕ) → field ≡ part old.buffer.items old.hashed (old.from - old.hashed)
+    → new.buffer.items ≡ old.buffer.items → new.hashed ≡ old.from → new.from ≡ old.from → new.to ≡ old.to → new.place ≡ old.place → new.mark ≡ old.mark
+    → ((m : List ℕ) → Holds256 old.hasher m → Holds256 new.hasher (m ++ field)) → IsAtFile old file → IsAtFile new file
+hashed_file None old new field is buffer hashed from to place mark update stands = from ∙ stands ∙ sym to
+hashed_file (Some bytes) old new field is buffer hashed from to place mark update stands =
+    let rest : new.to - new.hashed ≡ old.to - old.from = omega arith in
+    let up : hashed_place new ≡ old.place = omega arith in
+    let more : hashed_place new ≡ hashed_place old + (old.from - old.hashed) = omega (arith, old.behind, old.marked) in
+    let same : field ≡ part bytes (hashed_place old) (old.from - old.hashed) = is ∙ behind_hand old bytes stands in
+    record {
+      ahead =
+          ap (λ (l : List ℕ). part l new.hashed (new.to - new.hashed)) buffer
+          ∙ ap (λ (m : ℕ). part old.buffer.items m (new.to - new.hashed)) hashed
+          ∙ ap (λ (m : ℕ). part old.buffer.items old.from m) rest
+          ∙ at_hand old bytes stands
+          ∙ ap (λ (m : ℕ). part bytes old.place m) (sym rest)
+          ∙ ap (λ (m : ℕ). part bytes m (new.to - new.hashed)) (sym up);
+      within = omega (arith, stands.within);
+      hashed = hashed_more old new bytes (old.from - old.hashed) more mark (λ m holds. subst (λ (l : List ℕ). Holds256 new.hasher (m ++ l)) same (update m holds)) stands.hashed;
+      seen = seen_moves old new bytes place stands.seen;
+    }
+
+-- the digest of a source that has taken in all that was read
+pub digest_of : (old new : Source) (bytes digest : List ℕ) → Moves old new → new.hashed ≡ new.from → ((m : List ℕ) → Holds256 new.hasher m → digest ≡ sha256 m)
+    → IsAt new bytes → digest ≡ sha256 (part bytes old.mark (old.place - old.mark))
+digest_of old new bytes digest moves hashed finished stands =
+    let width : hashed_place new - new.mark ≡ old.place - old.mark = omega (arith, moves.place, moves.mark) in
+    finished (part bytes new.mark (hashed_place new - new.mark)) stands.hashed
+    ∙ ap (λ (m : ℕ). sha256 (part bytes new.mark m)) width
+    ∙ ap (λ (m : ℕ). sha256 (part bytes m (old.place - old.mark))) moves.mark
 
 -- a field that is passed over
 pub passed : (old new : Source) (bytes field : List ℕ) (n : ℕ) → n ≤ old.to - old.from → field ≡ part old.buffer.items old.from n
-    → new.buffer.items ≡ old.buffer.items → new.from ≡ old.from + n → new.to ≡ old.to → new.place ≡ old.place + n → new.mark ≡ old.mark
-    → ((m : List ℕ) → Holds256 old.hasher m → Holds256 new.hasher (m ++ field)) → IsBytes field
-    → IsAt old bytes → (field ≡ part bytes old.place n) × IsAt new bytes
-passed old new bytes field n filled is buffer from to place mark update small stands =
-    let k = old.to - old.from in
-    let rest : new.to - new.from ≡ k - n = omega arith in
-    let same : field ≡ part bytes old.place n = is ∙ part-first old.buffer.items bytes old.from old.place n k filled stands.ahead in (
+    → new.buffer.items ≡ old.buffer.items → new.hashed ≡ old.hashed → new.from ≡ old.from + n → new.to ≡ old.to → new.place ≡ old.place + n → new.mark ≡ old.mark
+    → new.hasher ≡ old.hasher → IsBytes field → IsAt old bytes → (field ≡ part bytes old.place n) × IsAt new bytes
+passed old new bytes field n filled is buffer hashed from to place mark hasher small stands =
+    let rest : new.to - new.hashed ≡ old.to - old.hashed = omega arith in
+    let up : hashed_place new ≡ hashed_place old = omega (arith, old.behind) in
+    let same : field ≡ part bytes old.place n = is ∙ part-first old.buffer.items bytes old.from old.place n (old.to - old.from) filled (at_hand old bytes stands) in (
       same,
       record {
         ahead =
-            ap (λ (l : List ℕ). part l new.from (new.to - new.from)) buffer
-            ∙ ap (λ (m : ℕ). part old.buffer.items m (new.to - new.from)) from
-            ∙ ap (λ (m : ℕ). part old.buffer.items (old.from + n) m) rest
-            ∙ part-rest old.buffer.items bytes old.from old.place n k filled stands.ahead
-            ∙ ap (λ (m : ℕ). part bytes (old.place + n) m) (sym rest)
-            ∙ ap (λ (m : ℕ). part bytes m (new.to - new.from)) (sym place);
+            ap (λ (l : List ℕ). part l new.hashed (new.to - new.hashed)) buffer
+            ∙ ap (λ (m : ℕ). part old.buffer.items m (new.to - new.hashed)) hashed
+            ∙ ap (λ (m : ℕ). part old.buffer.items old.hashed m) rest
+            ∙ stands.ahead
+            ∙ ap (λ (m : ℕ). part bytes (hashed_place old) m) (sym rest)
+            ∙ ap (λ (m : ℕ). part bytes m (new.to - new.hashed)) (sym up);
         within = omega (arith, stands.within);
-        hashed = hashed_more old new bytes n place mark (λ m holds. subst (λ (l : List ℕ). Holds256 new.hasher (m ++ l)) same (update m holds)) stands.hashed;
+        hashed = hashed_same old new bytes hasher mark up stands.hashed;
         seen = seen_more old new bytes field n place same small stands.seen;
       },
     )
 
+-- an entry whose field is passed over
+pub entry_passed : {P : Type 0} (entry : Entry) (field found : List ℕ) → entry ≡ entry_of field → (field ≡ found) × P → (entry ≡ entry_of found) × P
+entry_passed entry field found value passes = (value ∙ ap entry_of passes.0, passes.1)
+
 -- a source that has read nothing is at the front of every file
-pub at_front : (s : Source) (file : Option (List ℕ)) → s.from ≡ 0 → s.to ≡ 0 → s.place ≡ 0 → s.mark ≡ 0 → Holds256 s.hasher [] → IsAtFile s file
-at_front s None from to place mark empty = from ∙ sym to
-at_front s (Some bytes) from to place mark empty =
-    let none : s.to - s.from ≡ 0 = omega arith in
-    let unread : s.place - s.mark ≡ 0 = omega arith in
+pub at_front : (s : Source) (file : Option (List ℕ)) → s.hashed ≡ 0 → s.from ≡ 0 → s.to ≡ 0 → s.place ≡ 0 → s.mark ≡ 0 → Holds256 s.hasher [] → IsAtFile s file
+at_front s None hashed from to place mark empty = from ∙ sym to
+at_front s (Some bytes) hashed from to place mark empty =
+    let none : s.to - s.hashed ≡ 0 = omega arith in
+    let unread : hashed_place s - s.mark ≡ 0 = omega arith in
     record {
-      ahead = ap (λ (m : ℕ). part s.buffer.items s.from m) none ∙ sym (ap (λ (m : ℕ). part bytes s.place m) none);
+      ahead = ap (λ (m : ℕ). part s.buffer.items s.hashed m) none ∙ sym (ap (λ (m : ℕ). part bytes (hashed_place s) m) none);
       within = omega arith;
       hashed = subst (λ (l : List ℕ). Holds256 s.hasher l) (sym (ap (λ (m : ℕ). part bytes s.mark m) unread)) empty;
       seen = subst (λ (k : ℕ). IsBytes (take k bytes)) (sym place) (λ i. omega arith);

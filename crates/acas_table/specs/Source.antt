@@ -12,9 +12,13 @@ use Rattle.acas_table.specs.declared.source.Source.{Source}
 use Rattle.acas_table.specs.declared.source.Miss.{Miss}
 use Rattle.acas_table.specs.declared.source.Miss.TheVariants.{Ends, Absent, Failed}
 
--- the digest has taken in what was read since its mark
+-- the place before which the digest has taken in all
+abbrev pub hashed_place : Source → ℕ
+hashed_place s = s.place - (s.from - s.hashed)
+
+-- the digest has taken in what was read since its mark, but for the last bytes of it, which the buffer still has
 abbrev pub IsHashed : Source → List ℕ → Type 0
-IsHashed s bytes = Holds256 s.hasher (part bytes s.mark (s.place - s.mark))
+IsHashed s bytes = Holds256 s.hasher (part bytes s.mark (hashed_place s - s.mark))
 
 -- how many bytes of its file the source took: those before its place, and those at hand
 abbrev pub bytes_taken : Source → ℕ
@@ -32,9 +36,9 @@ pub record TakesMore {F : Type 0} (d : FolderMeanings F) (old new : F) (before n
   pub later : bytes_taken before ≤ bytes_taken now
   pub taken : d.taken new ≡ raised (d.taken old) (bytes_taken now - bytes_taken before)
 
--- the source is at its place in these bytes, and has their next ones at hand
+-- the source is at its place in these bytes, and has in its buffer their next ones, behind those that the digest lacks
 pub record IsAt (s : Source) (bytes : List ℕ) : Type 0 where
-  pub ahead : part s.buffer.items s.from (s.to - s.from) ≡ part bytes s.place (s.to - s.from)
+  pub ahead : part s.buffer.items s.hashed (s.to - s.hashed) ≡ part bytes (hashed_place s) (s.to - s.hashed)
   pub within : s.place + (s.to - s.from) ≤ length bytes
   pub hashed : IsHashed s bytes
   pub seen : IsBytes (take s.place bytes)
@@ -50,7 +54,6 @@ pub record Moves (old new : Source) : Type 0 where
   pub limit : new.limit ≡ old.limit
   pub expected : new.expected ≡ old.expected
   pub mark : new.mark ≡ old.mark
-  pub hasher : new.hasher ≡ old.hasher
 
 -- one read: there is more, or the file ends behind the bytes at hand
 abbrev pub GivesMore : {X : Type 0} → Source → Option (List ℕ) → Source → Result X Miss → Type 0

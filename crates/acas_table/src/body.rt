@@ -3,7 +3,7 @@ ghost use Rattle.std.specs.Prelude.{◌≡◌, ◌≤◌, ◌<◌, ◌+◌, ◌*
 ghost use Rattle.acas_outside.specs.Files.{Given};
 ghost use Rattle.acas_outside.specs.Frame.{OnlyReads};
 ghost use Rattle.acas_table.specs.Shape.{IsShape, entry_count};
-ghost use Rattle.acas_table.specs.Text.{length_1, entry_of, entry_at};
+ghost use Rattle.acas_table.specs.Text.{length_1, entry_at};
 ghost use Rattle.acas_table.specs.Faults.{entry_fault, digest_fault, kept_fault, tail_fault};
 ghost use Rattle.acas_table.specs.Source.{IsAtFile, Checks, Finds, Steps, TakesMore, bytes_taken};
 
@@ -11,8 +11,7 @@ use crate::fault::TableFault;
 use crate::shape::TableShape;
 use crate::source::Source;
 use acas_outside::Folder;
-use acas_units::{Entry, Pair};
-use byteorder::{ByteOrder, LittleEndian};
+use acas_units::Entry;
 
 /// Reads an entry, by its number.
 #[tactic(auto, unfolding(crate::specs::Faults::entry_fault))]
@@ -40,8 +39,7 @@ pub fn read_entry<F: Folder>(
     ensures frame { OnlyReads F.Folder folder.old folder.new
         (IsErrOf result TableFault.Failed) (IsErrOf result TableFault.Absent) }
 {
-    let field: [u8; 17] = source.field(folder, name)?;
-    let entry = decode(&field);
+    let entry = source.entry(folder, name)?;
     if !is_advice(shape, index, entry.advice) {
         return Err(TableFault::Advice {
             layer: index / shape.states,
@@ -61,19 +59,6 @@ fn is_advice(shape: &TableShape, index: u32, byte: u8) -> bool
         byte == 255
     } else {
         (byte as u32) < shape.advisories
-    }
-}
-
-#[tactic(auto, unfolding(crate::specs::Text::entry_of))]
-fn decode(field: &[u8; 17]) -> Entry
-    ensures { result ≡ entry_of field.now }
-{
-    Entry {
-        pair: Pair {
-            upper: LittleEndian::read_i64(&field[..8]),
-            lower: LittleEndian::read_i64(&field[8..16]),
-        },
-        advice: field[16],
     }
 }
 

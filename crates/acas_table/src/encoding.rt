@@ -1,8 +1,9 @@
 //! The bytes of a header and of entries.
 ghost use Rattle.std.specs.Prelude.{◌≡◌, ◌≤◌, ◌*◌, ◌++◌, length, take, IfOk, OnOk};
+ghost use Rattle.acas_outside.specs.Bytes.{IsBytes};
 ghost use Rattle.std.specs.Int.{w64, cast_unsigned};
 ghost use Rattle.byteorder.specs.Endian.{little_bytes};
-ghost use Rattle.acas_table.specs.Text.{entry_text, header, layer_of, layer_text};
+ghost use Rattle.acas_table.specs.Text.{entry_of, entry_text, header, layer_of, layer_text};
 
 use crate::shape::TableShape;
 use acas_units::{Entry, Pair};
@@ -88,4 +89,20 @@ fn value_bytes(value: i64) -> [u8; 8]
     let mut bytes = [0u8; 8];
     LittleEndian::write_i64(&mut bytes, value);
     bytes
+}
+
+/// The entry that 17 bytes are.
+#[tactic(auto, unfolding(crate::specs::Text::entry_of))]
+pub fn decode_entry(field: &[u8]) -> Entry
+    requires { length field.now ≡ 17 }
+    ensures value { result ≡ entry_of field.now }
+    ensures bytes { IsBytes field.now }
+{
+    Entry {
+        pair: Pair {
+            upper: LittleEndian::read_i64(&field[..8]),
+            lower: LittleEndian::read_i64(&field[8..16]),
+        },
+        advice: field[16],
+    }
 }

@@ -13,6 +13,8 @@ mod models;
 #[cfg(test)]
 mod step;
 #[cfg(test)]
+mod stream;
+#[cfg(test)]
 mod sweep;
 #[cfg(test)]
 mod tables;

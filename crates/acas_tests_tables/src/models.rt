@@ -63,6 +63,26 @@ sigma = [
 ]
 "#;
 
+/// One cell with the widest gaps that a model may have, and the greatest costs.
+pub const WIDE: &str = r#"
+version = 1
+horizon = 2
+grid = { altitude = [-10000, 10000], own_rate = [-10000, 10000], intruder_rate = [-10000, 10000] }
+puck = { radius = 500, half_height = 1000 }
+closing = { least = 500, greatest = 500 }
+pilot = { pull = 480, limit = 960 }
+cost = { contact = 1000000000 }
+advisory = [
+  { name = "clear", lo = -10000, hi = 10000, choices = ["clear", "climb"], costs = [1000000000, -1000000000] },
+  { name = "climb", lo = 1500, hi = 10000, choices = ["clear", "climb"], costs = [0, 1000000000] },
+]
+sigma = [
+  { weight = 333, own = 7, intruder = -11 },
+  { weight = 334, own = -600, intruder = 600 },
+  { weight = 333, own = 1, intruder = 0 },
+]
+"#;
+
 /// Four altitudes, three own rates and two of the intruder, four advisories, no noise.
 pub const FOUR: &str = r#"
 version = 1

@@ -1,9 +1,14 @@
 //! One second of small models.
-use crate::models::{FOUR, NOISY, model_of};
+ghost use Rattle.acas_step.specs.Stencils.{AreStencilsOf};
+
+use crate::models::{FOUR, NOISY, WIDE, model_of};
 use acas_base::{Choice, Model};
 use acas_frac::{Down, Up};
-use acas_grid::{Point, state_vertex};
-use acas_step::{Backups, Corner, CornerSet, Side, backup, corners, mean, moved, terminal};
+use acas_grid::{Point, state_present, state_vertex};
+use acas_step::{
+    Backups, Corner, CornerSet, Side, Stencils, backup, corners, mean, means_at, means_with, moved,
+    reach_of, terminal,
+};
 use acas_units::Pair;
 use std::alloc::{AllocError, Global};
 use std::test::Fail;
@@ -178,5 +183,54 @@ fn choices_have_values(rt: HostRuntime) -> Result<(), Fail> {
     assert!(rt; means_of(&four, 7, 2, &last) == Some((402_986, 402_985)));
     assert!(rt; means_of(&four, 7, 0, &last) == Some((373_135, 373_134)));
     assert!(rt; means_of(&four, 24, 0, &last) == None);
+    Ok(())
+}
+
+// Whether the stencils of a model give the corners of each point to which a second leads, and there is a second to go.
+fn same_corners(model: &Model, stencils: &Stencils) -> bool
+    requires { AreStencilsOf model.now stencils.now }
+{
+    let grid = model.grid();
+    if grid.horizon == 0 {
+        return false;
+    }
+    let mut same = true;
+    for state in 0..grid.states() {
+        let advisory = state_present(grid, state);
+        let vertex = state % grid.vertices();
+        for sigma in 0..model.points().len() as u32 {
+            let plain = corners(model, moved(model, vertex, advisory, sigma));
+            same = same && stencils.corners(model, vertex, advisory, sigma) == plain;
+        }
+    }
+    same
+}
+
+// Whether the means by the stencils of a model are the plain ones at each vertex, and there is a second to go.
+fn same_means(model: &Model, stencils: &Stencils, below: &[Pair]) -> bool
+    requires { AreStencilsOf model.now stencils.now }
+{
+    let grid = model.grid();
+    if grid.horizon == 0 || below.len() != grid.states() as usize {
+        return false;
+    }
+    let reach = reach_of(stencils, below);
+    let mut same = true;
+    for vertex in 0..grid.vertices() {
+        let plain = means_at(model, vertex, below);
+        same = same && means_with(model, stencils, reach, vertex, below) == plain;
+    }
+    same
+}
+
+#[test]
+fn stencils_give_the_plain_step(rt: HostRuntime) -> Result<(), Fail> {
+    for text in [FOUR, NOISY, WIDE] {
+        let model = model_of(rt.alloc(), text).ok_or("a model")?;
+        let stencils = Stencils::make(rt.alloc(), &model)?;
+        let below = last_layer(rt.alloc(), &model)?;
+        assert!(rt; same_corners(&model, &stencils), "{text}");
+        assert!(rt; same_means(&model, &stencils, &below), "{text}");
+    }
     Ok(())
 }

@@ -12,6 +12,6 @@ fill_vertex-requires-clause-count c =
 
 pub loop-vertex-preserved : goal.loop-vertex-preserved
 loop-vertex-preserved c = record {
-  over = over_next c.args.model.now c.args.below.now c.means_at-vertex_means.result c.loop-vertex.vertex c.loop-vertex.pairs c.loop-vertex.advice c.fill_vertex.new.pairs c.fill_vertex.new.advice c.grid.ensures.valid c.means_at-vertex_means.ensures.means c.loop-vertex.invariant.over c.fill_vertex.ensures.best c.fill_vertex.ensures.others;
+  over = over_next c.args.model.now c.args.below.now c.means_with-vertex_means.result c.loop-vertex.vertex c.loop-vertex.pairs c.loop-vertex.advice c.fill_vertex.new.pairs c.fill_vertex.new.advice c.grid.ensures.valid c.means_with-vertex_means.ensures.means c.loop-vertex.invariant.over c.fill_vertex.ensures.best c.fill_vertex.ensures.others;
   counted = omega (arith, c.loop-vertex.invariant.counted, c.fill_vertex.ensures.count);
 }

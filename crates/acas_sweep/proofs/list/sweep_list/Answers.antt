@@ -2,7 +2,7 @@ use Rattle.std.proofs.Common.{◌≡◌, length, ap, subst, sym, ◌∙◌, arit
 use Rattle.acas_spec.specs.Model.{GridData, entries, states}
 use Rattle.acas_sweep.specs.Layers.{AreLayers, LayersData}
 use Rattle.acas_sweep.proofs.Below.{are_layers, same_layers, written_back}
-use Rattle.acas_sweep.proofs.sweep.sweep_list.Goals as goal
+use Rattle.acas_sweep.proofs.list.sweep_list.Goals as goal
 
 pub returns-clause-layers : goal.returns-clause-layers
 returns-clause-layers c =

@@ -2,7 +2,7 @@ use Rattle.std.proofs.Common.{◌≡◌, ◌+◌, ◌*◌, ◌≤◌, length, ap
 use Rattle.std.proofs.Math.Nat.{mul-le-mul_right}
 use Rattle.acas_spec.specs.Model.{GridData, states}
 use Rattle.acas_sweep.proofs.Below.{whole_below, next_below}
-use Rattle.acas_sweep.proofs.sweep.fill_next.Goals as goal
+use Rattle.acas_sweep.proofs.list.fill_next.Goals as goal
 
 pub fill_over-requires-clause-below : goal.fill_over-requires-clause-below
 fill_over-requires-clause-below c =

@@ -1,7 +1,7 @@
 use Rattle.std.proofs.Common.{◌≡◌, ◌+◌, ◌-◌, ◌*◌, ◌≤◌}
 use Rattle.acas_sweep.specs.Entries.{AreBelow}
 use Rattle.acas_sweep.specs.Layers.{layer_backups}
-use Rattle.acas_sweep.proofs.sweep.fill_layers.Given as goal
+use Rattle.acas_sweep.proofs.list.fill_layers.Given as goal
 
 abbrev pub invariant-loop-n : goal.invariant-loop-n
 invariant-loop-n l = record {

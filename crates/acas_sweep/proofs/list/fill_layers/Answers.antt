@@ -2,7 +2,7 @@ use Rattle.std.proofs.Common.{◌≡◌, ◌+◌, ◌-◌, ◌≤◌, ap, arith}
 use Rattle.std.proofs.Math.Nat.{mul-le-mul_right}
 use Rattle.acas_spec.specs.Model.{GridData}
 use Rattle.acas_sweep.specs.Layers.{layer_backups}
-use Rattle.acas_sweep.proofs.sweep.fill_layers.Goals as goal
+use Rattle.acas_sweep.proofs.list.fill_layers.Goals as goal
 
 pub fill_next-requires-clause-count : goal.fill_next-requires-clause-count
 fill_next-requires-clause-count c =

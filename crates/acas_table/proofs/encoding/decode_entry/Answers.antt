@@ -4,11 +4,11 @@ use Rattle.std.specs.Int.{cast_signed}
 use Rattle.byteorder.specs.Endian.{little_number}
 use Rattle.acas_units.specs.declared.pair.Entry.{Entry}
 use Rattle.acas_table.specs.Text.{part, entry_of}
-use Rattle.acas_table.proofs.body.decode.Goals as goal
+use Rattle.acas_table.proofs.encoding.decode_entry.Goals as goal
 
-pub returns : goal.returns
+pub returns-clause-value : goal.returns-clause-value
 unfolding entry_of
-returns c =
+returns-clause-value c =
     let upper : to_z w64 (of_z w64 c.read_i64.result) ≡ cast_signed w64 (little_number 8 (part c.args.field.now 0 8)) =
     to_z-of_z w64 c.read_i64.result (search rules) ∙ c.read_i64.ensures in
     let lower : to_z w64 (of_z w64 c.read_i64-2.result) ≡ cast_signed w64 (little_number 8 (part c.args.field.now 8 8)) =

@@ -1,0 +1,61 @@
+-- Entries at one vertex, present advisory by present advisory, and then vertex by vertex.
+use Rattle.std.proofs.Common.{◌≡◌, ◌≢◌, ℕ, ◌+◌, ◌*◌, ◌%◌, ◌<◌, ◌≤◌, ◌⊎◌, inl, inr, ⊎_elim, List, length, set, ap, sym, subst, ◌∙◌, arith}
+use Rattle.std.proofs.lemmas.Bool.{cases_lt}
+use Rattle.std.proofs.lemmas.Nat.{div-add-mod', same_from_place}
+use Rattle.acas_spec.specs.Model.{GridData, ModelData, states, vertices}
+use Rattle.acas_grid.specs.Grid.{state_number}
+use Rattle.acas_grid.specs.States.{state_present, vertex_at}
+use Rattle.acas_grid.proofs.StateNumbers.{state_present-below}
+use Rattle.acas_units.specs.declared.pair.Entry.{Entry}
+use Rattle.acas_units.specs.declared.pair.Pair.{Pair}
+use Rattle.acas_process.specs.Compiled.{compiled}
+use Rattle.acas_step.specs.Entries.{IsEntryOf, IsStateEntry}
+use Rattle.acas_sweep.specs.Entries.{SameElsewhere, listed_entry}
+use Rattle.acas_sweep.specs.Filled.{AreEndings}
+use Rattle.acas_sweep.proofs.Written.{listed_entry-other, listed_entry-written}
+
+-- a number below the next one is below or at this one
+pub below_or_at : (k n : ℕ) → k < n + 1 → (k < n) ⊎ (k ≡ n)
+below_or_at k n h = ⊎_elim (λ (l : k < n). inl l) (λ (g : n ≤ k). inr (omega arith)) (cases_lt k n)
+
+-- of the entries at a vertex under the first present advisories, and of the one that is written
+pub entries_next : (g : GridData) (P : ℕ → Entry → Type 0) (v p : ℕ) (pairs : List Pair) (advice : List ℕ) (e : Entry) → v < vertices g
+    → state_number g p v < length pairs → state_number g p v < length advice → ((q : ℕ) → q < p → P q (listed_entry pairs advice (state_number g q v))) → P p e
+    → (q : ℕ) → q < p + 1 → P q (listed_entry (set pairs (state_number g p v) e.pair) (set advice (state_number g p v) e.advice) (state_number g q v))
+entries_next g P v p pairs advice e inside h k so_far written q below = ⊎_elim
+    (λ (l : q < p). let apart : state_number g q v ≢ state_number g p v = λ same. absurd (omega (arith, (same_from_place q v p v (vertices g) inside inside same).0)) in
+    subst (λ (x : Entry). P q x) (sym (listed_entry-other pairs advice (state_number g p v) (state_number g q v) e apart)) (so_far q l))
+    (λ (here : q ≡ p). subst (λ (r : ℕ). P r (listed_entry (set pairs (state_number g p v) e.pair) (set advice (state_number g p v) e.advice) (state_number g r v))) (sym here)
+    (subst (λ (x : Entry). P p x) (sym (listed_entry-written pairs advice (state_number g p v) e h k)) written))
+    (below_or_at q p below)
+
+-- of the entries at the vertices below one, and of those at that vertex
+pub states_next : (g : GridData) (P : ℕ → ℕ → Entry → Type 0) (v : ℕ) (pairs : List Pair) (advice : List ℕ) (pairs' : List Pair) (advice' : List ℕ)
+    → ((s : ℕ) → s < states g → s % vertices g < v → P (state_present g s) (s % vertices g) (listed_entry pairs advice s))
+    → ((p : ℕ) → p < g.advisories → P p v (listed_entry pairs' advice' (state_number g p v))) → SameElsewhere g v pairs advice pairs' advice'
+    → (s : ℕ) → s < states g → s % vertices g < v + 1 → P (state_present g s) (s % vertices g) (listed_entry pairs' advice' s)
+states_next g P v pairs advice pairs' advice' so_far at_vertex others s inside h = ⊎_elim
+    (λ (l : s % vertices g < v). let apart : s % vertices g ≢ v = λ same. absurd (omega arith) in
+    subst (λ (x : Entry). P (state_present g s) (s % vertices g) x) (sym (others.entry s apart)) (so_far s inside l))
+    (λ (here : s % vertices g ≡ v).
+    let number : state_number g (state_present g s) v ≡ s = ap (λ (n : ℕ). state_present g s * vertices g + n) (sym here) ∙ div-add-mod' s (vertices g) in
+    subst (λ (n : ℕ). P (state_present g s) n (listed_entry pairs' advice' s)) (sym here)
+    (subst (λ (n : ℕ). P (state_present g s) v (listed_entry pairs' advice' n)) number (at_vertex (state_present g s) (state_present-below g s inside))))
+    (below_or_at (s % vertices g) v h)
+
+-- ---- with no second to go
+
+pub endings_next : (m : ModelData) (v p : ℕ) (pairs : List Pair) (advice : List ℕ) (e : Entry) → v < vertices m.grid
+    → state_number m.grid p v < length pairs → state_number m.grid p v < length advice → AreEndings m v p pairs advice → IsEntryOf (compiled m) 0 0 (vertex_at m.grid v) e
+    → AreEndings m v (p + 1) (set pairs (state_number m.grid p v) e.pair) (set advice (state_number m.grid p v) e.advice)
+endings_next m v p pairs advice e inside h k so_far ending = record {
+  entry = entries_next m.grid (λ (q : ℕ) (x : Entry). IsEntryOf (compiled m) 0 q (vertex_at m.grid v) x) v p pairs advice e inside h k so_far.entry
+      (record { upper = ending.upper; lower = ending.lower; advice = ending.advice });
+}
+
+pub first_next : (m : ModelData) (v : ℕ) (pairs : List Pair) (advice : List ℕ) (pairs' : List Pair) (advice' : List ℕ)
+    → ((s : ℕ) → s < states m.grid → s % vertices m.grid < v → IsStateEntry m (compiled m) 0 s (listed_entry pairs advice s))
+    → AreEndings m v m.grid.advisories pairs' advice' → SameElsewhere m.grid v pairs advice pairs' advice'
+    → (s : ℕ) → s < states m.grid → s % vertices m.grid < v + 1 → IsStateEntry m (compiled m) 0 s (listed_entry pairs' advice' s)
+first_next m v pairs advice pairs' advice' so_far endings others =
+    states_next m.grid (λ (p w : ℕ) (x : Entry). IsEntryOf (compiled m) 0 p (vertex_at m.grid w) x) v pairs advice pairs' advice' so_far endings.entry others

@@ -1,0 +1,102 @@
+//! One layer of the compiled table, written into a block vertex by vertex, and at a vertex present advisory by present advisory.
+ghost use Rattle.std.specs.Prelude.{◌≡◌, ℕ, ◌+◌, ◌<◌, ◌≤◌, ◌^◌, length};
+ghost use Rattle.acas_spec.specs.Model.{states, vertices};
+ghost use Rattle.acas_process.specs.Compiled.{compiled};
+ghost use Rattle.acas_step.specs.Entries.{IsStateEntry};
+ghost use Rattle.acas_step.specs.Stencils.{AreStencilsOf};
+ghost use Rattle.acas_sweep.specs.Best.{AreBest};
+ghost use Rattle.acas_sweep.specs.Entries.{AreOver, AreSmall, IsWhole, SameElsewhere, listed_entry};
+ghost use Rattle.acas_sweep.specs.Filled.{AreEndings, IsFilledTo, pairs_in};
+ghost use Rattle.acas_sweep.specs.Layers.{choice_count, layer_backups};
+
+use crate::best::best_choice;
+use crate::layer::terminal_entry;
+use acas_base::Model;
+use acas_plane::PlaneBlock;
+use acas_step::{Backups, Stencils, VertexMeans, means_with, reach_of};
+
+// Writes the entries of a vertex with no second to go, under all present advisories.
+fn put_endings(model: &Model, vertex: u32, block: &mut PlaneBlock, advice: &mut [u8])
+    requires vertex { vertex < vertices model.now.grid }
+    requires filled { IsFilledTo model.now.grid vertex 0 block.old }
+    requires advice { states model.now.grid ≤ length advice.old }
+    ensures endings { AreEndings model.now vertex model.now.grid.advisories (pairs_in block.new.work) advice.new }
+    ensures others { SameElsewhere model.now.grid vertex (pairs_in block.old.work) advice.old
+        (pairs_in block.new.work) advice.new }
+    ensures filled { IsFilledTo model.now.grid (vertex + 1) 0 block.new }
+{
+    let entry = terminal_entry(model, vertex);
+    for present in 0..model.grid().advisories as u8 {
+        let state = model.grid().state_number(present, vertex);
+        block.put(state, entry.pair);
+        advice[state as usize] = entry.advice;
+    }
+}
+
+/// Writes the layer with no second to go.
+pub(crate) fn put_first(model: &Model, block: &mut PlaneBlock, advice: &mut [u8])
+    requires filled { IsFilledTo model.now.grid 0 0 block.old }
+    requires advice { states model.now.grid ≤ length advice.old }
+    ensures entries { (s : ℕ) → s < states model.now.grid
+        → IsStateEntry model.now (compiled model.now) 0 s (listed_entry (pairs_in block.new.work) advice.new s) }
+    ensures filled { IsFilledTo model.now.grid (vertices model.now.grid) 0 block.new }
+{
+    for vertex in 0..model.grid().vertices() {
+        put_endings(model, vertex, block, advice);
+    }
+}
+
+// Writes the entries of a vertex under all present advisories, by the means there.
+fn put_vertex(
+    model: &Model,
+    vertex: u32,
+    vertex_means: &VertexMeans,
+    block: &mut PlaneBlock,
+    advice: &mut [u8],
+    count: &mut Backups,
+)
+    requires vertex { vertex < vertices model.now.grid }
+    requires means { AreSmall vertex_means.now }
+    requires filled { IsFilledTo model.now.grid vertex 0 block.old }
+    requires advice { states model.now.grid ≤ length advice.old }
+    requires count { count.old + choice_count model.now < 2 ^ 64 }
+    ensures best { AreBest model.now vertex_means.now vertex model.now.grid.advisories
+        (pairs_in block.new.work) advice.new }
+    ensures others { SameElsewhere model.now.grid vertex (pairs_in block.old.work) advice.old
+        (pairs_in block.new.work) advice.new }
+    ensures filled { IsFilledTo model.now.grid (vertex + 1) 0 block.new }
+    ensures finished { block.new.finished ≡ block.old.finished }
+    ensures count { count.new ≡ count.old + choice_count model.now }
+{
+    for present in 0..model.grid().advisories as u8 {
+        let best = best_choice(model, present, vertex_means, count);
+        let state = model.grid().state_number(present, vertex);
+        block.put(state, best.pair);
+        advice[state as usize] = best.advice;
+    }
+}
+
+/// Writes a layer over the finished one. It takes no memory.
+pub(crate) fn put_over(
+    model: &Model,
+    stencils: &Stencils,
+    block: &mut PlaneBlock,
+    advice: &mut [u8],
+    count: &mut Backups,
+)
+    requires stencils { AreStencilsOf model.now stencils.now }
+    requires horizon { 0 < model.now.grid.horizon }
+    requires below { IsWhole model.now block.old.finished }
+    requires filled { IsFilledTo model.now.grid 0 0 block.old }
+    requires advice { states model.now.grid ≤ length advice.old }
+    requires count { count.old + layer_backups model.now < 2 ^ 64 }
+    ensures over { AreOver model.now block.old.finished (vertices model.now.grid) (pairs_in block.new.work) advice.new }
+    ensures filled { IsFilledTo model.now.grid (vertices model.now.grid) 0 block.new }
+    ensures count { count.new ≡ count.old + layer_backups model.now }
+{
+    let reach = reach_of(stencils, block.finished());
+    for vertex in 0..model.grid().vertices() {
+        let vertex_means = means_with(model, stencils, reach, vertex, block.finished());
+        put_vertex(model, vertex, &vertex_means, block, advice, count);
+    }
+}
