@@ -3,3 +3,9 @@ pub mod Lists
 pub mod Order
 pub mod Exact
 pub mod Showing
+pub mod Blocks
+pub mod Halves
+pub mod Ruled
+pub mod Decided
+pub mod Filled
+pub mod Counted

@@ -1,11 +1,11 @@
 -- Members of lists that are made in order, and when such lists are sorted.
-use Rattle.std.proofs.Common.{◌≡◌, ℕ, zero, suc, ◌<◌, ◌⊎◌, inl, inr, true, false, Bool, ◌&&◌, List, [], ◌∷◌, ◌++◌, refl, sym, ◌∙◌, ap, subst, arith}
+use Rattle.std.proofs.Common.{◌≡◌, ℕ, zero, suc, ◌<◌, ◌⊎◌, inl, inr, true, false, Bool, List, [], ◌∷◌, ◌++◌, refl, sym, ◌∙◌, ap, subst, arith}
 use Rattle.std.specs.List.{AllByRecursion, Contains, flat_map, list_all, list_any}
 use Rattle.std.specs.List.Sorted.{IsStrictlySortedBy}
 use Rattle.std.specs.declared.cmp.Ordering.{Ordering}
 use Rattle.std.specs.declared.cmp.Ordering.TheVariants.{Less}
 use Rattle.std.proofs.lemmas.List.Elements.{Contains-append_left, Contains-append_right, Contains-append_cases}
-use Rattle.std.proofs.lemmas.Bool.{cases_lt}
+use Rattle.std.proofs.lemmas.Bool.{and_parts, cases_lt}
 use Rattle.acas_cell.specs.Cells.{below}
 
 -- ---- members
@@ -66,10 +66,6 @@ of_flat_map g (z ∷ xs) x h =
     ]
 
 -- ---- tests of members
-
-and_parts : (x y : Bool) → (x && y) ≡ true → (x ≡ true) × (y ≡ true)
-and_parts true y h = (refl, h)
-and_parts false y h = absurd (cc)
 
 pub any_from : {A : Type 0} (test : A → Bool) (xs : List A) (x : A) → Contains xs x → test x ≡ true → list_any test xs ≡ true
 any_from test [] x there passes = absurd (not_in_none x there)

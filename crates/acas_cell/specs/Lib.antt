@@ -3,4 +3,7 @@ pub mod Corners
 pub mod Sets
 pub mod Order
 pub mod Boxes
+pub mod Blocks
+pub mod Decisions
+pub mod Audits
 pub mod Rulings

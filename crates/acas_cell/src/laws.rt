@@ -11,6 +11,7 @@ ghost use Rattle.acas_flight.specs.Contact.{IsEndangeredBox, IsEndangeredCell};
 ghost use Rattle.acas_witness.specs.declared.flight.Witness.{Witness};
 ghost use Rattle.acas_cell.specs.Cells.{Cell, IsCellOf, cells_of};
 ghost use Rattle.acas_cell.specs.Corners.{advisory_cells, is_at_corner, is_clear_cell, under};
+ghost use Rattle.acas_cell.specs.Decisions.{AreAuditsDecisions};
 ghost use Rattle.acas_cell.specs.Order.{IsAdvisoryCell, by_numbers, by_places};
 ghost use Rattle.acas_cell.specs.Rulings.{ShowsDanger};
 ghost use Rattle.acas_cell.specs.declared.name.CellName.{CellName};
@@ -51,4 +52,10 @@ pub fn shown_danger_endangers()
         ShowsDanger m advisory (IsInCell m n i j k) w → IsEndangeredCell m n i j k advisory }
     ensures boxes { (m : ModelData) (box : Box) (advisory : ℕ) (w : Witness) →
         ShowsDanger m advisory (IsInBox box) w → IsEndangeredBox m box advisory }
+{}
+
+/// There is one number of decisions of an audit: the definition leaves no choice.
+pub fn decisions_are_one()
+    ensures { (m : ModelData) (a : AdvicesData) (x y : ℕ) → AreAuditsDecisions m a x
+        → AreAuditsDecisions m a y → x ≡ y }
 {}

@@ -2,8 +2,15 @@
 #![tactic(auto)]
 
 mod advices;
+mod areas;
 mod audit_box;
+mod block;
+mod block_audit;
+mod clear;
+mod deciding;
+mod decisions;
 mod laws;
+mod moving;
 mod name;
 mod ruling;
 mod set;
@@ -11,9 +18,13 @@ mod verdicts;
 
 pub use advices::advices_at;
 pub use audit_box::AuditBox;
+pub use block::Block;
+pub use block_audit::BlockAudit;
+pub use clear::block_clear;
+pub use decisions::Decisions;
 pub use laws::{
     advices_at_corners_are_tabled, advisory_cells_are_in_order, cells_are_in_order,
-    clear_cells_have_no_advisory, shown_danger_endangers,
+    clear_cells_have_no_advisory, decisions_are_one, shown_danger_endangers,
 };
 pub use name::CellName;
 pub use ruling::Ruling;

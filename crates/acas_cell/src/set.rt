@@ -1,5 +1,5 @@
 //! Sets of advices.
-ghost use Rattle.std.specs.Prelude.{◌≡◌, ◌==◌, ◌&&◌, ◌||◌, ◌<◌, ℕ, false, true};
+ghost use Rattle.std.specs.Prelude.{◌≡◌, ◌==◌, ◌&&◌, ◌||◌, ◌<◌, ℕ, not, false, true};
 ghost use Rattle.acas_units.specs.declared.limits.TheConstants.{GREATEST_ADVISORIES};
 ghost use Rattle.acas_cell.specs.Sets.{has_no_advisory, holds};
 
@@ -26,6 +26,16 @@ impl AdviceSet {
     {
         AdviceSet {
             bits: self.bits | (1 << advice),
+        }
+    }
+
+    /// The set without an advice.
+    pub(crate) fn without(self, advice: u8) -> AdviceSet
+        requires { advice < GREATEST_ADVISORIES }
+        ensures { (a : ℕ) → holds result a ≡ (not (a == advice) && holds self a) }
+    {
+        AdviceSet {
+            bits: self.bits & !(1 << advice),
         }
     }
 

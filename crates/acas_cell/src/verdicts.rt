@@ -1,48 +1,18 @@
 //! Verdicts on cells and boxes.
-ghost use Rattle.std.specs.Prelude.{◌≡◌, ◌+◌, ◌<◌, length};
+ghost use Rattle.std.specs.Prelude.{◌≡◌, ◌<◌};
 ghost use Rattle.acas_frac.specs.Fraction.{Fraction};
-ghost use Rattle.acas_flight.specs.State.{from_place};
-ghost use Rattle.acas_flight.specs.Clear.{area_of_cell};
-ghost use Rattle.acas_region.specs.Limits.{interval_of};
-ghost use Rattle.acas_region.specs.View.{area_of};
 ghost use Rattle.acas_cell.specs.Boxes.{IsBoxOf, audited};
 ghost use Rattle.acas_cell.specs.Cells.{IsCellOf};
 ghost use Rattle.acas_cell.specs.Order.{cell_of};
 ghost use Rattle.acas_cell.specs.Rulings.{IsRulingOfBox, IsRulingOfCell};
 
+use crate::areas::area_of_cell;
 use crate::audit_box::AuditBox;
 use crate::name::CellName;
 use crate::ruling::Ruling;
 use acas_base::Model;
-use acas_grid::Axis;
-use acas_region::{BoxState, window_of_box, window_of_cell};
-use acas_units::Span;
+use acas_region::{window_of_box, window_of_cell};
 use acas_witness::{Witness, contact_in, of_box, of_cell};
-
-/// The numbers from a place of an axis to the next.
-fn from_place(axis: &Axis, place: u32) -> Span
-    requires { place + 1 < length axis.now }
-    ensures { interval_of result ≡ from_place axis.now place }
-{
-    let least = axis.value(place);
-    let greatest = axis.value(place + 1);
-    Span::new(least, greatest)
-}
-
-/// The area of a cell whose lower corner has the places i, j, k.
-fn area_of_cell(model: &Model, i: u32, j: u32, k: u32) -> BoxState
-    requires i { i + 1 < length model.now.grid.h }
-    requires j { j + 1 < length model.now.grid.v0 }
-    requires k { k + 1 < length model.now.grid.v1 }
-    ensures { area_of result ≡ area_of_cell model.now i j k }
-{
-    let grid = model.grid();
-    BoxState {
-        h: from_place(&grid.h, i),
-        v0: from_place(&grid.v0, j),
-        v1: from_place(&grid.v1, k),
-    }
-}
 
 /// The same witness. It opens the range and the speed: their denominators are above 0.
 fn opened(witness: Witness) -> Witness

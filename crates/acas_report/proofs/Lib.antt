@@ -6,5 +6,6 @@ pub mod Carry
 pub mod Ends
 pub mod Whole
 pub mod CellCounts
+pub mod Decided
 pub mod Subjects
 pub mod Begun

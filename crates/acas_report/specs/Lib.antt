@@ -2,3 +2,4 @@ pub mod Text
 pub mod Report
 pub mod Regions
 pub mod Plan
+pub mod Blocks

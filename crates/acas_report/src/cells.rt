@@ -1,10 +1,12 @@
 //! The cells of an audit in order, each level of places a loop of its own.
-ghost use Rattle.std.specs.Prelude.{◌≡◌, ◌+◌, ◌<◌, ◌^◌, ℕ, [], ◌∷◌, OnOk, OnErr, IsErr, length};
+ghost use Rattle.std.specs.Prelude.{◌≡◌, ◌+◌, ◌*◌, ◌<◌, ◌≤◌, ◌^◌, ℕ, [], ◌∷◌, OnOk, OnErr, IsErr, length};
 ghost use Rattle.acas_units.specs.declared.limits.TheConstants.{GREATEST_ADVISORIES};
 ghost use Rattle.acas_base.specs.Advices.{AreAdvicesOf};
 ghost use Rattle.acas_outside.specs.Frame.{Emits};
 ghost use Rattle.acas_cell.specs.Cells.{IsCellOf, below, block_cells, cells_of, layer_cells, plane_cells, row_cells};
+ghost use Rattle.acas_cell.specs.Decisions.{most_decisions};
 ghost use Rattle.acas_cell.specs.Order.{cell_of};
+ghost use Rattle.acas_report.specs.Blocks.{ArePrepared, IsLayerPrepared};
 ghost use Rattle.acas_report.specs.Plan.{Broke, Room, Wrote, name_plan, place_cell, plan_of, progress, set_plan, total};
 
 use crate::audit::{Audit, Place};
@@ -12,7 +14,7 @@ use crate::counts::leaves_out;
 use crate::lines::write_cell_line;
 use crate::pen::Pen;
 use crate::rulings::Rulings;
-use acas_cell::{AdviceSet, CellName, advices_at};
+use acas_cell::{AdviceSet, CellName, Decisions, advices_at};
 use acas_outside::{Failed, Sink};
 
 /// Writes all cells.
@@ -21,8 +23,12 @@ pub(crate) fn write_cells<R: Rulings, S: Sink>(
     rulings: &mut R,
     sink: &mut S,
     pen: &mut Pen,
+    count: &mut Decisions,
 ) -> Result<(), Failed>
     requires advices { AreAdvicesOf audit.now.model.now audit.now.advices.now }
+    requires fits { R.fits rulings.old audit.now.model.now }
+    requires decisions { count.old + audit.now.model.now.grid.horizon *
+        (audit.now.model.now.grid.advisories * most_decisions audit.now.model.now) < 2 ^ 64 }
     requires room { Room (plan_of audit.now) pen.old.counts (cells_of audit.now.model.now) }
     ensures ok { OnOk result (Wrote (plan_of audit.now)
         (progress (S.written sink.old) pen.old) (progress (S.written sink.new) pen.new)
@@ -30,9 +36,12 @@ pub(crate) fn write_cells<R: Rulings, S: Sink>(
     ensures err { OnErr result (Broke (plan_of audit.now)
         (S.written sink.old) pen.old.buffer (S.written sink.new) (cells_of audit.now.model.now)) }
     ensures frame { Emits S.Sink sink.old sink.new (IsErr result) }
+    ensures counted { OnOk result ((number : ℕ)
+        × ArePrepared R.takes audit.now.model.now audit.now.advices.now number × (count.new ≡ count.old + number)) }
+    ensures rising { count.old ≤ count.new }
 {
     for n in 0..audit.model.grid().horizon {
-        write_layer(audit, rulings, n, sink, pen)?;
+        write_layer(audit, rulings, n, sink, pen, count)?;
     }
     Ok(())
 }
@@ -44,8 +53,11 @@ fn write_layer<R: Rulings, S: Sink>(
     n: u32,
     sink: &mut S,
     pen: &mut Pen,
+    count: &mut Decisions,
 ) -> Result<(), Failed>
     requires advices { AreAdvicesOf audit.now.model.now audit.now.advices.now }
+    requires fits { R.fits rulings.old audit.now.model.now }
+    requires decisions { count.old + audit.now.model.now.grid.advisories * most_decisions audit.now.model.now < 2 ^ 64 }
     requires n { n < audit.now.model.now.grid.horizon }
     requires room { Room (plan_of audit.now) pen.old.counts (layer_cells audit.now.model.now n) }
     ensures ok { OnOk result (Wrote (plan_of audit.now)
@@ -54,9 +66,15 @@ fn write_layer<R: Rulings, S: Sink>(
     ensures err { OnErr result (Broke (plan_of audit.now)
         (S.written sink.old) pen.old.buffer (S.written sink.new) (layer_cells audit.now.model.now n)) }
     ensures frame { Emits S.Sink sink.old sink.new (IsErr result) }
+    ensures fits { OnOk result (R.fits rulings.new audit.now.model.now) }
+    ensures counted { OnOk result ((number : ℕ)
+        × IsLayerPrepared R.takes audit.now.model.now audit.now.advices.now n number × (count.new ≡ count.old + number)) }
+    ensures most { OnOk result
+        (count.new ≤ count.old + audit.now.model.now.grid.advisories * most_decisions audit.now.model.now) }
+    ensures rising { count.old ≤ count.new }
 {
     for present in 0..audit.model.grid().advisories as u8 {
-        rulings.prepare(audit.model, audit.advices, n, present);
+        rulings.prepare(audit.model, audit.advices, n, present, count);
         let at = Place {
             n,
             present,

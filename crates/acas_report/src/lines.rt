@@ -13,6 +13,9 @@ use acas_units::{GREATEST_NAME_BYTES, LINE_BYTES, Line};
 /// The greatest number of bytes with which a line begins: a word, four numbers and two names.
 const HEAD_BYTES: usize = 88 + 2 * (GREATEST_NAME_BYTES + 1);
 
+/// The greatest number of bytes of the counts of an audit: three words, three numbers and the end of the line.
+pub const COUNTS_BYTES: usize = 88;
+
 /// The greatest number of bytes of a ruling: a word, a witness and the end of the line.
 const RULING_BYTES: usize = WITNESS_BYTES + 10;
 
@@ -40,12 +43,21 @@ pub(crate) fn write_box_line(line: &mut Line, number: u32, ruling: &Ruling)
 }
 
 /// Makes the last line of an audit.
-#[tactic(auto, unfolding(crate::specs::Text::counts_text))]
 pub(crate) fn write_counts(line: &mut Line, counts: &Counts)
     ensures value { line.new ≡ counts_text counts.now }
     ensures short { length line.new ≤ LINE_BYTES }
 {
     line.clear();
+    line_counts(line, counts);
+}
+
+/// Appends the last line of an audit: the counts.
+#[tactic(auto, unfolding(crate::specs::Text::counts_text))]
+pub fn line_counts(line: &mut Line, counts: &Counts)
+    requires { length line.old + COUNTS_BYTES ≤ LINE_BYTES }
+    ensures value { line.new ≡ line.old ++ counts_text counts.now }
+    ensures room { length line.new ≤ length line.old + COUNTS_BYTES }
+{
     line.push(b"certified");
     line_count(line, counts.certified);
     line.push(b" reported");

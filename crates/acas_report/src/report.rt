@@ -1,8 +1,10 @@
 //! The report of an audit.
-ghost use Rattle.std.specs.Prelude.{◌≡◌, ℕ, List, [], OnOk, OnErr, IfOk, IsErr, IsErrOf};
+ghost use Rattle.std.specs.Prelude.{◌≡◌, ◌+◌, ◌≤◌, ◌^◌, ℕ, List, [], OnOk, OnErr, IfOk, IsErr, IsErrOf};
 ghost use Rattle.acas_base.specs.Advices.{AreAdvicesOf};
 ghost use Rattle.acas_outside.specs.Bytes.{Appends};
 ghost use Rattle.acas_outside.specs.Frame.{Emits};
+ghost use Rattle.acas_cell.specs.Decisions.{AreAuditsDecisions};
+ghost use Rattle.acas_report.specs.Blocks.{ArePrepared};
 ghost use Rattle.acas_report.specs.Report.{IsReport, IsReportBegun};
 
 use crate::audit::Audit;
@@ -12,6 +14,7 @@ use crate::lines::write_counts;
 use crate::pen::Pen;
 use crate::rulings::{OneByOne, Rulings};
 use acas_base::{Advices, Model};
+use acas_cell::{BlockAudit, Decisions};
 use acas_outside::{Failed, Sink};
 use std::alloc::Global;
 
@@ -32,7 +35,46 @@ pub fn write_report<S: Sink>(
     ensures memory { IsErrOf result ReportFault.Memory → S.written sink.new ≡ S.written sink.old }
     ensures frame { Emits S.Sink sink.old sink.new (IsErrOf result ReportFault.Sink) }
 {
-    write_report_by(alloc, model, advices, &mut OneByOne, sink, which)
+    let mut count = Decisions::new();
+    write_report_by(
+        alloc,
+        model,
+        advices,
+        &mut OneByOne,
+        sink,
+        which,
+        &mut count,
+    )
+}
+
+/// Writes the same report, in which whole blocks of cells are decided first, and answers its counts. It takes all its memory before
+/// the first byte goes out: besides that of [`write_report`], four bytes for each cell of one n and present advisory. It counts the
+/// decisions of blocks: with Ok their whole number.
+pub fn write_blocks<S: Sink>(
+    alloc: Global,
+    model: &Model,
+    advices: &Advices,
+    sink: &mut S,
+    which: Which,
+    count: &mut Decisions,
+) -> Result<Counts, ReportFault>
+    requires advices { AreAdvicesOf model.now advices.now }
+    requires room { count.old ≤ 2 ^ 63 }
+    ensures report { IfOk result (λ counts. (text : List ℕ)
+        × IsReport model.now advices.now which counts text
+        × Appends (S.written sink.old) (S.written sink.new) text) }
+    ensures part { IsErrOf result ReportFault.Sink →
+        IsReportBegun model.now advices.now which (S.written sink.old) (S.written sink.new) }
+    ensures memory { IsErrOf result ReportFault.Memory → S.written sink.new ≡ S.written sink.old }
+    ensures frame { Emits S.Sink sink.old sink.new (IsErrOf result ReportFault.Sink) }
+    ensures decisions { IfOk result (λ counts. (number : ℕ)
+        × AreAuditsDecisions model.now advices.now number × (count.new ≡ count.old + number)) }
+    ensures rising { count.old ≤ count.new }
+{
+    let Ok(mut audit) = BlockAudit::make(alloc, model) else {
+        return Err(ReportFault::Memory);
+    };
+    write_report_by(alloc, model, advices, &mut audit, sink, which, count)
 }
 
 /// Writes the report of an audit, with rulings from a source of them, and answers its counts. It takes all its memory before the
@@ -44,8 +86,11 @@ pub fn write_report_by<R: Rulings, S: Sink>(
     rulings: &mut R,
     sink: &mut S,
     which: Which,
+    count: &mut Decisions,
 ) -> Result<Counts, ReportFault>
-    requires { AreAdvicesOf model.now advices.now }
+    requires advices { AreAdvicesOf model.now advices.now }
+    requires fits { R.fits rulings.old model.now }
+    requires room { count.old ≤ 2 ^ 63 }
     ensures report { IfOk result (λ counts. (text : List ℕ)
         × IsReport model.now advices.now which counts text
         × Appends (S.written sink.old) (S.written sink.new) text) }
@@ -53,6 +98,9 @@ pub fn write_report_by<R: Rulings, S: Sink>(
         IsReportBegun model.now advices.now which (S.written sink.old) (S.written sink.new) }
     ensures memory { IsErrOf result ReportFault.Memory → S.written sink.new ≡ S.written sink.old }
     ensures frame { Emits S.Sink sink.old sink.new (IsErrOf result ReportFault.Sink) }
+    ensures decisions { IfOk result (λ counts. (number : ℕ)
+        × ArePrepared R.takes model.now advices.now number × (count.new ≡ count.old + number)) }
+    ensures rising { count.old ≤ count.new }
 {
     let Ok(mut pen) = Pen::make(alloc) else {
         return Err(ReportFault::Memory);
@@ -62,7 +110,7 @@ pub fn write_report_by<R: Rulings, S: Sink>(
         advices,
         which,
     };
-    match write_whole(&audit, rulings, sink, &mut pen) {
+    match write_whole(&audit, rulings, sink, &mut pen, count) {
         Ok(()) => Ok(pen.counts),
         Err(_) => Err(ReportFault::Sink),
     }
@@ -74,8 +122,11 @@ fn write_whole<R: Rulings, S: Sink>(
     rulings: &mut R,
     sink: &mut S,
     pen: &mut Pen,
+    count: &mut Decisions,
 ) -> Result<(), Failed>
     requires advices { AreAdvicesOf audit.now.model.now audit.now.advices.now }
+    requires fits { R.fits rulings.old audit.now.model.now }
+    requires decisions { count.old ≤ 2 ^ 63 }
     requires empty { pen.old.buffer ≡ [] }
     requires certified { pen.old.counts.certified ≡ 0 }
     requires reported { pen.old.counts.reported ≡ 0 }
@@ -86,10 +137,13 @@ fn write_whole<R: Rulings, S: Sink>(
     ensures err { OnErr result
         (IsReportBegun audit.now.model.now audit.now.advices.now audit.now.which (S.written sink.old) (S.written sink.new)) }
     ensures frame { Emits S.Sink sink.old sink.new (IsErr result) }
+    ensures counted { OnOk result ((number : ℕ)
+        × ArePrepared R.takes audit.now.model.now audit.now.advices.now number × (count.new ≡ count.old + number)) }
+    ensures rising { count.old ≤ count.new }
 {
     // Opens the model's limits: there is room for the counts.
     let _ = audit.model.grid();
-    write_cells(audit, rulings, sink, pen)?;
+    write_cells(audit, rulings, sink, pen, count)?;
     let counts = pen.counts;
     write_counts(&mut pen.line, &counts);
     pen.end(sink)?;

@@ -1,5 +1,7 @@
+use Rattle.std.proofs.Common.{arith}
 use Rattle.acas_outside.proofs.Appended.{on_err_always}
 use Rattle.acas_report.proofs.CellCounts.{room_whole}
+use Rattle.acas_report.proofs.Decided.{decisions_fit}
 use Rattle.acas_report.proofs.Subjects.{of_cells}
 use Rattle.acas_report.proofs.Whole.{whole, begun_before, begun_last}
 use Rattle.acas_report.proofs.report.write_whole.Goals as goal
@@ -27,3 +29,6 @@ returns-clause-ok g c =
     whole _ _ _ _ _ _ is _ _ _ _ _ c.in_ok-write_cells.ensures.ok
     (record { waits = c.requires.empty; certified = c.requires.certified; reported = c.requires.reported; clear = c.requires.clear })
     c.end.ensures.counts c.write_counts.ensures.value c.in_ok-end.ensures.ok
+
+pub write_cells-requires-clause-decisions : goal.write_cells-requires-clause-decisions
+write_cells-requires-clause-decisions g c = omega (arith, c.requires.decisions, decisions_fit c.args.audit.now.model.now c.grid.ensures.valid)

@@ -1,0 +1,23 @@
+use Rattle.std.proofs.Common.{◌≡◌, true, sym, ◌∙◌, ap, arith}
+use Rattle.acas_cell.specs.Audits.{certified_at}
+use Rattle.acas_cell.specs.Sets.{holds}
+use Rattle.acas_cell.specs.declared.set.AdviceSet.{AdviceSet}
+use Rattle.acas_report.proofs.rulings.BlockAuditRulings.ruling.Goals as goal
+
+pub certified-requires-clause-place : goal.certified-requires-clause-place
+certified-requires-clause-place c = record {
+  altitude = omega (arith, c.requires.ready.cells.altitudes, c.requires.cell.i);
+  own = omega (arith, c.requires.ready.cells.own_rates, c.requires.cell.j);
+  intruder = omega (arith, c.requires.ready.cells.intruder_rates, c.requires.cell.k);
+}
+
+pub has-requires : goal.has-requires
+has-requires c = omega (arith, c.requires.advice, c.grid.ensures.valid.grid.few_advisories)
+
+pub returns-then-has : goal.returns-then-has
+returns-then-has c =
+    let name = c.args.name.now in
+    let there : holds (certified_at c.args.self.now name.i name.j name.k) name.advice ≡ true =
+    ap (λ (s : AdviceSet). holds s name.advice) (sym c.certified.ensures) ∙ (sym c.has.ensures ∙ c.if-has.true)
+    in
+    c.requires.ready.safe name.i name.j name.k name.advice c.requires.cell c.requires.advice there
