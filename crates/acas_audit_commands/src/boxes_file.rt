@@ -22,7 +22,8 @@ pub(crate) fn read_boxes_file<F: Folder>(
     folder: &mut F,
 ) -> Result<Boxes, Cause>
     requires { IsTrue (F.serves folder.old name.now) }
-    ensures ok { IfOk result (λ boxes. Given (F.holds folder.old) name.now (λ file. IsInputFile (boxes_of model.now) file boxes)) }
+    ensures ok { IfOk result (λ boxes.
+        Given (F.holds folder.old) name.now (λ file. IsInputFile (boxes_of model.now) file boxes)) }
     ensures fits { IfOk result (AreBoxesOf model.now) }
     ensures err { IfErr result (λ cause. RefusesInput FileRole.Boxes (boxes_of model.now) name.now cause
         (beside F.Folder folder.old) (beside F.Folder folder.new)) }

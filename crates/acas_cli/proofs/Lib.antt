@@ -1,2 +1,3 @@
-mod NamedFiles
+mod KnownForms
+mod OtherWords
 mod TwoRuns

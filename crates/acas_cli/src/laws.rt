@@ -19,7 +19,8 @@ pub fn stored_tables_are_accepted()
 
 /// A table that a run of `check` has accepted is audited by a run of `audit` over the same files: that run is not refused.
 pub fn accepted_tables_are_audited()
-    ensures { (model table : List ℕ) (which : Which) (files : Files) (cause : Cause) (before between again after : Outside)
+    ensures { (model table : List ℕ) (which : Which) (files : Files) (cause : Cause)
+        (before between again after : Outside)
         → before.holds ≡ Some files → Headline (Some (Check model table)) Done before between
         → again.holds ≡ Some files → Headline (Some (Audit model table which)) cause again after → IsNotRefused cause again after }
 {}

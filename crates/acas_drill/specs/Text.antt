@@ -1,5 +1,5 @@
 -- The lines of a drill.
-use Rattle.std.specs.Prelude.{ℕ, List, [], ◌∷◌, ◌++◌, codes}
+use Rattle.std.specs.Prelude.{ℕ, List, ◌++◌, codes}
 use Rattle.std.specs.Fmt.{decimal}
 use Rattle.acas_spec.specs.Model.{GridData, entries, states}
 use Rattle.acas_table.specs.Shape.{shape_of}

@@ -2,16 +2,15 @@
 ghost use Rattle.std.specs.Prelude.{◌≡◌, ◌+◌, ◌≤◌, ◌++◌, [], length};
 ghost use Rattle.acas_table.specs.Shape.{shape_of};
 ghost use Rattle.acas_table.specs.Text.{length_1};
-ghost use Rattle.acas_report.specs.Text.{counts_text};
 ghost use Rattle.acas_drill.specs.Text.{drill_line, drill_lines};
 
 use acas_command::{put_count, put_text};
 use acas_grid::Grid;
-use acas_report::Counts;
+use acas_report::{Counts, line_counts};
 use acas_units::{LINE_BYTES, Line};
 
-/// The greatest number of bytes of one of the lines.
-const BYTES: usize = 120;
+/// The greatest number of bytes of the line that says how large the table is.
+const SIZE_BYTES: usize = 120;
 
 /// Makes the lines of the drill of a number, over a grid whose table has this length, with the counts of its audit.
 pub(crate) fn write_lines(line: &mut Line, number: u32, grid: &Grid, bytes: u64, counts: &Counts)
@@ -21,16 +20,16 @@ pub(crate) fn write_lines(line: &mut Line, number: u32, grid: &Grid, bytes: u64,
 {
     put_size(line, number, grid, bytes);
     put_text(line, "accepted\n");
-    put_counts(line, counts);
+    line_counts(line, counts);
 }
 
 // Appends how large the table is.
 #[tactic(auto, unfolding(crate::specs::Text::drill_line))]
 fn put_size(line: &mut Line, number: u32, grid: &Grid, bytes: u64)
-    requires room { length line.old + BYTES ≤ LINE_BYTES }
+    requires room { length line.old + SIZE_BYTES ≤ LINE_BYTES }
     requires bytes { bytes ≡ length_1 (shape_of grid.now) }
     ensures value { line.new ≡ line.old ++ drill_line number grid.now }
-    ensures room { length line.new ≤ length line.old + BYTES }
+    ensures room { length line.new ≤ length line.old + SIZE_BYTES }
 {
     put_text(line, "drill ");
     put_count(line, u64::from(number));
@@ -40,20 +39,5 @@ fn put_size(line: &mut Line, number: u32, grid: &Grid, bytes: u64)
     put_count(line, grid.entries());
     put_text(line, " bytes ");
     put_count(line, bytes);
-    put_text(line, "\n");
-}
-
-// Appends the counts of an audit.
-#[tactic(auto, unfolding(acas_report::specs::Text::counts_text, acas_report::specs::Text::field))]
-fn put_counts(line: &mut Line, counts: &Counts)
-    requires { length line.old + BYTES ≤ LINE_BYTES }
-    ensures { line.new ≡ line.old ++ counts_text counts.now }
-{
-    put_text(line, "certified ");
-    put_count(line, counts.certified);
-    put_text(line, " reported ");
-    put_count(line, counts.reported);
-    put_text(line, " clear ");
-    put_count(line, counts.clear);
     put_text(line, "\n");
 }

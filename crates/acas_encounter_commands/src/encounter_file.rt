@@ -22,7 +22,8 @@ pub(crate) fn read_encounter_file<F: Folder>(
     folder: &mut F,
 ) -> Result<Encounter, Cause>
     requires { IsTrue (F.serves folder.old name.now) }
-    ensures ok { IfOk result (λ encounter. Given (F.holds folder.old) name.now (λ file. IsInputFile (encounter_of model.now) file encounter)) }
+    ensures ok { IfOk result (λ encounter.
+        Given (F.holds folder.old) name.now (λ file. IsInputFile (encounter_of model.now) file encounter)) }
     ensures fits { IfOk result (IsEncounterOf model.now) }
     ensures err { IfErr result (λ cause. RefusesInput FileRole.Encounter (encounter_of model.now) name.now cause
         (beside F.Folder folder.old) (beside F.Folder folder.new)) }

@@ -2,4 +2,6 @@ mod Names
 mod TableLines
 mod CompiledLayers
 mod StoredLayers
+mod BegunWriters
+mod SweptTable
 pub mod Worth

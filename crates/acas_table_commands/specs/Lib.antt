@@ -2,5 +2,8 @@ pub mod ValuesText
 pub mod CompiledLine
 pub mod AcceptedLine
 pub mod TableFile
+pub mod BegunWriter
+pub mod SweepRoom
+pub mod TableRows
 pub mod Calls
 pub mod Worth

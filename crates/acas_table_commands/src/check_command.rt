@@ -28,7 +28,8 @@ pub fn check<F: Folder, O: Sink>(
     ensures answers { Answers (CallsForCheck model.now table.now) (ended result)
         (outside F.Folder O.Sink folder.old out.old) (outside F.Folder O.Sink folder.new out.new) }
     // What was accepted are bytes.
-    ensures bytes { ended result ≡ Cause.Done → Given (F.holds folder.old) table.now (λ file. IsSomeAnd file IsBytes) }
+    ensures bytes { ended result ≡ Cause.Done →
+        Given (F.holds folder.old) table.now (λ file. IsSomeAnd file IsBytes) }
     ensures folder { ReadsAndWrites F.Folder folder.old folder.new (IsErrOf result Cause.Folder) }
     ensures output { O.faults out.old ≤ O.faults out.new }
 {

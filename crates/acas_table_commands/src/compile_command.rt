@@ -8,8 +8,8 @@ ghost use Rattle.acas_command.specs.Answers.{Answers, ended};
 ghost use Rattle.acas_table_commands.specs.Calls.{CallsForCompile};
 ghost use Rattle.acas_table_commands.specs.CompiledLine.{compiled_line};
 
-use crate::table_file::store_table;
-use crate::values_command::compiled_layers;
+use crate::sweep_room::SweepRoom;
+use crate::swept_table::store_swept;
 use acas_command::{Cause, put_count, put_text, read_model_file};
 use acas_grid::Grid;
 use acas_outside::{Folder, Sink, emit};
@@ -34,10 +34,10 @@ pub fn compile<F: Folder, O: Sink>(
     ensures output { O.faults out.old ≤ O.faults out.new }
 {
     let found = read_model_file(alloc, model, folder)?;
-    let layers = compiled_layers(alloc, &found.model)?;
+    let mut room = SweepRoom::make(alloc, &found.model)?;
     let writer = TableWriter::new(alloc, &found.model, &found.digest)?;
     let mut line = Line::make(alloc)?;
-    let length = match store_table(&found, &layers, writer, folder, table) {
+    let length = match store_swept(&found, &mut room, writer, folder, table) {
         Ok(length) => length,
         Err(_) => return Err(Cause::Folder),
     };

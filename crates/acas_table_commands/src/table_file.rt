@@ -26,7 +26,8 @@ pub fn store_table<F: Folder>(
     requires layers { AreLayers found.now.model layers.now }
     requires state { writer_state writer ≡ new_writer 1 found.now.digest (shape_of found.now.model.grid) }
     requires written { HasWritten writer [] }
-    ensures ok { OnOk result (Stores (F.holds folder.old) (F.holds folder.new) name.now (compiled_text found.now.digest found.now.model)) }
+    ensures ok { OnOk result
+        (Stores (F.holds folder.old) (F.holds folder.new) name.now (compiled_text found.now.digest found.now.model)) }
     ensures err { OnErr result ((F.holds folder.new ≡ F.holds folder.old)
         ⊎ StoresPart (F.holds folder.old) (F.holds folder.new) name.now (compiled_text found.now.digest found.now.model)) }
     ensures length { IfOk result (λ n. n ≡ length_1 (shape_of found.now.model.grid)) }
@@ -54,9 +55,11 @@ fn store_layer<F: Folder>(
     requires layers { AreLayers found.now.model layers.now }
     requires n { n ≤ found.now.model.grid.horizon }
     requires writing { IsWriting found.now.digest found.now.model n writer.old }
-    ensures ok { (before : Option Files) → Stores before (F.holds folder.old) name.now (first_part found.now.digest found.now.model n)
+    ensures ok { (before : Option Files)
+        → Stores before (F.holds folder.old) name.now (first_part found.now.digest found.now.model n)
         → OnOk result (Stores before (F.holds folder.new) name.now (first_part found.now.digest found.now.model (n + 1))) }
-    ensures err { (before : Option Files) → Stores before (F.holds folder.old) name.now (first_part found.now.digest found.now.model n)
+    ensures err { (before : Option Files)
+        → Stores before (F.holds folder.old) name.now (first_part found.now.digest found.now.model n)
         → OnErr result (StoresPart before (F.holds folder.new) name.now (compiled_text found.now.digest found.now.model)) }
     ensures writing { OnOk result (IsWriting found.now.digest found.now.model (n + 1) writer.new) }
     ensures frame { OnlyWrites F.Folder folder.old folder.new (IsErr result) }

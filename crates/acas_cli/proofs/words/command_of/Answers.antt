@@ -1,7 +1,7 @@
 use Rattle.std.proofs.Common.{map, arith}
 use Rattle.std.proofs.lemmas.List.{length-map}
 use Rattle.std.specs.Prelude.{string_bytes}
-use Rattle.acas_cli.proofs.NamedFiles.{form_of-none}
+use Rattle.acas_cli.proofs.OtherWords.{form_of-none}
 use Rattle.acas_cli.proofs.words.command_of.Goals.{in_default-via-then-words-lt2, in_default-via-else-words-lt2+else-words-lt3+else-words-lt4+else-words-lt5}
 use Rattle.acas_cli.proofs.words.command_of.Goals as goal
 

@@ -1,4 +1,4 @@
-use Rattle.std.proofs.Common.{◌≡◌, Ok, sym, ◌∙◌, ap, arith}
+use Rattle.std.proofs.Common.{◌∙◌, ap, arith}
 use Rattle.acas_grid.specs.Axis.{axis_of}
 use Rattle.acas_model.proofs.Rising.{is_axis}
 use Rattle.acas_drill.specs.DrilledModel.{about_zero}

@@ -1,10 +1,8 @@
-use Rattle.std.proofs.Common.{◌≡◌, refl, subst, ap, sym, ◌∙◌, List, ℕ}
+use Rattle.std.proofs.Common.{refl, subst, ◌∙◌}
 use Rattle.std.specs.Fmt.{decimal}
 use Rattle.sha2.proofs.Facts256.{length-sha256}
 use Rattle.acas_spec.specs.Model.{ModelData}
 use Rattle.acas_drill.specs.Calls.{AreDrilled}
-use Rattle.acas_drill.specs.DrilledModel.{drilled_model}
-use Rattle.acas_drill.specs.Text.{drill_text}
 use Rattle.acas_drill.proofs.drill_command.make_lines.Goals as goal
 
 pub drill_table-requires : goal.drill_table-requires

@@ -1,8 +1,7 @@
-use Rattle.std.proofs.Common.{◌≡◌, List, [], ◌∷◌, ◌++◌, map, ap, sym, ◌∙◌, arith}
+use Rattle.std.proofs.Common.{List, [], ◌∷◌, ◌++◌, map, ap, sym, ◌∙◌, arith}
 use Rattle.std.proofs.lemmas.List.{map-append}
 use Rattle.std.proofs.lemmas.List.FromFn.{map-range_with_len_more}
 use Rattle.std.specs.List.{range_with_len}
-use Rattle.acas_base.specs.View.{lists_of}
 use Rattle.acas_spec.specs.declared.parts.Choice.{Choice}
 use Rattle.acas_drill.specs.DrilledModel.{drilled_choices}
 use Rattle.acas_drill.proofs.parts.choices.Goals as goal

@@ -25,7 +25,7 @@ returns-in-Err-clause-answers g c =
     let digest = c.in_ok-found.found.digest in
     let table = c.args.table.now in
     let before : Outside = outside g.F.Folder g.O.Sink c.args.folder.now c.args.out.now in
-    let after : Outside = outside g.F.Folder g.O.Sink c.store_table.new.folder c.args.out.now in
+    let after : Outside = outside g.F.Folder g.O.Sink c.store_swept.new.folder c.args.out.now in
     let rose : Rose before.faults after.faults = search rules in
     answers-folder (λ files. compile_of (get files c.args.model.now) table) (stores table (compiled_text digest m) (compiled_line m.grid)) before after
     (called-model before.holds c.args.model.now digest m (λ files d n. rest_of_compile table d n) c.in_ok-found.ensures.ok)
@@ -38,7 +38,7 @@ returns-in-Ok-emit-clause-answers g c =
     let digest = c.in_ok-found.found.digest in
     let table = c.args.table.now in
     let before : Outside = outside g.F.Folder g.O.Sink c.args.folder.now c.args.out.now in
-    let after : Outside = outside g.F.Folder g.O.Sink c.store_table.new.folder c.emit.new.sink in
+    let after : Outside = outside g.F.Folder g.O.Sink c.store_swept.new.folder c.emit.new.sink in
     let printed : Appends (g.O.Sink.written c.args.out.now) (g.O.Sink.written c.emit.new.sink) (compiled_line m.grid) = search rules in
     answers-done (λ files. compile_of (get files c.args.model.now) table) (stores table (compiled_text digest m) (compiled_line m.grid)) before after
     (called-model before.holds c.args.model.now digest m (λ files d n. rest_of_compile table d n) c.in_ok-found.ensures.ok) refl
@@ -51,7 +51,7 @@ returns-clause-answers g c =
     let digest = c.in_ok-found.found.digest in
     let table = c.args.table.now in
     let before : Outside = outside g.F.Folder g.O.Sink c.args.folder.now c.args.out.now in
-    let after : Outside = outside g.F.Folder g.O.Sink c.store_table.new.folder c.emit.new.sink in
+    let after : Outside = outside g.F.Folder g.O.Sink c.store_swept.new.folder c.emit.new.sink in
     let part : AppendsPart (g.O.Sink.written c.args.out.now) (g.O.Sink.written c.emit.new.sink) (compiled_line m.grid) = search rules in
     let rose : Rose before.output_faults after.output_faults = search rules in
     answers-output (λ files. compile_of (get files c.args.model.now) table) (stores table (compiled_text digest m) (compiled_line m.grid)) before after
