@@ -77,9 +77,11 @@ ends = ["1 reported"]
 output_length = 108792
 output_sha256 = "4b1a7732b73694b3ae1dae872d4d445aeb975c8f67229fd331a96d079b6dc608"
 
+# The same table: the version, the limit and what stands behind it, the words, and the digest of what is printed. A delay leaves the
+# values as they are, so the table of the text with the delay has the same entries.
 [[cases]]
-name = "the reported ones of many cells"
-files = [["d", "model d", "replace costs = [0, 1, 1, 1] => costs = [0, 0, 0, 0]", "replace costs = [0, 1, 1, 1] => costs = [0, 0, 0, 0]", "replace costs = [0, 1, 1, 1] => costs = [0, 0, 0, 0]", "replace costs = [0, 1, 1, 1] => costs = [0, 0, 0, 0]"], [
+name = "the reported ones of many cells, and pilots who may hold their rate"
+files = [["d", "model d", "replace version = 1 => version = $1", "replace limit = 960 => limit = $2", "replace costs = [0, 1, 1, 1] => costs = [0, 0, 0, 0]", "replace costs = [0, 1, 1, 1] => costs = [0, 0, 0, 0]", "replace costs = [0, 1, 1, 1] => costs = [0, 0, 0, 0]", "replace costs = [0, 1, 1, 1] => costs = [0, 0, 0, 0]"], [
   "t",
   "compiled d",
   "values 1000000000 -1000000000",
@@ -90,10 +92,16 @@ files = [["d", "model d", "replace costs = [0, 1, 1, 1] => costs = [0, 0, 0, 0]"
   "spread 49036 17 000102030001020300010203000102030001020300010203000102030001020300010203000102030001020300010203000102030001020300010203000102030001020300010203000102030001020300010203000102030001020300010203",
   "seal",
 ]]
-runs = ["acas audit d t --reported"]
+rows = [
+  ["1", "960", "acas audit d t --reported", "9e20f96c97e9abf0dbf6a8f0f2adf5f664a816ae8b3f54d5e714700f239d92e6"],
+  ["2", "960\ndelay = 0", "acas audit d t", "4b1a7732b73694b3ae1dae872d4d445aeb975c8f67229fd331a96d079b6dc608"],
+  ["2", "960\ndelay = 5", "acas audit d t", "9238ad197039c1e3481e12d0ed269c9e5e62bd7e9b2b1998cba84dcde8421864"],
+  ["2", "960\ndelay = 5", "acas audit d t --reported", "ede520220b5784efa68941e4164114b557a8f3c94da27dfb33709a78c6d1346d"],
+  ["2", "960\ndelay = 10", "acas audit d t", "38062bb0db653d32f637c4374025cb919ca09531c0ba0f97d7a0bff077dc2336"],
+]
+runs = ["$3"]
 ends = ["1 reported"]
-output_length = 100724
-output_sha256 = "9e20f96c97e9abf0dbf6a8f0f2adf5f664a816ae8b3f54d5e714700f239d92e6"
+output_sha256 = "$4"
 
 # The whole table is accepted before a line goes out: its last value, its last advice and its last digit are looked at.
 [[cases]]
@@ -125,6 +133,14 @@ runs = ["acas audit other t", "acas audit c other"]
 ends = ["0 done", "5 table"]
 output = "certified 0 reported 0 clear 3\n"
 error = "acas: table refused: magic\n"
+
+# A table belongs to the text of its model, so that nobody audits it with another delay.
+[[cases]]
+name = "a table of the model with another delay"
+files = [["late", "model c", "replace version = 1 => version = 2", "replace limit = 960 => limit = 960\ndelay = 5"], ["c", "model c", "replace version = 1 => version = 2", "replace limit = 960 => limit = 960\ndelay = 0"], ["t", "compiled late"]]
+runs = ["acas audit c t"]
+ends = ["5 table"]
+error = "acas: table refused: other model c0c006ad59876e780a5a408e9498cdc55b7f3a174df87167a3f88cadef0eab11 found dd469595b4912cf27d0993307a2428dadceae6db8dfef3b4cfacc2092ca0debe\n"
 
 # Files are looked at in order: the model first.
 [[cases]]
@@ -184,6 +200,18 @@ cell 0 clear 0 0 0 descend reported time 3 range 1000 speed 500 ticks -20400 own
 certified 1 reported 1 clear 2
 """
 each_call = [4, 0, 0, 1, 0]
+
+[[cases]]
+name = "each call of an audit, at 64 bytes a call"
+files = [["c", "model c"], ["t", "compiled c", "values 10000000 -10000000", "spread 484 17 010101010202020200000000000000000000000000000000", "seal"]]
+most = "64"
+runs = ["acas audit c t"]
+ends = ["1 reported"]
+output = """cell 0 clear 0 0 0 climb certified
+cell 0 clear 0 0 0 descend reported time 3 range 1000 speed 500 ticks -20400 own 0 intruder 0 response 3@-960
+certified 1 reported 1 clear 2
+"""
+each_call = [27, 0, 0, 3, 0]
 
 # The write that fails, and what is printed, at seven bytes a call.
 [[cases]]

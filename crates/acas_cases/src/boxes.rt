@@ -32,6 +32,32 @@ runs = ["acas regions d b"]
 ends = ["1 reported"]
 output = "box 0 reported $7\ncertified 0 reported 1\n"
 
+# The pilot's delay, and the box's ranges, closing speeds and altitudes: a delay of 0 is none, and one of 5 seconds takes 125 ft of the climb.
+[[cases]]
+name = "certified boxes whose pilots may hold their rate"
+files = [["d", "model d", "replace version = 1 => version = 2", "replace limit = 960 => limit = 960\ndelay = $1"], ["b", "text version = 1\n[[box]]\nadvisory = \"climb\"\nrange = $2\nclosing = $3\naltitude = $4\nown = [0, 0]\nintruder = [0, 0]\n"]]
+rows = [
+  ["0", "[10500, 11000]", "[500, 500]", "[0, 360]"],
+  ["5", "[10500, 11000]", "[500, 500]", "[0, 235]"],
+]
+runs = ["acas regions d b"]
+ends = ["0 done"]
+output = "box 0 certified\ncertified 1 reported 0\n"
+
+# The same, and the witness: the hold comes first, as long as the delay, shorter, or as the whole response.
+[[cases]]
+name = "reported boxes whose pilots may hold their rate"
+files = [["d", "model d", "replace version = 1 => version = 2", "replace limit = 960 => limit = 960\ndelay = $1"], ["b", "text version = 1\n[[box]]\nadvisory = \"climb\"\nrange = $2\nclosing = $3\naltitude = $4\nown = [0, 0]\nintruder = [0, 0]\n"]]
+rows = [
+  ["0", "[10500, 11000]", "[500, 500]", "[0, 361]", "time 20 range 10500 speed 500 ticks 43320 own 0 intruder 0 response 25/8@480 135/8@0"],
+  ["5", "[10500, 11000]", "[500, 500]", "[0, 236]", "time 20 range 10500 speed 500 ticks 28320 own 0 intruder 0 response 5@0 25/8@480 95/8@0"],
+  ["10", "[50500, 50500]", "[5000, 5000]", "[400, 400]", "time 51/5 range 50500 speed 5000 ticks 48000 own 0 intruder 0 response 1043/256@0 7841/1280@960"],
+  ["10", "[2500, 2500]", "[500, 500]", "[100, 100]", "time 4 range 2500 speed 500 ticks 12000 own 0 intruder 0 response 4@0"],
+]
+runs = ["acas regions d b"]
+ends = ["1 reported"]
+output = "box 0 reported $5\ncertified 0 reported 1\n"
+
 # Boxes are ruled on in order, whatever stands between them.
 [[cases]]
 name = "boxes in order"
@@ -152,6 +178,15 @@ runs = ["acas regions d b"]
 ends = ["1 reported"]
 output = "box 0 reported time 20 range 10500 speed 500 ticks 43320 own 0 intruder 0 response 25/8@480 135/8@0\ncertified 0 reported 1\n"
 each_call = [4, 0, 0, 1, 0]
+
+[[cases]]
+name = "each call of regions, at 64 bytes a call"
+files = [["d", "model d"], ["b", "text version = 1\n[[box]]\nadvisory = \"climb\"\nrange = [10500, 11000]\nclosing = [500, 500]\naltitude = [0, 361]\nown = [0, 0]\nintruder = [0, 0]\n"]]
+most = "64"
+runs = ["acas regions d b"]
+ends = ["1 reported"]
+output = "box 0 reported time 20 range 10500 speed 500 ticks 43320 own 0 intruder 0 response 25/8@480 135/8@0\ncertified 0 reported 1\n"
+each_call = [17, 0, 0, 2, 0]
 "##;
 
 #[test]

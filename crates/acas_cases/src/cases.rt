@@ -24,6 +24,10 @@ pub struct Cases {
     pub most: Option<String>,
     #[serde(default)]
     pub failing: Vec<String>,
+    #[serde(default)]
+    pub endless: String,
+    #[serde(default)]
+    pub stuck: String,
     pub runs: Vec<String>,
     #[serde(default)]
     pub ends: Vec<String>,
@@ -44,6 +48,7 @@ pub struct Cases {
     pub absent: Vec<String>,
     #[serde(default)]
     pub each_call: Vec<u64>,
+    pub taken: Option<u64>,
 }
 
 /// Reads a text of cases.

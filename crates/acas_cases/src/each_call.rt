@@ -14,41 +14,29 @@ pub fn judge_each_call(
     end: &End,
     report: &mut Report,
 ) -> Result<(), Fault> {
+    judge_calls(cases, end, report)?;
     for (kind, count) in KINDS.iter().zip(&cases.each_call) {
         for number in 0..*count {
             let failing = vec![in alloc; format!(in alloc; "{kind} {number}")?]?;
             let failed = perform(alloc, start, &failing)?;
             judge_failed(kind, start, end, &failed, report)?;
         }
-        let failing = vec![in alloc; format!(in alloc; "{kind} {count}")?]?;
-        let undisturbed = perform(alloc, start, &failing)?;
-        judge_undisturbed(start, end, &undisturbed, report)?;
     }
     Ok(())
 }
 
-// The call is not made: all is as where none fails.
-fn judge_undisturbed(
-    start: &Start,
-    end: &End,
-    found: &End,
-    report: &mut Report,
-) -> Result<(), Fault> {
-    if found.ends != end.ends {
-        report.add("ends otherwise where a call fails that it does not make")?;
-    }
-    report.same("the output", found.out.written(), end.out.written())?;
-    report.same("the error output", found.err.written(), end.err.written())?;
-    for file in &start.files {
-        judge_same(&file.name, end, found, report)?;
+// There are as many calls of each kind as the case says.
+fn judge_calls(cases: &Cases, end: &End, report: &mut Report) -> Result<(), Fault> {
+    let calls = end.folder.files.calls();
+    let writes = end.out.sink.calls();
+    let errors = end.err.sink.calls();
+    let made = [calls.reads, calls.creates, calls.appends, writes, errors];
+    for (made, said) in made.iter().zip(&cases.each_call) {
+        if made != said {
+            report.add("makes another number of calls")?;
+        }
     }
     Ok(())
-}
-
-fn judge_same(name: &str, end: &End, found: &End, report: &mut Report) -> Result<(), Fault> {
-    let bytes = found.folder.get(name).unwrap_or(b"");
-    let wanted = end.folder.get(name).unwrap_or(b"");
-    Ok(report.same(name, bytes, wanted)?)
 }
 
 // A call of this kind fails: the code says whose call it was.
@@ -67,13 +55,29 @@ fn judge_failed(
         if failed.ends != end.ends {
             report.add("ends otherwise where the error output fails")?;
         }
-        report.same("the output", failed.out.written(), end.out.written())?;
-        report.part("the error output", failed.err.written(), end.err.written())?;
+        report.same(
+            "the output",
+            failed.out.sink.written(),
+            end.out.sink.written(),
+        )?;
+        report.part(
+            "the error output",
+            failed.err.sink.written(),
+            end.err.sink.written(),
+        )?;
     } else {
         let found = failed.ends.last().map_or("", |text| text.as_str());
         report.same("the end", found.as_bytes(), ends.as_bytes())?;
-        report.part("the output", failed.out.written(), end.out.written())?;
-        report.same("the error output", failed.err.written(), line.as_bytes())?;
+        report.part(
+            "the output",
+            failed.out.sink.written(),
+            end.out.sink.written(),
+        )?;
+        report.same(
+            "the error output",
+            failed.err.sink.written(),
+            line.as_bytes(),
+        )?;
     }
     for file in &start.files {
         judge_file(kind, file, end, failed, report)?;
@@ -90,8 +94,8 @@ fn judge_file(
     failed: &End,
     report: &mut Report,
 ) -> Result<(), Fault> {
-    let found = failed.folder.get(&file.name).unwrap_or(b"");
-    let after = end.folder.get(&file.name).unwrap_or(b"");
+    let found = failed.folder.files.get(&file.name).unwrap_or(b"");
+    let after = end.folder.files.get(&file.name).unwrap_or(b"");
     if after == file.bytes.as_slice() {
         return Ok(report.same(&file.name, found, after)?);
     }

@@ -61,7 +61,7 @@ output = '''
 '''
 each_call = [426, 0, 0, 592, 0]
 
-# The lines have 20 and 16 bytes. A read of a file that is absent does not fail.
+# The line has 20 bytes.
 [[cases]]
 name = "each call of a run that is refused, at a byte a call"
 most = "1"
@@ -70,14 +70,6 @@ runs = ["$1"]
 ends = ["$2"]
 error = "$3"
 each_call = [0, 0, 0, 0, 20]
-
-[[cases]]
-name = "each call of a run whose model is absent, at a byte a call"
-most = "1"
-runs = ["acas values b"]
-ends = ["3 absent model"]
-error = "acas: absent: b\n"
-each_call = [0, 0, 0, 0, 16]
 
 [[cases]]
 name = "each call of a check that refuses, at a byte a call"
@@ -91,10 +83,11 @@ each_call = [516, 0, 0, 0, 37]
 [[cases]]
 name = "a failing error output changes no code"
 most = "3"
-failing = ["error 2"]
+failing = ["error $1"]
+rows = [["0", ""], ["1", "aca"], ["2", "acas: "], ["3", "acas: abs"], ["4", "acas: absent"], ["5", "acas: absent: "], ["6", "acas: absent: b"]]
 runs = ["acas values b"]
 ends = ["3 absent model"]
-error = "acas: "
+error = "$2"
 
 # The append that fails, and how many bytes are stored then: the header, three layers and the digest.
 [[cases]]

@@ -61,8 +61,8 @@ error = "acas: table refused: digest $3 computed ee49563be2b835fa44385f97b98ee28
 [[cases]]
 name = "every proper prefix is too short"
 numbers = 908
-files = [["b", "model b"], ["t", "compiled b", "cut $1"]]
-runs = ["acas check b t"]
+files = [["c", "model c"], ["t", "compiled c", "cut $1"]]
+runs = ["acas check c t"]
 ends = ["5 table"]
 error = "acas: table refused: length $1 of 908\n"
 

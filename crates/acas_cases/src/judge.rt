@@ -21,8 +21,13 @@ pub fn judge(
     judge_ends(alloc, cases, number, row, end, report)?;
     if cases.lines_sha256.is_none() {
         let error = filled(alloc, &cases.error, row)?;
-        report.same("the error output", end.err.written(), error.as_bytes())?;
-        judge_output(alloc, cases, row, end.out.written(), report)?;
+        report.same("the error output", end.err.sink.written(), error.as_bytes())?;
+        judge_output(alloc, cases, row, end.out.sink.written(), report)?;
+    }
+    if let Some(taken) = &cases.taken
+        && end.folder.taken != *taken
+    {
+        report.add("takes another number of bytes")?;
     }
     judge_files(alloc, cases, row, start, end, report)
 }
@@ -69,7 +74,8 @@ fn judge_output(
         report.holds("the output", found, found.len() == *length)?;
     }
     if let Some(digest) = &cases.output_sha256 {
-        judge_digest(alloc, "the output", found, digest, report)?;
+        let digest = filled(alloc, digest, row)?;
+        judge_digest(alloc, "the output", found, &digest, report)?;
     }
     if let Some(whole) = &cases.output {
         let whole = filled(alloc, whole, row)?;
@@ -135,7 +141,7 @@ fn judge_file(
     end: &End,
     report: &mut Report,
 ) -> Result<(), Fault> {
-    let found = end.folder.get(name);
+    let found = end.folder.files.get(name);
     Ok(report.holds(name, found.unwrap_or(b"is absent"), found == wanted)?)
 }
 
@@ -150,7 +156,7 @@ fn judge_digests(
         let pair = filled_each(alloc, pair, row)?;
         let (name, rest) = pair.split_first().ok_or(Fault::Text("no name"))?;
         let digest = rest.first().ok_or(Fault::Text("no digest"))?;
-        let found = end.folder.get(name).ok_or(Fault::Text("no file"))?;
+        let found = end.folder.files.get(name).ok_or(Fault::Text("no file"))?;
         judge_digest(alloc, name, found, digest, report)?;
     }
     Ok(())

@@ -12,6 +12,8 @@
 //! - `most`: the most bytes that a call takes or gives, 65536 where it is left out.
 //! - `failing`: the calls that fail, each a kind and a number counted from 0, as `read 0`. The kinds are `read`, `create`,
 //!   `append`, `write` (of the output) and `error` (a write of the error output).
+//! - `endless`: the name of a file that never ends: behind its bytes there is a `#` for ever. `stuck`: the kind, `write` or `error`,
+//!   of the output that takes nothing.
 //! - `runs`: the commands, one after the other over the same folder and outputs, as in a shell: `acas values 'a b'`.
 //!
 //! What is to be there at the end. What is left out is to be empty, or as before:
@@ -24,7 +26,8 @@
 //! - `lines_sha256`: in the place of both, the digest of the outputs of all cases of the item, one after the other.
 //! - `after`: the files that are not as before, made as at the start. `after_sha256`: files with the digests of their bytes.
 //!   `absent`: the names of no file.
-//! - `each_call`: the numbers of calls of each kind. Then each of them is made to fail in turn: the code is to say whose call it
+//! - `taken`: how many bytes the reads gave in all.
+//! - `each_call`: the numbers of calls of each kind, as those of the folder and the outputs are to be. Then each of them is made to fail in turn: the code is to say whose call it
 //!   was, what is printed is to be a part of what is printed else, and a file that the run changes is to be as before where a
 //!   read or the create fails, and a part of what it becomes else where an append fails.
 //!
@@ -68,6 +71,8 @@ mod failing;
 mod fault;
 #[cfg(test)]
 mod headers;
+#[cfg(test)]
+mod hostile;
 #[cfg(test)]
 mod judge;
 #[cfg(test)]

@@ -1,5 +1,6 @@
 //! A case over a folder and two outputs in memory.
 use crate::fault::Fault;
+use crate::hostile::{Endless, Stuck};
 use crate::texts::words_of;
 use acas_cli::{Cause, FileRole, Status, Work, run};
 use acas_outside::{MemoryFolder, MemorySink};
@@ -12,11 +13,14 @@ pub struct File {
     pub bytes: Vec<u8>,
 }
 
-/// What is there at the start of a case: the files, the most bytes that a call takes or gives, and the commands.
+/// What is there at the start of a case: the files, the name of the one that never ends, the most bytes that a call takes or
+/// gives, the kind of the output that takes nothing, and the commands.
 #[derive(Drop)]
 pub struct Start {
     pub files: Vec<File>,
+    pub endless: String,
     pub most: u32,
+    pub stuck: String,
     pub runs: Vec<String>,
 }
 
@@ -24,9 +28,9 @@ pub struct Start {
 #[derive(Drop)]
 pub struct End {
     pub ends: Vec<String>,
-    pub folder: MemoryFolder,
-    pub out: MemorySink,
-    pub err: MemorySink,
+    pub folder: Endless,
+    pub out: Stuck,
+    pub err: Stuck,
 }
 
 /// The kinds of calls that may fail.
@@ -74,11 +78,13 @@ fn beginning(alloc: Global, start: &Start, failing: &[String]) -> Result<End, Fa
     for file in &start.files {
         folder.put(&file.name, file.bytes.clone()?)?;
     }
+    let out = MemorySink::new(alloc, numbers_of(alloc, failing, "write")?, most)?;
+    let err = MemorySink::new(alloc, numbers_of(alloc, failing, "error")?, most)?;
     Ok(End {
         ends: Vec::new(alloc),
-        folder,
-        out: MemorySink::new(alloc, numbers_of(alloc, failing, "write")?, most)?,
-        err: MemorySink::new(alloc, numbers_of(alloc, failing, "error")?, most)?,
+        folder: Endless::new(folder, start.endless.clone()?),
+        out: Stuck::new(out, start.stuck.as_str() == "write"),
+        err: Stuck::new(err, start.stuck.as_str() == "error"),
     })
 }
 

@@ -114,6 +114,22 @@ output = """0 descend range 500 ticks 12120 own 240 intruder 0 contact
 seconds 2 contact 1
 """
 each_call = [6, 0, 0, 1, 0]
+
+[[cases]]
+name = "each call of a replay, at 64 bytes a call"
+files = [
+  ["c", "model c"],
+  ["t", "compiled c", "values 10000000 -10000000", "spread 484 17 010101010202020200000000000000000000000000000000", "seal"],
+  ["e", "text version = 1\nadvisory = \"clear\"\nrange = 500\nclosing = 500\naltitude = 101\nown = 240\nintruder = 0\nown_accel = [-480, 0]\nintruder_accel = [0, 0]\n"],
+]
+most = "64"
+runs = ["acas replay c t e"]
+ends = ["0 done"]
+output = """0 descend range 500 ticks 12120 own 240 intruder 0 contact
+1 clear range 0 ticks 12120 own -240 intruder 0 apart
+seconds 2 contact 1
+"""
+each_call = [31, 0, 0, 3, 0]
 "##;
 
 #[test]

@@ -78,8 +78,8 @@ fn try_case(
 ) -> Result<(), Fault> {
     let start = start_of(alloc, cases, row)?;
     let end = perform(alloc, &start, &filled_each(alloc, &cases.failing, row)?)?;
-    lines.update(end.out.written());
-    lines.update(end.err.written());
+    lines.update(end.out.sink.written());
+    lines.update(end.err.sink.written());
     judge(alloc, cases, number, row, &start, &end, report)?;
     judge_each_call(alloc, cases, &start, &end, report)
 }
@@ -103,5 +103,11 @@ fn start_of(alloc: Global, cases: &Cases, row: &[String]) -> Result<Start, Fault
         None => 65_536,
     };
     let runs = filled_each(alloc, &cases.runs, row)?;
-    Ok(Start { files, most, runs })
+    Ok(Start {
+        files,
+        endless: filled(alloc, &cases.endless, row)?,
+        most,
+        stuck: filled(alloc, &cases.stuck, row)?,
+        runs,
+    })
 }

@@ -109,11 +109,17 @@ fn compiled(alloc: Global, model: &[u8]) -> Result<Vec<u8>, Fault> {
     };
     let start = Start {
         files: vec![in alloc; model]?,
+        endless: String::new(alloc),
         most: 65_536,
+        stuck: String::new(alloc),
         runs: vec![in alloc; String::from_str(alloc, "acas compile m t")?]?,
     };
     let end = perform(alloc, &start, &[])?;
-    let table = end.folder.get("t").ok_or(Fault::Text("not compiled"))?;
+    let table = end
+        .folder
+        .files
+        .get("t")
+        .ok_or(Fault::Text("not compiled"))?;
     Ok(table.to_vec(alloc)?)
 }
 

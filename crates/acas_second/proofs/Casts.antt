@@ -9,6 +9,7 @@ use Rattle.acas_units.specs.declared.limits.TheConstants.{GREATEST_CLOSING}
 use Rattle.acas_second.specs.Parabola.{AreFractions, half_slope_at, value_at}
 use Rattle.acas_second.specs.declared.parabola.Fractions.{Fractions}
 use Rattle.acas_second.specs.declared.parabola.Parabola.{Parabola}
+use Rattle.acas_second.proofs.Crossings.{size_sum}
 
 pub whole : (z : ℤ) (m : ℕ) → unsigned_abs z ≤ m → m < 2 ^ 63 → to_z w64 (of_z w64 z) ≡ z
 whole z m h k = omega (arith, ints)
@@ -26,9 +27,6 @@ whole_sum a b m n h k l = omega (arith, ints)
 
 whole_sum-right : (a b : ℤ) (m n : ℕ) → unsigned_abs a ≤ m → unsigned_abs b ≤ n → m + n < 2 ^ 63 → to_z w64 (of_z w64 (a +ℤ to_z w64 (of_z w64 b))) ≡ a +ℤ b
 whole_sum-right a b m n h k l = omega (arith, ints)
-
-size_sum : (a b : ℤ) (m n : ℕ) → unsigned_abs a ≤ m → unsigned_abs b ≤ n → unsigned_abs (a +ℤ b) ≤ m + n
-size_sum a b m n h k = omega (arith, ints)
 
 -- the sum of three
 pub whole_sum_three : (a b c : ℤ) (m n p : ℕ) → unsigned_abs a ≤ m → unsigned_abs b ≤ n → unsigned_abs c ≤ p → m + n + p < 2 ^ 63 →

@@ -3,8 +3,8 @@ use Rattle.std.proofs.Common.{◌≡◌, ℕ, ◌+◌, ◌*◌, ◌<◌, ◌≤�
 use Rattle.std.specs.Int.{int_max, int_min}
 use Rattle.std.proofs.lemmas.Int.{ints, clamps}
 use lib.IntN.{*ℤ_comm}
-use Rattle.acas_frac.proofs.SignedProducts.{mul-lt_ℤ}
-use Rattle.acas_flight.proofs.IntRing.{ring, at, num, ◌⊕◌, ◌⊖◌, ◌⊗◌}
+use Rattle.acas_frac.proofs.SignedProducts.{add-mul_ℤ, mul-lt_ℤ}
+use Rattle.acas_flight.proofs.IntRing.{ring, at, num, sub-mul_ℤ, ◌⊕◌, ◌⊖◌, ◌⊗◌}
 use Rattle.acas_flight.proofs.Orders.{cases_lt_ℤ, mul_nonneg, unsigned_abs-le, unsigned_abs-low, unsigned_abs-high}
 use Rattle.acas_second.specs.Contact.{HasContact, separation}
 use Rattle.acas_second.specs.Seconds.{near_fractions}
@@ -27,12 +27,6 @@ near_in_second radius s some = record { some = some; first = low (s.range -ℤ p
 
     high : (x y : ℤ) → int_min x y ≤ℤ y
     high x y = omega (arith, ints, clamps)
-
-minus_times : (x y q : ℤ) → (x -ℤ y) *ℤ q ≡ x *ℤ q -ℤ y *ℤ q
-minus_times x y q = ring (x ∷ y ∷ q ∷ []) ((at 0 ⊖ at 1) ⊗ at 2) ((at 0 ⊗ at 2) ⊖ (at 1 ⊗ at 2)) refl
-
-plus_times : (x y q : ℤ) → (x +ℤ y) *ℤ q ≡ x *ℤ q +ℤ y *ℤ q
-plus_times x y q = ring (x ∷ y ∷ q ∷ []) ((at 0 ⊕ at 1) ⊗ at 2) ((at 0 ⊗ at 2) ⊕ (at 1 ⊗ at 2)) refl
 
 -- a product with the greater of two numbers is at most a third, where both products are; and with the less of two likewise
 max_times : (x q z : ℤ) → (x *ℤ q) ≤ℤ z → pos 0 ≤ℤ z → (int_max x (pos 0) *ℤ q) ≤ℤ z
@@ -61,8 +55,8 @@ module _ (radius half : ℕ) (s : Second) (some : pos 0 <ℤ s.closing) where
       let low = mul_le_right (pos q) (s.range -ℤ pos radius) (near_fractions radius s).first (below_some b.some) (above (s.range -ℤ pos radius)) in
       let high = mul_le_right (pos q) (near_fractions radius s).last (s.range +ℤ pos radius) (below_some b.some) (below (s.range +ℤ pos radius) s.closing) in
       unsigned_abs-le (s.range *ℤ pos q -ℤ s.closing *ℤ pos a) (radius * q)
-      (least (s.range *ℤ pos q) (pos (radius * q)) (s.closing *ℤ pos a) ((near_fractions radius s).last *ℤ pos q) b.before (rw (plus_times s.range (pos radius) (pos q)) at high))
-      (most (s.range *ℤ pos q) (pos (radius * q)) (s.closing *ℤ pos a) ((near_fractions radius s).first *ℤ pos q) b.after (rw (minus_times s.range (pos radius) (pos q)) at low))
+      (least (s.range *ℤ pos q) (pos (radius * q)) (s.closing *ℤ pos a) ((near_fractions radius s).last *ℤ pos q) b.before (rw (add-mul_ℤ s.range (pos radius) (pos q)) at high))
+      (most (s.range *ℤ pos q) (pos (radius * q)) (s.closing *ℤ pos a) ((near_fractions radius s).first *ℤ pos q) b.after (rw (sub-mul_ℤ s.range (pos radius) (pos q)) at low))
     where
       above : (x : ℤ) → x ≤ℤ int_max x (pos 0)
       above x = omega (arith, ints, clamps)
@@ -82,11 +76,11 @@ module _ (radius half : ℕ) (s : Second) (some : pos 0 <ℤ s.closing) where
     some = omega (arith, ints);
     after =
         max_times (s.range -ℤ pos radius) (pos q) (s.closing *ℤ pos a)
-        (rw (minus_times s.range (pos radius) (pos q)) (most (s.range *ℤ pos q) (pos (radius * q)) (s.closing *ℤ pos a) (unsigned_abs-high (s.range *ℤ pos q -ℤ s.closing *ℤ pos a) (radius * q) near)))
+        (rw (sub-mul_ℤ s.range (pos radius) (pos q)) (most (s.range *ℤ pos q) (pos (radius * q)) (s.closing *ℤ pos a) (unsigned_abs-high (s.range *ℤ pos q -ℤ s.closing *ℤ pos a) (radius * q) near)))
         (mul_nonneg s.closing (pos a) (below_some some) (omega (arith, ints)));
     before =
         min_times (s.range +ℤ pos radius) s.closing (pos q) (s.closing *ℤ pos a)
-        (rw (plus_times s.range (pos radius) (pos q)) (least (s.range *ℤ pos q) (pos (radius * q)) (s.closing *ℤ pos a) (unsigned_abs-low (s.range *ℤ pos q -ℤ s.closing *ℤ pos a) (radius * q) near)))
+        (rw (add-mul_ℤ s.range (pos radius) (pos q)) (least (s.range *ℤ pos q) (pos (radius * q)) (s.closing *ℤ pos a) (unsigned_abs-low (s.range *ℤ pos q -ℤ s.closing *ℤ pos a) (radius * q) near)))
         (mul_le_by s.closing (pos a) (pos q) (below_some some) (omega (arith, ints)));
   }
     where

@@ -54,7 +54,7 @@ size_below : (u v : ℤ) (m n : ℕ) → unsigned_abs u ≤ m → unsigned_abs v
 size_below u v m n h k =
     let e = product_size u v m n h k in omega (arith, ints)
 
-size_sum : (u v : ℤ) (m n : ℕ) → unsigned_abs u ≤ m → unsigned_abs v ≤ n → unsigned_abs (u +ℤ v) ≤ m + n
+pub size_sum : (u v : ℤ) (m n : ℕ) → unsigned_abs u ≤ m → unsigned_abs v ≤ n → unsigned_abs (u +ℤ v) ≤ m + n
 size_sum u v m n h k = omega (arith, ints)
 
 size_between : (u : ℤ) (m : ℕ) → pos 0 ≤ℤ u → u ≤ℤ pos m → unsigned_abs u ≤ m
