@@ -1,0 +1,1 @@
+"""Draws what `acas` makes and prints. The command is `python/acas_plot`."""

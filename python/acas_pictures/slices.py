@@ -1,0 +1,41 @@
+"""The part of a table that one picture shows: one present advisory and one pair of rates."""
+from dataclasses import dataclass
+from pathlib import Path
+
+import numpy as np
+
+from acas_table import Fault, Model, Table
+
+
+@dataclass(frozen=True)
+class Slice:
+    """A present advisory by number, and the places of the two rates on their axes."""
+
+    present: int
+    own: int
+    intruder: int
+
+    def entries(self, table: Table) -> np.ndarray:
+        """The entries of the slice, dtype `ENTRY`, shape (layers, altitudes)."""
+        return table.layers[:, self.present, :, self.own, self.intruder]
+
+    def words(self, model: Model) -> str:
+        """What the slice is, in words."""
+        own, intruder = model.own_rate[self.own], model.intruder_rate[self.intruder]
+        return f"{model.names[self.present]} is present, own rate {own}, intruder's rate {intruder} ft/min"
+
+
+def slice_of(model: Model, present: str, own: int, intruder: int) -> Slice:
+    """The slice of a name and two rates, each of which has to be in the model."""
+    return Slice(model.number(present), model.place("own_rate", own), model.place("intruder_rate", intruder))
+
+
+def require_seconds(model: Model) -> None:
+    """Refuses a model whose tables have no advice."""
+    if model.horizon == 0:
+        raise Fault(model.source, "horizon", "is 0: no second is to go, and nothing is advised")
+
+
+def name_of(model: Model) -> str:
+    """The name of a model's file without its folder."""
+    return Path(model.source).name

@@ -1,0 +1,44 @@
+"""The picture of a trade: one column of a study's table against another."""
+from dataclasses import dataclass
+
+from matplotlib.figure import Figure
+
+from acas_pictures.canvas import new_figure
+
+AXIS_LABELS = {
+    "advised": "cells with an advice", "reported": "reported lines", "certified": "certified lines", "lines": "lines of the report",
+    "clear": "cells that are clear", "cells": "cells", "advised_share": "share of the cells that have an advice",
+    "reported_share": "share of the lines that are reported", "layers": "layers", "states": "states", "bytes": "bytes of the table",
+}
+LINES = (("#222222", "o", "-"), ("#C2185B", "s", "--"), ("#00695C", "^", "-."), ("#7A6A00", "D", ":"))
+
+
+@dataclass(frozen=True)
+class Point:
+    """A model in the picture: the line that it belongs to, its label, and its two numbers."""
+
+    line: str
+    label: str
+    across: float
+    up: float
+
+
+def draw_trade(points: list[Point], across: str, up: str, first: str) -> Figure:
+    """Models that differ in the first varied key alone are joined by a line, and labelled by its value."""
+    figure = new_figure(6.6, 4.2)
+    axes = figure.add_subplot()
+    for place, line in enumerate(dict.fromkeys(point.line for point in points)):
+        colour, marker, style = LINES[place % len(LINES)]
+        own = [point for point in points if point.line == line]
+        across_up = [point.across for point in own], [point.up for point in own]
+        axes.plot(*across_up, color=colour, marker=marker, linestyle=style if first else "", markersize=4.5, label=line)
+        for point in own:
+            axes.annotate(
+                point.label, (point.across, point.up), xytext=(5, 4), textcoords="offset points", fontsize=7.5, color=colour
+            )
+    axes.set(xlabel=AXIS_LABELS.get(across, across), ylabel=AXIS_LABELS.get(up, up))
+    axes.margins(0.09)
+    if first:
+        axes.set_title(f"{first}, at each point")
+        axes.legend(loc="best")
+    return figure

@@ -1,0 +1,246 @@
+"""What `acas audit` prints, and single lines of it and of `acas regions`."""
+import math
+from dataclasses import dataclass
+from fractions import Fraction
+from typing import Callable
+
+import numpy as np
+
+from acas_table.fault import Fault
+from acas_table.flight import TICKS_PER_FOOT, Flight, check_flight, read_flight
+from acas_table.model import AXES, Advisory, Model
+from acas_table.words import Words, lines_of
+
+Progress = Callable[[int, int], None]
+"""Is told how many lines of how many are read."""
+
+
+@dataclass(frozen=True)
+class CellLine:
+    """A cell under an advice."""
+
+    second: int
+    """Horizontal separation is lost in `second` to `second + 1` seconds."""
+    present: str
+    altitude: int
+    own_rate: int
+    intruder_rate: int
+    """The places of the cell on the three axes, from 0."""
+    advice: str
+    flight: Flight | None
+    """Of a reported cell the flight that is printed, of a certified one none."""
+
+
+@dataclass(frozen=True)
+class BoxLine:
+    """A box of a file of boxes."""
+
+    box: int
+    flight: Flight | None
+    """Of a reported box the flight that is printed, of a certified one none."""
+
+
+@dataclass(frozen=True)
+class Report:
+    """A report of an audit."""
+
+    source: str
+    """What the text is called in faults."""
+    cells: np.ndarray
+    """Structured, shape (lines,), in the order of the text. Fields: `second`, int16, in s; `present` and `advice`, names, str;
+    `altitude`, `own_rate` and `intruder_rate`, int16, the places of the cell on the model's axes; `reported`, bool."""
+    flights: tuple[Flight | None, ...]
+    """For each of the lines the flight that is printed; None where the cell is certified."""
+    certified: int
+    reported: int
+    """How many lines of each kind the audit has."""
+    clear: int
+    """How many cells have the advice clear at all corners."""
+
+    @property
+    def is_whole(self) -> bool:
+        """Whether the certified lines are there. `acas audit --reported` leaves them out."""
+        return len(self.cells) == self.certified + self.reported
+
+
+def read_report(text: str, source: str = "report", progress: Progress | None = None) -> Report:
+    """Reads what `acas audit` has printed, to its last line. A fault names the line and the word that is not as it has to be."""
+    found: list[CellLine] = []
+    known: dict[str, Flight | None] = {}
+    total = text.count("\n")
+    counts = None
+    for number, words in enumerate(lines_of(text, source), 1):
+        if counts is not None:
+            raise Fault(words.source, "end", "is missing: a line follows the counts")
+        if words.peek() == "certified":
+            counts = _counts(words)
+        else:
+            found.append(_cell(words, known))
+        if progress is not None:
+            progress(number, total)
+    if counts is None:
+        raise Fault(source, "counts", "are missing: the last line has none")
+    report = Report(source, _array(found), tuple(line.flight for line in found), *counts)
+    _check_counts(report)
+    return report
+
+
+def read_line(line: str, source: str = "line") -> CellLine | BoxLine:
+    """Reads one line of `acas audit` or of `acas regions`."""
+    words = Words(line.removesuffix("\n"), source)
+    if words.peek() != "box":
+        return _cell(words, {})
+    words.word("box")
+    return BoxLine(words.whole("box", 0, 9999), _ruling(words, {}))
+
+
+def _cell(words: Words, known: dict[str, Flight | None]) -> CellLine:
+    words.word("cell")
+    second, present = words.whole("seconds", 0, 119), words.name("present")
+    places = {axis: words.whole(f"place of {axis}", 0, 127) for axis in AXES}
+    return CellLine(second, present, **places, advice=words.name("advice"), flight=_ruling(words, known))
+
+
+def _ruling(words: Words, known: dict[str, Flight | None]) -> Flight | None:
+    """The flight of the words from the verdict on. Most stand in several lines, and are kept in what is known."""
+    text = words.text()
+    if text not in known:
+        flight = read_flight(words) if words.word("certified", "reported") == "reported" else None
+        words.end()
+        known[text] = flight
+    return known[text]
+
+
+def _counts(words: Words) -> tuple[int, int, int]:
+    counts = []
+    for name in ("certified", "reported", "clear"):
+        words.word(name)
+        counts.append(words.whole(name, 0))
+    words.end()
+    return counts[0], counts[1], counts[2]
+
+
+def _array(found: list[CellLine]) -> np.ndarray:
+    longest = max((max(len(line.present), len(line.advice)) for line in found), default=1)
+    name, place = f"U{longest}", "i2"
+    fields = [("second", place), ("present", name), *((axis, place) for axis in AXES), ("advice", name), ("reported", "?")]
+    rows = [
+        (line.second, line.present, line.altitude, line.own_rate, line.intruder_rate, line.advice, line.flight is not None)
+        for line in found
+    ]
+    return np.array(rows, dtype=fields)
+
+
+def _check_counts(report: Report) -> None:
+    reported = int(report.cells["reported"].sum())
+    certified = len(report.cells) - reported
+    if report.reported != reported:
+        raise Fault(report.source, "counts", f"say reported {report.reported}, but so many lines are: {reported}")
+    if certified not in (report.certified, 0):
+        raise Fault(report.source, "counts", f"say certified {report.certified}, but so many lines are: {certified}")
+
+
+NUMBERED = np.dtype([("second", "i2"), ("present", "u1"), *((axis, "i2") for axis in AXES), ("advice", "u1"), ("reported", "?")])
+"""The line of a report with the numbers of its advisories in the place of their names."""
+
+
+def numbered(report: Report, model: Model) -> np.ndarray:
+    """The lines of a report of this model, dtype `NUMBERED`, shape (lines,).
+
+    A fault names the first line that cannot be one of an audit of the model: its names, its second, its places, its order, and of a
+    reported cell its state, its response and the contact; and counts that are not those of the model's cells. A report does not
+    name its model, so one of another model is refused only where that shows.
+    """
+    cells = np.empty(len(report.cells), dtype=NUMBERED)
+    for field in ("second", *AXES, "reported"):
+        cells[field] = report.cells[field]
+    for field in ("present", "advice"):
+        cells[field] = _numbers(report, model, field)
+    for field, count in zip(("second", *AXES), _cell_shape(model)):
+        _refuse(report, cells[field] >= count, field, f"is not from 0 to {count - 1}, as {model.source} has it")
+    _refuse(report, cells["advice"] == 0, "advice", f"is {model.names[0]}, which is clear of conflict")
+    _check_order(report, cells)
+    _check_cells(report, model, cells)
+    _check_flights(report, model, cells)
+    return cells
+
+
+def _check_flights(report: Report, model: Model, cells: np.ndarray) -> None:
+    """Refuses the first flight that is none of its cell. One that stands in several lines of a cell is looked at once."""
+    checked: dict[tuple, Flight] = {}
+    for place, (cell, flight) in enumerate(zip(cells.tolist(), report.flights)):
+        second, _, *places, advice, _ = cell
+        key = (second, *places, advice)
+        if flight is not None and checked.get(key) is not flight:
+            source = f"{report.source} line {place + 1}"
+            check_cell_flight(model, second, places, flight, source)
+            check_flight(model, model.advisories[advice], flight, source)
+            checked[key] = flight
+
+
+def check_line(model: Model, line: CellLine, source: str) -> Advisory:
+    """The advisory of a reported line of this model. A fault names what cannot be so in an audit of the model."""
+    if line.flight is None:
+        raise Fault(source, "verdict", "is certified, and no flight is printed")
+    for field in ("present", "advice"):
+        if getattr(line, field) not in model.names:
+            raise Fault(source, field, f"{getattr(line, field)} is no advisory of {model.source}")
+    for field, count in zip(("second", *AXES), _cell_shape(model)):
+        if getattr(line, field) >= count:
+            raise Fault(source, field, f"{getattr(line, field)} is not from 0 to {count - 1}, as {model.source} has it")
+    check_cell_flight(model, line.second, [getattr(line, axis) for axis in AXES], line.flight, source)
+    advisory = model.advisories[model.number(line.advice)]
+    check_flight(model, advisory, line.flight, source)
+    return advisory
+
+
+def check_cell_flight(model: Model, second: int, places: list[int], flight: Flight, source: str) -> None:
+    """Refuses a flight that begins outside the cell of a second at three places of the axes."""
+    for axis, place, field, scale in zip(AXES, places, ("ticks", "own", "intruder"), (TICKS_PER_FOOT, 1, 1)):
+        low, high = getattr(model, axis)[place : place + 2].tolist()
+        if not scale * low <= getattr(flight, field) <= scale * high:
+            raise Fault(source, field, f"is {getattr(flight, field)}, outside the cell in {model.source}")
+    if not model.closing_least <= flight.speed <= model.closing_greatest:
+        raise Fault(source, "speed", f"is {flight.speed}, outside the closing speeds of {model.source}")
+    apart = max(Fraction(0), flight.range - model.radius)
+    if flight.range < 0 or not second * flight.speed <= apart <= (second + 1) * flight.speed:
+        raise Fault(source, "range", f"is {flight.range}, outside the cell in {model.source}")
+
+
+def _cell_shape(model: Model) -> tuple[int, int, int, int]:
+    """Of the cells under each advisory: seconds, altitudes, own rates, intruder rates."""
+    return (model.horizon, len(model.altitude) - 1, len(model.own_rate) - 1, len(model.intruder_rate) - 1)
+
+
+def _numbers(report: Report, model: Model, field: str) -> np.ndarray:
+    names, places = np.unique(report.cells[field], return_inverse=True)
+    numbers = np.array([model.names.index(name) if name in model.names else 255 for name in names.tolist()], dtype=np.uint8)
+    found = numbers[places] if len(names) else np.empty(0, dtype=np.uint8)
+    _refuse(report, found == 255, field, f"is no advisory of {model.source}")
+    return found
+
+
+def _refuse(report: Report, wrong: np.ndarray, field: str, problem: str) -> None:
+    """Refuses the first line of those that are wrong."""
+    if wrong.any():
+        place = int(np.argmax(wrong))
+        raise Fault(f"{report.source} line {place + 1}", field, f"{report.cells[field][place]} {problem}")
+
+
+def _check_order(report: Report, cells: np.ndarray) -> None:
+    fields = ("advice", *reversed(AXES), "present", "second")
+    order = np.lexsort([cells[field] for field in fields])
+    wrong = order != np.arange(len(order))
+    wrong[1:] |= cells[1:][list(fields)] == cells[:-1][list(fields)]
+    _refuse(report, wrong, "second", "stands in a line that is out of order")
+
+
+def _check_cells(report: Report, model: Model, cells: np.ndarray) -> None:
+    """Refuses counts that are not those of the cells: each of them is clear, or has a line."""
+    if not report.is_whole:
+        return
+    fields = ["second", "present", *AXES]
+    named = len(np.unique(cells[fields]))
+    total = math.prod(_cell_shape(model)) * len(model.advisories)
+    if named + report.clear != total:
+        raise Fault(report.source, "counts", f"make {named + report.clear} cells, and {model.source} has {total}")

@@ -1,0 +1,117 @@
+"""The command acas_plot: its pictures, and what it says of bad input, in one line, with nothing half written."""
+import subprocess
+import sys
+from pathlib import Path
+
+import pytest
+from conftest import EXAMPLES, TOP
+
+from test_replay import TEXT as REPLAY
+from test_report import CERTIFIED, REPORTED
+from test_report import WHOLE as REPORT
+
+PLOT = TOP / "python" / "acas_plot"
+LEVEL = ("--present", "clear", "--own", "0", "--intruder", "0")
+CELLS = ("--present", "clear", "--own", "0", "--intruder", "-60")
+MODEL, TABLE = EXAMPLES / "c.toml", EXAMPLES / "c.acxt"
+
+
+def plot(*words, given: str = "") -> subprocess.CompletedProcess:
+    """A run of the command with a text on its input."""
+    command = [sys.executable, "-B", str(PLOT), *map(str, words)]
+    return subprocess.run(command, input=given, capture_output=True, text=True, check=False)
+
+
+@pytest.fixture
+def files(tmp_path) -> Path:
+    """A folder with the report and the replay of the examples' smallest table, and with an older picture."""
+    (tmp_path / "report.txt").write_text(REPORT)
+    (tmp_path / "replay.txt").write_text(REPLAY)
+    (tmp_path / "old.png").write_bytes(b"old")
+    return tmp_path
+
+
+@pytest.mark.parametrize(("ending", "begin"), [("png", b"\x89PNG\r\n\x1a\n"), ("svg", b"<?xml version"), ("PNG", b"\x89PNG")])
+def test_each_picture_by_its_ending(files, ending, begin):
+    picture = files / f"picture.{ending}"
+    for words in (
+        ("policy", MODEL, TABLE, picture, *LEVEL), ("cost", MODEL, TABLE, picture, *LEVEL),
+        ("verdicts", MODEL, files / "report.txt", picture, *CELLS), ("witness", MODEL, REPORTED, picture),
+        ("replay", MODEL, TABLE, files / "replay.txt", picture),
+    ):
+        ended = plot(*words)
+        assert (ended.returncode, ended.stdout, ended.stderr) == (0, "", "")
+        assert picture.read_bytes().startswith(begin)
+        picture.unlink()
+    assert sorted(path.name for path in files.iterdir()) == ["old.png", "replay.txt", "report.txt"]
+
+
+def test_svg_has_its_words_as_text(files):
+    picture = files / "picture.svg"
+    plot("policy", MODEL, TABLE, picture, *LEVEL)
+    text = picture.read_text(encoding="utf-8")
+    for words in ("climb", "descend", "time to loss of horizontal separation [s]", "intruder's altitude less the own [ft]"):
+        assert f">{words}</text>" in text
+
+
+@pytest.mark.parametrize("name", ["picture.png", "picture.svg"])
+def test_two_runs_write_the_same(files, name):
+    contents = []
+    for _ in range(2):
+        plot("verdicts", MODEL, files / "report.txt", files / name, *CELLS)
+        contents.append((files / name).read_bytes())
+    assert contents[0] == contents[1]
+
+
+@pytest.mark.parametrize(("words", "options", "given"), [
+    (("witness", MODEL, "-"), (), REPORTED),
+    (("verdicts", MODEL, "-"), CELLS, REPORT),
+    (("replay", MODEL, TABLE, "-"), (), REPLAY),
+])
+def test_input_in_the_place_of_a_file(files, words, options, given):
+    ended = plot(*words, files / "new.svg", *options, given=given)
+    assert (ended.returncode, ended.stderr) == (0, "")
+    assert (files / "new.svg").exists()
+
+
+def test_line_of_a_box_wants_its_advisory(files):
+    line = "box 1 reported time 20 range 10500 speed 500 ticks 43320 own 0 intruder 0 response 25/8@480 135/8@0"
+    words = ("witness", EXAMPLES / "d.toml", line, files / "old.png")
+    assert plot(*words, "--advisory", "climb").returncode == 0
+    assert plot(*words).stderr == "acas_plot: line: advisory is not said by a line of acas regions: give --advisory NAME\n"
+    assert plot(*words, "--advisory", "descend").stderr.startswith("acas_plot: line: response does not meet descend in ")
+
+
+BAD = [
+    ("table of another model", ("policy", EXAMPLES / "d.toml", TABLE, "old.png", *LEVEL), f"{TABLE}: other model "),
+    ("no table", ("policy", MODEL, MODEL, "old.png", *LEVEL), f"{MODEL}: magic is not ACXT"),
+    ("no model", ("policy", TABLE, TABLE, "old.png", *LEVEL), f"{TABLE}: not toml:"),
+    ("absent", ("policy", "nowhere.toml", TABLE, "old.png", *LEVEL), "nowhere.toml: cannot be read: No such file or directory"),
+    ("name", ("policy", MODEL, TABLE, "old.png", "--present", "level", *LEVEL[2:]), f"{MODEL}: advisory level is not in the model"),
+    ("rate", ("cost", MODEL, TABLE, "old.png", *LEVEL[:2], "--own", "1", *LEVEL[4:]), f"{MODEL}: grid.own_rate has no 1, but 0, 60"),
+    ("no rate", ("cost", MODEL, TABLE, "old.png", *LEVEL[:2], "--own", "up", *LEVEL[4:]), "words: argument --own: invalid int value"),
+    ("last rate", ("verdicts", MODEL, "report.txt", "old.png", *LEVEL), f"{MODEL}: grid.intruder_rate ends at 0, and no cell begins"),
+    ("report of another model", ("verdicts", EXAMPLES / "b.toml", "report.txt", "old.png", *LEVEL), "report.txt line 1: advice climb is"),
+    ("no report", ("verdicts", MODEL, "replay.txt", "old.png", *CELLS), "replay.txt line 1: word cell is '0', not cell"),
+    ("replay of another model", ("replay", EXAMPLES / "c.toml", TABLE, "report.txt", "old.png"), "report.txt line 1: second is 'cell'"),
+    ("certified", ("witness", MODEL, CERTIFIED, "old.png"), "line: verdict is certified, and no flight is printed"),
+    ("two lines", ("witness", MODEL, CERTIFIED + CERTIFIED, "old.png"), "line: word certified is 'certified\\ncell'"),
+    ("line of another model", ("witness", EXAMPLES / "d.toml", REPORTED, "old.png"), "line: ticks is -20400, outside the cell in "),
+    ("ending", ("policy", MODEL, TABLE, "old.pdf", *LEVEL), "old.pdf: ending is none of .png and .svg"),
+    ("no folder", ("policy", MODEL, TABLE, "nowhere/new.png", *LEVEL), "nowhere/new.png: cannot be written: No such file or directory"),
+    ("folder", ("policy", MODEL, TABLE, "folder.png", *LEVEL), "folder.png: cannot be written: Is a directory"),
+    ("no words", ("policy", MODEL, TABLE), "words: the following arguments are required: PICTURE, --present, --own, --intruder"),
+    ("no command", ("draw",), "words: argument COMMAND: invalid choice: 'draw'"),
+]
+
+
+@pytest.mark.parametrize(("name", "words", "fault"), BAD, ids=[name for name, _, _ in BAD])
+def test_bad_input_is_one_line_and_nothing_is_written(files, monkeypatch, name, words, fault):
+    monkeypatch.chdir(files)
+    (files / "folder.png").mkdir()
+    before = sorted(files.iterdir())
+    ended = plot(*words)
+    assert ended.returncode == 1 and ended.stdout == ""
+    assert ended.stderr.startswith(f"acas_plot: {fault}") and ended.stderr.count("\n") == 1 and ended.stderr.endswith("\n")
+    assert sorted(files.iterdir()) == before
+    assert (files / "old.png").read_bytes() == b"old"

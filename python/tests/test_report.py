@@ -1,0 +1,140 @@
+"""The reader of reports: examples whose lines are worked out by hand, and broken texts."""
+from fractions import Fraction
+
+import pytest
+from conftest import EXAMPLES
+
+from acas_table import BoxLine, Fault, Segment, numbered, read_line, read_model, read_report
+from acas_table.flight import climb, highest_response, lowest_response
+from acas_table.report import check_line
+
+CERTIFIED = "cell 0 clear 0 0 0 climb certified\n"
+REPORTED = (
+    "cell 0 clear 0 0 0 descend reported time 3 range 1000 speed 500 ticks -20400 own 0 intruder 0 response 3@-960\n"
+)
+COUNTS = "certified 1 reported 1 clear 2\n"
+WHOLE = CERTIFIED + REPORTED + COUNTS
+
+
+@pytest.fixture
+def model():
+    return read_model(EXAMPLES / "c.toml")
+
+
+def test_the_program_prints_the_text_of_these_tests(acas):
+    assert acas.output("audit", EXAMPLES / "c.toml", EXAMPLES / "c.acxt") == WHOLE
+
+
+def test_lines_and_counts(model):
+    report = read_report(WHOLE)
+    assert (report.certified, report.reported, report.clear, report.is_whole) == (1, 1, 2, True)
+    assert report.cells["present"].tolist() == ["clear", "clear"]
+    assert report.cells["advice"].tolist() == ["climb", "descend"]
+    assert report.cells["reported"].tolist() == [False, True]
+    assert numbered(report, model).tolist() == [(0, 0, 0, 0, 0, 1, False), (0, 0, 0, 0, 0, 2, True)]
+
+
+def test_flight_by_hand():
+    """A descent of 960 ft/min per second for 3 s is one of 72 ft, which leaves 98 of 170."""
+    none, flight = read_report(WHOLE).flights
+    assert none is None
+    assert (flight.time, flight.range, flight.speed, flight.ticks) == (3, 1000, 500, -20400)
+    assert flight.response == (Segment(Fraction(3), Fraction(-960)),)
+    assert flight.own_at(Fraction(3)) == -72 * 120
+    assert flight.intruder_at(Fraction(3)) - flight.own_at(Fraction(3)) == -98 * 120
+    assert flight.range_at(Fraction(3)) == -500
+
+
+def test_without_certified_lines(model):
+    report = read_report(REPORTED + COUNTS)
+    assert (report.certified, report.reported, report.is_whole) == (1, 1, False)
+    assert len(numbered(report, model)) == 1
+
+
+def test_whole_report_of_an_example(acas):
+    model = read_model(EXAMPLES / "d.toml")
+    report = read_report(acas.output("audit", EXAMPLES / "d.toml", acas.table(EXAMPLES / "d.toml")))
+    assert (report.certified, report.reported, report.clear) == (0, 40, 680)
+    assert len(numbered(report, model)) == 40
+
+
+BROKEN = [
+    ("no text", "", "report line 1: end is missing"),
+    ("no counts", CERTIFIED + REPORTED, "report: counts are missing"),
+    ("cut in the counts", WHOLE[:-2], "report line 3: end is missing"),
+    ("cut in a line", CERTIFIED + REPORTED[:60], "report line 2: end is missing"),
+    ("line behind the counts", WHOLE + CERTIFIED, "report line 4: end is missing: a line follows the counts"),
+    ("line left out", CERTIFIED + COUNTS, "report: counts say reported 1, but so many lines are: 0"),
+    ("line twice", CERTIFIED + CERTIFIED + REPORTED + COUNTS, "report: counts say certified 1, but so many lines are: 2"),
+    ("no verdict", WHOLE.replace(" certified\n", "\n", 1), "report line 1: word certified is missing"),
+    ("other verdict", WHOLE.replace(" certified\n", " sure\n", 1), "report line 1: word certified is 'sure', not certified or reported"),
+    ("no place", WHOLE.replace("clear 0 0 0 climb", "clear 0 0 climb"), "report line 1: place of intruder_rate is 'climb'"),
+    ("spelling", WHOLE.replace("cell 0 clear", "cell 00 clear", 1), "report line 1: seconds is '00', not a whole number"),
+    ("seconds", WHOLE.replace("cell 0 clear", "cell 120 clear", 1), "report line 1: seconds is '120', not from 0 to 119"),
+    ("two spaces", WHOLE.replace("cell 0", "cell  0", 1), "report line 1: seconds is '', not a whole number"),
+    ("terms", WHOLE.replace("time 3", "time 6/2"), "report line 2: time is '6/2', not a number in lowest terms"),
+    ("no label", WHOLE.replace("speed 500", "500"), "report line 2: word speed is '500', not speed"),
+    ("response", WHOLE.replace("3@-960", "3"), "report line 2: response is '3', not DURATION@ACCELERATION"),
+    ("no response", WHOLE.replace(" 3@-960", ""), "report line 2: response is missing"),
+    ("tail", WHOLE.replace("climb certified", "climb certified 1"), "report line 1: end is missing: '1' follows"),
+]
+
+
+@pytest.mark.parametrize(("name", "text", "fault"), BROKEN, ids=[name for name, _, _ in BROKEN])
+def test_broken_reports_name_the_word(name, text, fault):
+    with pytest.raises(Fault) as raised:
+        read_report(text)
+    assert str(raised.value).startswith(fault)
+
+
+OTHERS = [
+    ("name", WHOLE.replace("climb", "level"), "report line 1: advice level is no advisory of "),
+    ("clear", WHOLE.replace("0 climb", "0 clear"), "report line 1: advice clear is clear, which is clear of conflict"),
+    ("second", WHOLE.replace("cell 0 clear", "cell 1 clear"), "report line 1: second 1 is not from 0 to 0"),
+    ("place", WHOLE.replace("clear 0 0 0 climb", "clear 0 0 1 climb"), "report line 1: intruder_rate 1 is not from 0 to 0"),
+    ("order", REPORTED + CERTIFIED + COUNTS, "report line 1: second 0 stands in a line that is out of order"),
+    ("cells", WHOLE.replace("clear 2\n", "clear 3\n"), "report: counts make 4 cells, and "),
+    ("state", WHOLE.replace("ticks -20400", "ticks -20399"), "report line 2: ticks is -20399, outside the cell in "),
+    ("own rate", WHOLE.replace("own 0", "own 61"), "report line 2: own is 61, outside the cell in "),
+    ("speed", WHOLE.replace("speed 500", "speed 499"), "report line 2: speed is 499, outside the closing speeds of "),
+    ("range", WHOLE.replace("range 1000", "range 1001"), "report line 2: range is 1001, outside the cell in "),
+    ("time", WHOLE.replace("time 3", "time 2"), "report line 2: response lasts 3 s, not the time 2"),
+    ("slow", WHOLE.replace("3@-960", "3@-479"), "report line 2: response does not meet descend in "),
+    ("hard", WHOLE.replace("3@-960", "3@-961"), "report line 2: response does not meet descend in "),
+    ("held", WHOLE.replace("3@-960", "1@0 2@-960"), "report line 2: response does not meet descend in "),
+    ("apart", WHOLE.replace("3@-960", "3@-480"), "report line 2: ticks differ by 16080 at the end, outside the puck of "),
+    ("far", WHOLE.replace("time 3", "time 7/2").replace("3@", "7/2@"), "report line 2: range is 750 ft at the end, outside the puck"),
+]
+
+
+@pytest.mark.parametrize(("name", "text", "fault"), OTHERS, ids=[name for name, _, _ in OTHERS])
+def test_reports_of_another_model_name_the_line(model, name, text, fault):
+    with pytest.raises(Fault) as raised:
+        numbered(read_report(text), model)
+    assert str(raised.value).startswith(fault)
+
+
+def test_single_lines(model):
+    line = read_line(REPORTED)
+    assert check_line(model, line, "line") == model.advisories[2]
+    with pytest.raises(Fault, match="line: verdict is certified, and no flight is printed"):
+        check_line(model, read_line(CERTIFIED), "line")
+    box = read_line("box 1 reported time 20 range 10500 speed 500 ticks 43320 own 0 intruder 0 response 25/8@480 135/8@0")
+    assert isinstance(box, BoxLine) and box.box == 1
+    assert box.flight.response == (Segment(Fraction(25, 8), Fraction(480)), Segment(Fraction(135, 8), Fraction(0)))
+    assert read_line("box 3 certified").flight is None
+    assert read_line("box 0 reported time 0 range 0 speed 1 ticks 0 own 0 intruder 0 response none").flight.response == ()
+
+
+def test_curves_by_hand(changed):
+    """Told to climb from level flight with a delay of 5 s, the slowest pilot has gained 25/8*12.5 ft by 65/8 s, and then 25 ft a second."""
+    late = read_model(changed("d.toml", ("version = 1", "version = 2"), ("limit = 960", "limit = 960\ndelay = 5")))
+    level, end = Fraction(0), Fraction(20)
+    lowest = lowest_response(late, late.advisories[1], level, end)
+    assert lowest[:2] == (Segment(Fraction(5), Fraction(0)), Segment(Fraction(25, 8), Fraction(480)))
+    assert climb(level, lowest, Fraction(5)) == 0
+    assert climb(level, lowest, Fraction(65, 8)) == Fraction(625, 16) * 120
+    assert climb(level, lowest, end) == (Fraction(625, 16) + 25 * Fraction(95, 8)) * 120
+    highest = highest_response(late, late.advisories[1], level, end)
+    assert highest[0] == Segment(Fraction(10000, 960), Fraction(960))
+    assert climb(level, highest, Fraction(2)) == 960 * 4

@@ -1,0 +1,179 @@
+"""Studies: three small models from end to end, a run that is interrupted, and what is said of bad input."""
+import csv
+import os
+import shutil
+import signal
+import subprocess
+import sys
+import time
+from pathlib import Path
+
+import pytest
+from conftest import EXAMPLES, TOP
+
+from acas_study.command import lock
+from acas_study.description import read_study
+from acas_study.texts import set_key, text_of
+from acas_table import Fault, read_model
+from acas_table.model import document_of, model_of
+
+RUN = TOP / "study" / "run"
+# examples/c.toml with 1, 2 and 3 as the cost of contact.
+STUDY = """version = 1
+model = "c.toml"
+[[vary]]
+name = "contact"
+keys = ["cost.contact"]
+from = 1
+to = 3
+by = 1
+"""
+
+
+@pytest.fixture
+def study(tmp_path) -> Path:
+    shutil.copy(EXAMPLES / "c.toml", tmp_path)
+    path = tmp_path / "study.toml"
+    path.write_text(STUDY)
+    return path
+
+
+def run(acas, *words) -> subprocess.CompletedProcess:
+    """A run of a study with the program of the tests."""
+    command = [sys.executable, "-B", str(RUN), "--acas", acas.program, *map(str, words)]
+    return subprocess.run(command, capture_output=True, text=True, check=False)
+
+
+def rows_of(results: Path) -> list[dict[str, str]]:
+    with open(results / "study.csv", encoding="utf-8", newline="") as file:
+        return list(csv.DictReader(file))
+
+
+def test_three_models_of_a_folder(acas, tmp_path):
+    """All cells of d.toml with an advice are reported; the tables of b.toml and c.toml advise nothing."""
+    models, results = tmp_path / "models", tmp_path / "results"
+    models.mkdir()
+    for name in ("b.toml", "c.toml", "d.toml"):
+        shutil.copy(EXAMPLES / name, models)
+    ended = run(acas, models, results)
+    assert (ended.returncode, ended.stdout) == (0, f"studied 3 models: {results}/study.csv {results}/page.html\n")
+    assert "14 of 14 steps (100%) done" in ended.stderr
+    rows = {row["model"]: row for row in rows_of(results)}
+    assert list(rows) == ["b", "c", "d"]
+    assert rows["d"] == {
+        "model": "d", "layers": "31", "states": "96", "bytes": "50684", "cells": "720", "advised": "40", "lines": "40",
+        "certified": "0", "reported": "40", "clear": "680", "advised_share": "0.0556", "reported_share": "1.0000",
+    }
+    assert (rows["c"]["cells"], rows["c"]["clear"], rows["c"]["reported_share"]) == ("3", "3", "0.0000")
+    page = (results / "page.html").read_text(encoding="utf-8")
+    pictures = ["trade", *(f"{name}-{kind}" for name in "bcd" for kind in ("policy", "verdicts"))]
+    for picture in pictures:
+        assert f'src="pictures/{picture}.png"' in page
+        assert (results / "pictures" / f"{picture}.png").read_bytes().startswith(b"\x89PNG")
+    assert (results / "checks" / "d.txt").read_text() == "accepted layers 31 states 96\n"
+
+
+def test_killed_run_goes_on(acas, study, tmp_path):
+    """A run is killed, with all of its processes, while the third model's audit hangs; the next one leaves alone what was done."""
+    results, hanging = tmp_path / "results", tmp_path / "hanging"
+    hanging.write_text(f'#!/bin/sh\ncase $1.$2 in audit.*contact-3*) sleep 600;; esac\nexec "{acas.program}" "$@"\n')
+    hanging.chmod(0o755)
+    begun = [results / "reports" / "contact-3.txt", *(results / "rows" / f"contact-{number}.csv" for number in (1, 2))]
+    kept = [results / "tables" / "contact-3.acxt", *(results / "reports" / f"contact-{number}.txt" for number in (1, 2))]
+    command = [sys.executable, "-B", RUN, "--acas", hanging, study, results, "--cores", "2"]
+    with subprocess.Popen(command, stderr=subprocess.DEVNULL, start_new_session=True) as running:
+        while not all(path.exists() for path in begun):
+            assert running.poll() is None
+            time.sleep(0.1)
+        os.killpg(running.pid, signal.SIGKILL)
+    assert not (results / "study.csv").exists()
+    before = [path.stat().st_mtime_ns for path in kept]
+    ended = run(acas, study, results)
+    assert ended.returncode == 0, ended.stderr
+    assert [path.stat().st_mtime_ns for path in kept] == before
+    assert [(row["model"], row["contact"]) for row in rows_of(results)] == [(f"contact-{n}", str(n)) for n in (1, 2, 3)]
+    ended = run(acas, study, results)
+    assert ended.returncode == 0 and "Nothing to be done" in ended.stderr
+
+
+def test_step_that_fails(acas, study, tmp_path):
+    """The last line says that the study is not done; what Snakemake says of the step stands above it."""
+    results, failing = tmp_path / "results", tmp_path / "failing"
+    failing.write_text(f'#!/bin/sh\ncase $1.$2 in check.*contact-3*) exit 7;; esac\nexec "{acas.program}" "$@"\n')
+    failing.chmod(0o755)
+    command = [sys.executable, "-B", RUN, "--acas", failing, study, results]
+    ended = subprocess.run(command, capture_output=True, text=True, check=False)
+    assert (ended.returncode, ended.stdout) == (1, "")
+    last = f"study: {results}: study is not done: Snakemake ended with the code 1; the same command goes on"
+    assert ended.stderr.splitlines()[-1] == last and "Error in rule check" in ended.stderr
+    assert not (results / "study.csv").exists() and not (results / "checks" / "contact-3.txt").exists()
+
+
+def test_cluster_executor_without_a_change(acas, study, tmp_path):
+    """A cluster whose command for a job is the shell."""
+    ended = run(acas, study, tmp_path / "results", "--cluster", "sh", "--jobs", "2")
+    assert ended.returncode == 0, ended.stderr
+    assert len(rows_of(tmp_path / "results")) == 3
+
+
+def test_models_of_the_example():
+    study = read_study(EXAMPLES / "trade" / "study.toml")
+    assert [model.name for model in study.models[:3]] == ["cost-1-pull-240", "cost-1-pull-480", "cost-3-pull-240"]
+    assert len(study.models) == 12 and (study.varied, study.across, study.up) == (("cost", "pull"), "advised_share", "reported_share")
+    model = model_of(study.models[-2].text, "m")
+    assert model.pull == 240 and {advisory.costs for advisory in model.advisories} == {(0, 300, 300)}
+
+
+@pytest.mark.parametrize("name", ["a.toml", "b.toml", "c.toml", "d.toml", "e.toml"])
+def test_written_model_is_the_read_one(name):
+    path = EXAMPLES / name
+    read, written = read_model(path), model_of(text_of(document_of(path.read_bytes(), name)).encode(), name)
+    for field in ("horizon", "radius", "pull", "contact", "advisories", "sigma"):
+        assert getattr(read, field) == getattr(written, field)
+    assert read.altitude.tolist() == written.altitude.tolist()
+
+
+def test_keys_by_their_paths():
+    document = {"pilot": {"pull": 1}, "advisory": [{"costs": [1, 2]}, {"costs": [3, 4]}]}
+    set_key(document, "pilot.delay", 5, "s")
+    set_key(document, "advisory[].costs[1]", 9, "s")
+    set_key(document, "advisory[0].costs[0]", 8, "s")
+    assert document == {"pilot": {"pull": 1, "delay": 5}, "advisory": [{"costs": [8, 9]}, {"costs": [3, 9]}]}
+    for path in ("pilots.pull", "advisory[2].costs[0]", "advisory[0].costs[2]", "pilot[].pull", "pilot.pull.least"):
+        with pytest.raises(Fault, match=r"is not in the model"):
+            set_key(document, path, 1, "s")
+    with pytest.raises(Fault, match="is no path"):
+        set_key(document, "pilot..pull", 1, "s")
+
+
+@pytest.mark.parametrize(("old", "new", "fault"), [
+    ("version = 1", "version = 2", "study.toml: key version value 2 outside 1 to 1"),
+    ("by = 1", "by = 0", "study.toml: key vary[0].by value 0 outside 1 to 1000000000"),
+    ("to = 3", "to = 0", "study.toml: key vary[0].values value 0 outside 1 to 10000"),
+    ("by = 1", "", "study.toml: key vary[0].by missing"),
+    ("to = 3", "to = 999999999", "study.toml: key vary[0].values value 999999999 outside 1 to 10000"),
+    ("from = 1\nto = 3\nby = 1", "values = [1, 2, 1]", "study.toml: key vary makes two models of the name contact-1"),
+    ('name = "contact"', 'name = "cells"', "study.toml: key vary makes two columns of the name cells"),
+    ("by = 1", "by = 1\nvalues = [1]", "study.toml: key vary[0].by unknown"),
+    ("cost.contact", "cost.contacts", "study.toml contact-1: key cost.contacts unknown"),
+    ('"cost.contact"]\nfrom = 1', '"horizon"]\nfrom = 0', "study.toml contact-0: key horizon is 0: there is nothing to audit"),
+    ('"c.toml"', '"nowhere.toml"', "nowhere.toml: cannot be used: No such file or directory"),
+    ("[[vary]]", '[trade]\nacross = "contact"\nup = "advice"\n[[vary]]', "study.toml: key trade.up advice is no column of numbers"),
+])
+def test_bad_studies_are_one_line_and_make_nothing(acas, study, tmp_path, old, new, fault):
+    assert old in STUDY
+    study.write_text(STUDY.replace(old, new, 1))
+    ended = run(acas, study, tmp_path / "results")
+    assert ended.returncode == 1 and ended.stdout == ""
+    assert fault in ended.stderr and ended.stderr.count("\n") == 1
+    assert not (tmp_path / "results").exists()
+
+
+def test_folder_without_models_and_folder_in_use(acas, study, tmp_path):
+    empty = tmp_path / "empty"
+    empty.mkdir()
+    assert run(acas, empty, tmp_path / "results").stderr == f"study: {empty}: models are missing: no file of the folder ends in .toml\n"
+    (tmp_path / "results").mkdir()
+    with lock(tmp_path / "results"):
+        ended = run(acas, study, tmp_path / "results")
+    assert (ended.returncode, ended.stderr) == (1, f"study: {tmp_path / 'results'}: folder is in use by another run\n")
