@@ -18,6 +18,8 @@ use Rattle.acas_command.specs.declared.status.Cause.{Cause}
 use Rattle.acas_command.proofs.Behind.{told-map}
 use Rattle.acas_command.proofs.Refused.{not_refused}
 use Rattle.acas_command.proofs.Reports.{IsPrinted, report-may_print, report-printed}
+use Rattle.acas_report.specs.declared.counts.Which.TheVariants.{All}
+use Rattle.acas_audit_commands.proofs.Verdicts.{verdicts}
 use Rattle.acas_audit_commands.proofs.Worth.{completed}
 use Rattle.acas_drill.specs.Calls.{CallsForDrill, EndsDrill, IsDrillBegun, IsDrillText}
 use Rattle.acas_drill.specs.DrilledModel.{drilled_model}
@@ -38,7 +40,7 @@ prints-drill number files cause before after p =
       advices = drilled.advices;
       tabled = drilled.tabled;
       counts = p.report.counts;
-      counted = drilled.counted;
+      counted = record { text = drilled.counted.text; report = verdicts m drilled.advices All p.report.counts drilled.counted.text drilled.counted.report };
       printed = subst (λ (text : List ℕ). Appends before.written after.written text) p.report.is p.printed;
       kept = p.kept;
       reported = p.ends ∙ ap report_cause p.report.count;

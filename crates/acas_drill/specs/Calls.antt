@@ -6,26 +6,23 @@ use Rattle.acas_outside.specs.Bytes.{AppendsPart}
 use Rattle.acas_outside.specs.Outside.{Outside}
 use Rattle.acas_outside.specs.declared.sink.Sink.{Ghosts as SinkMeanings}
 use Rattle.acas_process.specs.Compiled.{compiled}
-use Rattle.acas_cell.specs.Corners.{advisory_cells}
-use Rattle.acas_cell.specs.declared.name.CellName.{CellName}
-use Rattle.acas_report.specs.Report.{AreRuled, Ruled, clear_cells, counts_of}
+use Rattle.acas_report.specs.Report.{IsReport}
 use Rattle.acas_report.specs.declared.counts.Counts.{Counts}
+use Rattle.acas_report.specs.declared.counts.Which.TheVariants.{All}
 use Rattle.acas_command.specs.Called.{Called, calls_for_report}
 use Rattle.acas_command.specs.Outcome.{prints}
 use Rattle.acas_command.specs.declared.status.Cause.{Cause}
 use Rattle.acas_command.specs.declared.status.Cause.TheVariants.{Done, Reported, Words, Absent, Model, Table, Input, Folder, Output, TooLong, Memory}
 use Rattle.acas_table_file.specs.Worth.{AreTabled}
-use Rattle.acas_audit_commands.specs.Worth.{IsVerdictOnCell}
 use Rattle.acas_drill.specs.DrilledModel.{drilled_model}
 use Rattle.acas_drill.specs.Text.{drill_text}
 
--- these are the counts of verdicts, one on each advisory cell of the advices, in order
+-- these are the counts of a report of the advices
 pub record AreCountsOf (m : ModelData) (advices : AdvicesData) (counts : Counts) : Type 0 where
-  pub ruled : List (Ruled CellName)
-  pub verdicts : AreRuled (IsVerdictOnCell m) (advisory_cells m advices) ruled
-  pub counted : counts ≡ counts_of ruled (clear_cells m advices)
+  pub text : List ℕ
+  pub report : IsReport m advices All counts text
 
--- these are the advices of the compiled table of a model, and the counts of verdicts on their cells
+-- these are the advices of the compiled table of a model, and the counts of their report
 pub record AreDrilled (m : ModelData) (counts : Counts) : Type 0 where
   pub advices : AdvicesData
   pub fits : AreAdvicesOf m advices

@@ -1,8 +1,9 @@
 -- What `drill` is worth, in the words of the subject, over a folder that tells its files.
-use Rattle.std.specs.Prelude.{◌≡◌, ℕ, Some}
+use Rattle.std.specs.Prelude.{◌≡◌, ℕ, List, Some}
 use Rattle.std.specs.Fmt.{decimal}
 use Rattle.sha2.specs.Sha256.{sha256}
 use Rattle.acas_spec.specs.Limits.{IsModel}
+use Rattle.acas_spec.specs.Model.{ModelData}
 use Rattle.acas_spec.specs.Table.{Table}
 use Rattle.acas_base.specs.Advices.{AdvicesData}
 use Rattle.acas_outside.specs.Bytes.{Appends}
@@ -11,18 +12,27 @@ use Rattle.acas_outside.specs.Outside.{Outside}
 use Rattle.acas_process.specs.Bounds.{HasTwoSidedBounds, IsTight}
 use Rattle.acas_table.specs.Layers.{table_text}
 use Rattle.acas_accept.specs.Accepted.{IsAcceptedTable}
+use Rattle.acas_cell.specs.Corners.{advisory_cells}
+use Rattle.acas_report.specs.Report.{IsReportOn, clear_cells, report_text}
 use Rattle.acas_report.specs.declared.counts.Counts.{Counts}
+use Rattle.acas_report.specs.declared.counts.Which.TheVariants.{All}
 use Rattle.acas_command.specs.Called.{MayPrint}
 use Rattle.acas_command.specs.Outcome.{report_cause}
 use Rattle.acas_command.specs.Worth.{IsNotRefused}
 use Rattle.acas_command.specs.declared.status.Cause.{Cause}
 use Rattle.acas_table_file.specs.Worth.{AreTabled}
-use Rattle.acas_drill.specs.Calls.{AreCountsOf, EndsDrill}
+use Rattle.acas_audit_commands.specs.Worth.{IsVerdictOnCell}
+use Rattle.acas_drill.specs.Calls.{EndsDrill}
 use Rattle.acas_drill.specs.DrilledModel.{drilled_model}
 use Rattle.acas_drill.specs.Text.{drill_text}
 
+-- these are the counts of a report in which each advisory cell of these advices is ruled on
+pub record AreVerdictCounts (m : ModelData) (advices : AdvicesData) (counts : Counts) : Type 0 where
+  pub text : List ℕ
+  pub report : IsReportOn (IsVerdictOnCell m) (advisory_cells m advices) (clear_cells m advices) (report_text m advices All) counts text
+
 -- The model of the number is within its limits. It has a table with two-sided and tight bounds, whose text, behind the digest of the
--- number's digits, is accepted; and what was printed are the lines with the counts of verdicts on the cells of that table. The cause says
+-- number's digits, is accepted; and what was printed are the lines with the counts of a report of that table's advices. The cause says
 -- whether a cell is reported.
 pub record PrintsDrill (number : ℕ) (files : Files) (cause : Cause) (before after : Outside) : Type 0 where
   pub within : IsModel (drilled_model number)
@@ -33,7 +43,7 @@ pub record PrintsDrill (number : ℕ) (files : Files) (cause : Cause) (before af
   pub advices : AdvicesData
   pub tabled : AreTabled (drilled_model number) t advices
   pub counts : Counts
-  pub counted : AreCountsOf (drilled_model number) advices counts
+  pub counted : AreVerdictCounts (drilled_model number) advices counts
   pub printed : Appends before.written after.written (drill_text number counts)
   pub kept : after.holds ≡ Some files
   pub reported : cause ≡ report_cause counts.reported
