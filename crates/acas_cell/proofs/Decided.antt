@@ -1,11 +1,11 @@
 -- All advices, one after another: what is decided below one, and how many decisions that took.
-use Rattle.std.proofs.Common.{◌≡◌, ℕ, zero, suc, ◌+◌, ◌*◌, ◌<◌, ◌≤◌, ◌↔◌, inl, inr, Bool, true, false, refl, sym, ◌∙◌, subst, arith}
+use Rattle.std.proofs.Common.{◌≡◌, ℕ, zero, suc, ◌+◌, ◌<◌, ◌≤◌, ◌↔◌, inl, inr, Bool, true, false, refl, sym, ◌∙◌, subst, arith}
 use Rattle.std.proofs.lemmas.Bool.{cases_eq}
 use Rattle.acas_spec.specs.Model.{ModelData}
 use Rattle.acas_base.specs.Advices.{AdvicesData}
 use Rattle.acas_flight.specs.Contact.{IsEndangeredCell}
-use Rattle.acas_cell.specs.Audits.{AreListsOf, AreUndecided, BlockAuditData, HasLists, IsAuditOf, IsBlockIn, IsPlace, IsRuledIn, IsSorted, Waits, cell_count, certified_at, danger, no_danger, not_asked, reported_at}
-use Rattle.acas_cell.specs.Blocks.{IsBlockOf, IsInBlock, all_cells, cells_in}
+use Rattle.acas_cell.specs.Audits.{AreListsOf, AreUndecided, BlockAuditData, HasLists, IsAuditOf, IsBlockIn, IsPlace, IsRuledIn, IsSorted, Waits, certified_at, danger, no_danger, not_asked, reported_at}
+use Rattle.acas_cell.specs.Blocks.{IsBlockOf, IsInBlock, all_cells}
 use Rattle.acas_cell.specs.Cells.{cell_at}
 use Rattle.acas_cell.specs.Corners.{is_advised}
 use Rattle.acas_cell.specs.Decisions.{AreDecisionsUnder, IsDecidedBy, IsSumBelow, no_more, one_more}
@@ -123,14 +123,6 @@ pub decided_under : (m : ModelData) (a : AdvicesData) (n present advice number :
     AreDecisionsUnder m a n present advice number
 decided_under m a n present zero number some decided = absurd (omega (arith, some))
 decided_under m a n present (suc other) number some decided = decided
-
--- the block of all cells has as many as the audit
-pub count_of_all : (m : ModelData) (audit : BlockAuditData) → IsAuditOf m audit → cells_in (all_cells m) ≡ cell_count audit
-count_of_all m audit of =
-    same_product _ _ _ _ _ _ (omega (arith, of.altitudes)) (omega (arith, of.own_rates)) (omega (arith, of.intruder_rates))
-  where
-    same_product : (x y z p q r : ℕ) → x ≡ p → y ≡ q → z ≡ r → x * y * z ≡ p * q * r
-    same_product x y z p q r e f g = rw (e, f, g) refl
 
 -- one number more
 pub one_more_at : (IsOf : ℕ → ℕ → Type 0) (k sum next : ℕ) → IsSumBelow IsOf k sum → IsOf k next → IsSumBelow IsOf (k + 1) (sum + next)

@@ -54,14 +54,6 @@ same_place old new i j k same place = record {
   intruder = omega (arith, place.intruder, same.intruder_rates);
 }
 
-pub same_blocks : (old new : BlockAuditData) (b : Block) → HaveSameCells old new → IsBlockIn old b → IsBlockIn new b
-same_blocks old new b same block = record {
-  some = block.some;
-  i = omega (arith, block.i, same.altitudes);
-  j = omega (arith, block.j, same.own_rates);
-  k = omega (arith, block.k, same.intruder_rates);
-}
-
 pub place_within : (a : BlockAuditData) (i j k : ℕ) → IsPlace a i j k → place_of a i j k < cell_count a
 place_within a i j k place =
     let row : i * a.own_rates + j < a.own_rates * a.altitudes = mul-add-lt i a.own_rates j a.altitudes place.altitude place.own in

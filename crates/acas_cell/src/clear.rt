@@ -6,8 +6,7 @@ use crate::areas::area_of_block;
 use crate::block::Block;
 use crate::decisions::Decisions;
 use acas_base::Model;
-use acas_region::window_of_cell;
-use acas_witness::contact_in;
+use acas_region::{is_clear, window_of_cell};
 
 /// Whether no cell of a block, of n seconds, is endangered under an advice: no flight from one of them that meets the advisory ends
 /// in contact. It counts one decision.
@@ -23,8 +22,5 @@ pub fn block_clear(model: &Model, n: u32, advice: u8, block: &Block, count: &mut
     count.add_one();
     let area = area_of_block(model, block);
     let window = window_of_cell(model, n);
-    match contact_in(model, &area, &window, advice) {
-        None => true,
-        Some(_) => false,
-    }
+    is_clear(model, &area, &window, advice)
 }

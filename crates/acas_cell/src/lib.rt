@@ -29,4 +29,4 @@ pub use laws::{
 pub use name::CellName;
 pub use ruling::Ruling;
 pub use set::AdviceSet;
-pub use verdicts::{box_verdict, verdict};
+pub use verdicts::{box_verdict, verdict, witness_of};

@@ -14,3 +14,4 @@ pub mod Touching
 pub mod Somes
 pub mod Ends
 pub mod Ones
+pub mod Founds

@@ -2,7 +2,7 @@
 ghost use Rattle.std.specs.Prelude.{◌≡◌, ℕ, ◌*◌, ◌≤◌, pos, ◌*ℤ◌, List, ◌++◌};
 ghost use Rattle.acas_flight.specs.Response.{Segment};
 ghost use Rattle.acas_flight.specs.Window.{Times};
-ghost use Rattle.acas_flight.specs.Clear.{EndsInVerticalContact};
+ghost use Rattle.acas_flight.specs.Clear.{EndsInVerticalContact, IsEndangeredDuring};
 ghost use Rattle.acas_passes.specs.declared.steps.TheConstants.{TIME_STEPS, PULL_STEPS, RATE_STEPS};
 ghost use Rattle.acas_passes.specs.Value.{thinnest};
 ghost use Rattle.acas_passes.specs.Flights.{Flight};
@@ -51,4 +51,12 @@ pub fn found_flights_end_in_contact()
 /// A search finds one flight: the rule leaves no choice.
 pub fn found_flights_are_one()
     ensures { (half : ℕ) (s : Search) (c d : Flight) → IsFound half s c → IsFound half s d → c ≡ d }
+{}
+
+/// A search that can meet finds a flight, and each flight has a response. So the area of such a search is endangered.
+pub fn searches_find_a_flight()
+    ensures found { (half : ℕ) (s : Search) → IsSearch s → CanMeet half s → (c : Flight) × IsFound half s c }
+    ensures response { (q : ℕ) (c : Flight) → (hold : List Segment) × (rest : List Segment) × IsResponse q c hold rest }
+    ensures danger { (half : ℕ) (s : Search) (w : Times) → thinnest ≤ 2 * half → IsSearch s → IsTimed s w → CanMeet half s →
+        IsEndangeredDuring half s.demand s.area w }
 {}

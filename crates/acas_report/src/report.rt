@@ -49,7 +49,7 @@ pub fn write_report<S: Sink>(
 
 /// Writes the same report, in which whole blocks of cells are decided first, and answers its counts. It takes all its memory before
 /// the first byte goes out: besides that of [`write_report`], four bytes for each cell of one n and present advisory. It counts the
-/// decisions of blocks: with Ok their whole number.
+/// decisions of blocks: with Ok their whole number, and none for want of memory.
 pub fn write_blocks<S: Sink>(
     alloc: Global,
     model: &Model,
@@ -67,6 +67,7 @@ pub fn write_blocks<S: Sink>(
         IsReportBegun model.now advices.now which (S.written sink.old) (S.written sink.new) }
     ensures memory { IsErrOf result ReportFault.Memory → S.written sink.new ≡ S.written sink.old }
     ensures frame { Emits S.Sink sink.old sink.new (IsErrOf result ReportFault.Sink) }
+    ensures unmoved { IsErrOf result ReportFault.Memory → count.new ≡ count.old }
     ensures decisions { IfOk result (λ counts. (number : ℕ)
         × AreAuditsDecisions model.now advices.now number × (count.new ≡ count.old + number)) }
     ensures rising { count.old ≤ count.new }
@@ -98,6 +99,7 @@ pub fn write_report_by<R: Rulings, S: Sink>(
         IsReportBegun model.now advices.now which (S.written sink.old) (S.written sink.new) }
     ensures memory { IsErrOf result ReportFault.Memory → S.written sink.new ≡ S.written sink.old }
     ensures frame { Emits S.Sink sink.old sink.new (IsErrOf result ReportFault.Sink) }
+    ensures unmoved { IsErrOf result ReportFault.Memory → count.new ≡ count.old }
     ensures decisions { IfOk result (λ counts. (number : ℕ)
         × ArePrepared R.takes model.now advices.now number × (count.new ≡ count.old + number)) }
     ensures rising { count.old ≤ count.new }

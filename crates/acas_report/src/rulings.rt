@@ -10,7 +10,7 @@ ghost use Rattle.acas_cell.specs.Rulings.{IsRulingOfCell};
 ghost use Rattle.acas_report.specs.Blocks.{IsReady};
 
 use acas_base::{Advices, Model};
-use acas_cell::{BlockAudit, CellName, Decisions, Ruling, verdict};
+use acas_cell::{BlockAudit, CellName, Decisions, Ruling, verdict, witness_of};
 
 /// A source of rulings.
 pub trait Rulings {
@@ -99,9 +99,12 @@ impl Rulings for BlockAudit {
         // Opens the grid: the advice is one of a set's.
         let _ = model.grid();
         if self.certified(name.i, name.j, name.k).has(name.advice) {
-            Ruling::Certified
-        } else {
-            verdict(model, name)
+            return Ruling::Certified;
         }
+        if self.reported(name.i, name.j, name.k).has(name.advice) {
+            return Ruling::Reported(witness_of(model, name));
+        }
+        // The advice is tabled at no corner of the cell, and was not decided.
+        verdict(model, name)
     }
 }

@@ -10,3 +10,5 @@ pub mod Assembly
 pub mod Contacts
 pub mod CellRanges
 pub mod BoxRanges
+pub mod Extremes
+pub mod Dangers
