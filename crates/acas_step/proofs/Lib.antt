@@ -8,8 +8,11 @@ pub mod SigmaSteps
 pub mod NumberedStates
 pub mod Written
 pub mod LayerMeans
+pub mod SharedMeans
+pub mod PlacedMeans
 pub mod Estimates
 pub mod StencilLaws
 pub mod RaisedLaws
 pub mod RaisedSums
 pub mod RaisedMeans
+pub mod UnitLaws

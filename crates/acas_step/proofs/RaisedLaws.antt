@@ -15,6 +15,10 @@ raised-pos by z h = omega (arith, ints)
 pub blended-le : (e : Ends) (near far most : ℕ) → near ≤ most → far ≤ most → blended e near far ≤ most * width e
 blended-le e near far most p q = omega (arith, mul-le-mul_right e.lower p, mul-le-mul_right e.upper q)
 
+-- a number of no weight does not count
+pub blended-alone : (e : Ends) (near far : ℕ) → e.upper ≡ 0 → near * e.lower ≡ blended e near far
+blended-alone e near far none = omega (arith, ap (λ (n : ℕ). far * n) none)
+
 -- a blend of raised numbers is raised by the gap times as much
 pub blended-raised : (e : Ends) (near far by : ℕ) (y z : ℤ) → pos near ≡ y +ℤ pos by → pos far ≡ z +ℤ pos by →
     pos (blended e near far) ≡ (pos e.lower *ℤ y +ℤ pos e.upper *ℤ z) +ℤ pos (by * width e)

@@ -7,7 +7,9 @@ pub mod Entries
 pub mod Means
 pub mod Choices
 pub mod Values
-pub mod Stencils
 pub mod Divisor
+pub mod Units
+pub mod Stencils
+pub mod Reach
 pub mod Raised
 pub mod Narrow

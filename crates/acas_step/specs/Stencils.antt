@@ -1,19 +1,17 @@
 -- Where the sigma points lead from each vertex under each advisory, and what is found of a layer before its means are formed.
-use Rattle.std.specs.Prelude.{◌≡◌, ℕ, ◌+◌, ◌*◌, ◌^◌, ◌/◌, ◌%◌, ◌<◌, ℤ, List, length, get_or, if◌then◌else◌, nat_eq}
+use Rattle.std.specs.Prelude.{◌≡◌, ℕ, ◌*◌, ◌/◌, ◌%◌, ◌<◌, ℤ, List, length, get_or, if◌then◌else◌, nat_eq}
 use Rattle.acas_spec.specs.Axis.{place_value}
-use Rattle.acas_spec.specs.Model.{GridData, ModelData, states, vertices}
+use Rattle.acas_spec.specs.Model.{GridData, ModelData, states, total_weight, vertices}
 use Rattle.acas_spec.specs.declared.place.Point.{Point}
 use Rattle.acas_grid.specs.Axis.{IsCell}
 use Rattle.acas_grid.specs.States.{state_present, state_vertex, vertex_at}
-use Rattle.acas_units.specs.declared.pair.Pair.{Pair}
 use Rattle.acas_process.specs.Axis.{distance}
 use Rattle.acas_process.specs.Step.{moved}
-use Rattle.acas_step.specs.Layer.{AreWithin}
-use Rattle.acas_step.specs.declared.layer.Side.TheVariants.{Upper, Lower}
-use Rattle.acas_step.specs.declared.reach.Reach.{Reach}
+use Rattle.acas_step.specs.Divisor.{IsDivisor}
+use Rattle.acas_step.specs.Units.{AreUnits, AreVertexCells}
 use Rattle.acas_step.specs.declared.stencils.Stencil.{Stencil}
 use Rattle.acas_step.specs.declared.stencils.Stencils.{Stencils}
-use Rattle.acas_step.specs.declared.stencils.Units.{Units}
+use Rattle.acas_step.specs.declared.units.Units.{Units}
 
 -- a number is in the cell that begins at a place of an axis, so many units above that place
 pub record IsAbove (axis : List ℤ) (unit : ℕ) (x : ℤ) (place offset : ℕ) : Type 0 where
@@ -41,18 +39,16 @@ pub record AreStencils (m : ModelData) (units : Units) (count : ℕ) (stencils :
 abbrev pub stencil_count : ModelData → ℕ
 stencil_count m = if nat_eq m.grid.horizon 0 then 0 else states m.grid * length m.sigmas
 
--- stencils are those of a model
+-- stencils are those of a model, in units, with the cells above the vertices and the whole weight of the sigma points
 pub record AreStencilsOf (m : ModelData) (s : Stencils) : Type 0 where
   pub count : length s.stencils.items ≡ stencil_count m
   pub stencils : AreStencils m s.units (stencil_count m) s.stencils.items
+  pub units : AreUnits s.units
+  pub cells : AreVertexCells m.grid s.units s.cells.items
+  pub total : IsDivisor s.total
+  pub by : s.total.by ≡ total_weight m
 
 -- stencils are those of a model, and there is a second to go
 pub record AreUsable (m : ModelData) (s : Stencils) : Type 0 where
   pub stencils : AreStencilsOf m s
   pub horizon : 0 < m.grid.horizon
-
--- no value of a layer is larger than its reach says, and raised values have 64 bits where the whole weight is at most the widest
-pub record IsReach (s : Stencils) (below : List Pair) (r : Reach) : Type 0 where
-  pub upper : AreWithin r.size Upper below
-  pub lower : AreWithin r.size Lower below
-  pub room : r.widest * (2 * r.size + 1) < 2 ^ 63

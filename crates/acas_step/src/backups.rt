@@ -1,6 +1,7 @@
 //! The value of a choice, and how many upper ones were formed. One such value is a backup of dynamic programming, as in ATC-371
 //! (Kochenderfer and Chryssanthacopoulos, MIT Lincoln Laboratory, 2011).
 ghost use Rattle.std.specs.Prelude.{◌≡◌, ℕ, ◌+◌, ◌*◌, ◌<◌, ◌≤◌, ◌^◌, ◌+ℤ◌, length, unsigned_abs};
+ghost use Rattle.acas_spec.specs.Axis.{IsBetween};
 ghost use Rattle.acas_spec.specs.Model.{states, vertices};
 ghost use Rattle.acas_grid.specs.States as numbers;
 ghost use Rattle.acas_process.specs.Bounds.{millionths};
@@ -15,7 +16,7 @@ use crate::values::{mean, mean_with};
 use acas_base::Model;
 use acas_frac::Rounding;
 use acas_spec::Choice;
-use acas_units::Pair;
+use acas_units::{GREATEST_COST, LEAST_COST, Pair};
 
 /// Counts the backups of upper values. It starts at 0, contracts see it as its count, and only the call that forms the upper value
 /// of a choice raises it.
@@ -67,6 +68,25 @@ pub fn value_of_choice(mean: i64, choice: &Choice, side: Side, count: &mut Backu
         count.add_one();
     }
     with_cost(mean, choice.cost)
+}
+
+/// Both values of a choice by the means under its advisory, in millionths, where they have 64 bits: those of `value_of_choice`. It
+/// counts one backup, for the upper side.
+pub fn values_of_choice(means: Pair, choice: &Choice, count: &mut Backups) -> Pair
+    requires upper { unsigned_abs means.upper ≤ 2 ^ 62 }
+    requires lower { unsigned_abs means.lower ≤ 2 ^ 62 }
+    requires cost { IsBetween LEAST_COST GREATEST_COST choice.now.cost }
+    requires count { count.old + 1 < 2 ^ 64 }
+    ensures upper { result.upper ≡ means.upper +ℤ millionths choice.now.cost }
+    ensures lower { result.lower ≡ means.lower +ℤ millionths choice.now.cost }
+    ensures count { count.new ≡ count.old + 1 }
+{
+    count.add_one();
+    let cost = 1_000_000 * choice.cost;
+    Pair {
+        upper: means.upper + cost,
+        lower: means.lower + cost,
+    }
 }
 
 /// The value of a choice at a vertex by the layer below, in millionths, whose pairs stand in the order of the states' numbers.

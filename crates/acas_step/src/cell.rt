@@ -93,7 +93,7 @@ fn weight_on(ends: Ends, end: End) -> u64
     }
 }
 
-fn product(h: u64, v0: u64, v1: u64) -> u64
+pub(crate) fn product(h: u64, v0: u64, v1: u64) -> u64
     requires h { h ≤ altitude_gap }
     requires v0 { v0 ≤ rate_gap }
     requires v1 { v1 ≤ rate_gap }
@@ -125,7 +125,7 @@ fn corner_at(grid: &Grid, cell: &Cell, h: End, v0: End, v1: End) -> Corner
 }
 
 // What the weights of the corners sum to: the product of the gaps.
-pub(crate) fn weight_of(cell: &Cell) -> u64
+fn weight_of(cell: &Cell) -> u64
     requires h { cell.now.h.lower + cell.now.h.upper ≤ altitude_gap }
     requires v0 { cell.now.v0.lower + cell.now.v0.upper ≤ rate_gap }
     requires v1 { cell.now.v1.lower + cell.now.v1.upper ≤ rate_gap }

@@ -25,8 +25,19 @@ pub fn choice_at(model: &Model, present: u8, place: usize) -> Choice
     ensures value { result ≡ listed_choice model.now present place }
     ensures known { IsKnownChoice model.now present result }
 {
+    choice_among(model, present, model.choices(present), place)
+}
+
+/// The choice at a place of a present advisory's list, where the list is at hand.
+pub fn choice_among(model: &Model, present: u8, choices: &[Choice], place: usize) -> Choice
+    requires present { present < model.now.grid.advisories }
+    requires choices { choices.now ≡ choices_at model.now present }
+    requires place { place < length (choices_at model.now present) }
+    ensures value { result ≡ listed_choice model.now present place }
+    ensures known { IsKnownChoice model.now present result }
+{
     let _ = model.grid();
-    model.choices(present)[place]
+    choices[place]
 }
 
 /// The value of a choice by its mean: the cost is in units, the rest in millionths.

@@ -14,13 +14,16 @@ mod narrow_means;
 mod raised;
 mod reach;
 mod second;
+mod sharing;
 mod stencil_means;
 mod stencils;
+mod units;
 mod values;
+mod vertex_cells;
 
-pub use backups::{Backups, backup, backup_with, value_of_choice};
+pub use backups::{Backups, backup, backup_with, value_of_choice, values_of_choice};
 pub use cell::{Corner, CornerSet, corners};
-pub use choices::{choice_at, choice_count, with_cost};
+pub use choices::{choice_among, choice_at, choice_count, with_cost};
 pub use ending::terminal;
 pub use laws::choices_have_their_values;
 pub use layer::Side;

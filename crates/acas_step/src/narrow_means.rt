@@ -6,20 +6,21 @@ ghost use Rattle.acas_spec.specs.Model.{states, total_weight, vertices};
 ghost use Rattle.acas_grid.specs.States as numbers;
 ghost use Rattle.acas_process.specs.Step as process;
 ghost use Rattle.acas_step.specs.Divisor.{IsDivisor};
-ghost use Rattle.acas_step.specs.Ends.{FitsGrid, weight_of_cell};
+ghost use Rattle.acas_step.specs.Ends.{weight_of_cell};
 ghost use Rattle.acas_step.specs.Layer.{AreWithin};
 ghost use Rattle.acas_step.specs.Means.{AreMeansAt};
 ghost use Rattle.acas_step.specs.Narrow.{AreRaisedSums, AreRaisedWithin, IsRaisedPoint, sum_over};
-ghost use Rattle.acas_step.specs.Stencils.{AreStencilsOf, IsReach};
+ghost use Rattle.acas_step.specs.Reach.{IsReach};
+ghost use Rattle.acas_step.specs.Stencils.{AreStencilsOf};
+ghost use Rattle.acas_step.specs.Units.{IsKnownCell};
 ghost use Rattle.acas_step.specs.declared.layer.Side.TheVariants.{Upper, Lower};
 
-use crate::cell::{Cell, weight_of};
 use crate::divisor::Divisor;
 use crate::layer::Side;
 use crate::raised::raised_sum;
 use crate::reach::Reach;
-use crate::stencils::Stencils;
-use crate::values::{first_state, sigma_count, total_weight};
+use crate::stencils::{Stencils, UnitCell};
+use crate::values::{first_state, sigma_count};
 use acas_base::Model;
 use acas_grid::Grid;
 use acas_units::Pair;
@@ -53,27 +54,26 @@ fn quotient_down(sum: u64, divisor: Divisor) -> u64
 }
 
 // Both sides of a layer at the point of a cell, where the states of an advisory begin at `first`.
-fn raised_point(grid: &Grid, cell: &Cell, first: usize, reach: Reach, below: &[Pair]) -> Raised
-    requires fits { FitsGrid grid.now cell.now }
+fn raised_point(grid: &Grid, at: &UnitCell, first: usize, reach: Reach, below: &[Pair]) -> Raised
+    requires known { IsKnownCell grid.now at.now }
     requires first { first + vertices grid.now ≤ length below.now }
     requires upper { AreWithin reach.size Upper below.now }
     requires lower { AreWithin reach.size Lower below.now }
-    requires some { 0 < weight_of_cell cell.now }
-    requires room { weight_of_cell cell.now * (2 * reach.size + 1) < 2 ^ 63 }
+    requires room { weight_of_cell at.now.cell * (2 * reach.size + 1) < 2 ^ 63 }
     ensures upper { pos result.upper
-        ≡ up (sum_over grid.now cell.now first Upper below.now) (pos (weight_of_cell cell.now))
+        ≡ up (sum_over grid.now at.now.cell first Upper below.now) (pos (weight_of_cell at.now.cell))
         +ℤ pos reach.size }
     ensures lower { pos result.lower
-        ≡ down (sum_over grid.now cell.now first Lower below.now) (pos (weight_of_cell cell.now))
+        ≡ down (sum_over grid.now at.now.cell first Lower below.now) (pos (weight_of_cell at.now.cell))
         +ℤ pos reach.size }
     ensures within { AreRaisedWithin (2 * reach.size) result }
 {
-    let divisor = Divisor::new(weight_of(cell));
-    let upper = raised_sum(grid, cell, first, Side::Upper, reach.size, below);
-    let lower = raised_sum(grid, cell, first, Side::Lower, reach.size, below);
+    let cell = &at.cell;
+    let upper = raised_sum(grid, cell, at.base, first, Side::Upper, reach.size, below);
+    let lower = raised_sum(grid, cell, at.base, first, Side::Lower, reach.size, below);
     Raised {
-        upper: quotient_up(upper, divisor),
-        lower: quotient_down(lower, divisor),
+        upper: quotient_up(upper, at.divisor),
+        lower: quotient_down(lower, at.divisor),
     }
 }
 
@@ -89,7 +89,7 @@ fn point_led_to(
 ) -> Option<Raised>
     requires stencils { AreStencilsOf model.now stencils.now }
     requires horizon { 0 < model.now.grid.horizon }
-    requires reach { IsReach stencils.now below.now reach }
+    requires reach { IsReach model.now.grid below.now reach }
     requires vertex { vertex < vertices model.now.grid }
     requires advisory { advisory < model.now.grid.advisories }
     requires sigma { sigma < length model.now.sigmas }
@@ -97,13 +97,13 @@ fn point_led_to(
     ensures { let x = numbers.vertex_at model.now.grid vertex in
         IfSome result (IsRaisedPoint model.now below.now reach.size advisory (process.moved model.now x advisory sigma)) }
 {
-    let cell = stencils.cell(model, vertex, advisory, sigma);
-    if weight_of(&cell) > reach.widest {
+    let at = stencils.unit_cell(model, vertex, advisory, sigma);
+    if at.divisor.by > reach.widest {
         return None;
     }
     let grid = model.grid();
     let first = first_state(grid, advisory);
-    Some(raised_point(grid, &cell, first, reach, below))
+    Some(raised_point(grid, &at, first, reach, below))
 }
 
 fn narrow_weight(model: &Model, sigma: u32) -> u64
@@ -147,7 +147,7 @@ fn raised_sums(
 ) -> Option<Raised>
     requires stencils { AreStencilsOf model.now stencils.now }
     requires horizon { 0 < model.now.grid.horizon }
-    requires reach { IsReach stencils.now below.now reach }
+    requires reach { IsReach model.now.grid below.now reach }
     requires vertex { vertex < vertices model.now.grid }
     requires advisory { advisory < model.now.grid.advisories }
     requires below { length below.now ≡ states model.now.grid }
@@ -175,21 +175,20 @@ pub(crate) fn narrow_means(
 ) -> Option<Pair>
     requires stencils { AreStencilsOf model.now stencils.now }
     requires horizon { 0 < model.now.grid.horizon }
-    requires reach { IsReach stencils.now below.now reach }
+    requires reach { IsReach model.now.grid below.now reach }
     requires vertex { vertex < vertices model.now.grid }
     requires advisory { advisory < model.now.grid.advisories }
     requires below { length below.now ≡ states model.now.grid }
     ensures { let x = numbers.vertex_at model.now.grid vertex in
         IfSome result (AreMeansAt model.now below.now x advisory) }
 {
-    let total = total_weight(model) as u64;
-    if total > reach.widest {
+    let total = stencils.total;
+    if total.by > reach.widest {
         return None;
     }
     let sums = raised_sums(model, stencils, reach, vertex, advisory, below)?;
-    let divisor = Divisor::new(total);
     Some(Pair {
-        upper: lowered(quotient_up(sums.upper, divisor), reach.size),
-        lower: lowered(quotient_down(sums.lower, divisor), reach.size),
+        upper: lowered(quotient_up(sums.upper, total), reach.size),
+        lower: lowered(quotient_down(sums.lower, total), reach.size),
     })
 }

@@ -1,10 +1,12 @@
-//! How large the values of a layer are.
-ghost use Rattle.std.specs.Prelude.{◌+◌, ◌*◌, ◌^◌, ◌<◌, ◌≤◌, unsigned_abs};
-ghost use Rattle.acas_step.specs.Layer.{value_of};
-ghost use Rattle.acas_step.specs.Stencils.{IsReach};
+//! How large the values of a layer are, and under which advisories they are the same.
+ghost use Rattle.std.specs.Prelude.{◌≡◌, ◌+◌, ◌*◌, ◌^◌, ◌<◌, ◌≤◌, length, unsigned_abs};
+ghost use Rattle.acas_spec.specs.Model.{states};
+ghost use Rattle.acas_step.specs.Layer.{AreWithin, value_of};
+ghost use Rattle.acas_step.specs.Reach.{IsReach};
 ghost use Rattle.acas_step.specs.declared.layer.Side.{Side};
 
-use crate::stencils::Stencils;
+use crate::sharing::{Likes, likes_of};
+use acas_base::Model;
 use acas_units::Pair;
 
 /// What is found of a layer before its means are formed.
@@ -15,6 +17,9 @@ pub struct Reach {
 
     // Sums of values by weights that are this in all, or less, have 64 bits.
     pub(crate) widest: u64,
+
+    // For each advisory the first one under which the layer has the same pairs.
+    pub(crate) likes: Likes,
 }
 
 // The larger of a size and those of a pair's values.
@@ -36,17 +41,26 @@ fn widest_of(size: u64) -> u64
     ((1 << 63) - 1) / (2 * size + 1)
 }
 
-/// The reach of a layer, found by one look at each of its values.
-pub fn reach_of(stencils: &Stencils, below: &[Pair]) -> Reach
-    ensures { IsReach stencils.now below.now result }
+// The size of the largest value of a layer.
+fn size_of(below: &[Pair]) -> u64
+    ensures { (side : Side) → AreWithin result side below.now }
 {
-    let _ = stencils;
     let mut size = 0;
     for pair in below {
         size = size_with(size, *pair);
     }
+    size
+}
+
+/// The reach of a layer, found by one look at each of its values, and by comparing advisories as far as their pairs are the same.
+pub fn reach_of(model: &Model, below: &[Pair]) -> Reach
+    requires { length below.now ≡ states model.now.grid }
+    ensures { IsReach model.now.grid below.now result }
+{
+    let size = size_of(below);
     Reach {
         size,
         widest: widest_of(size),
+        likes: likes_of(model, below),
     }
 }

@@ -5,6 +5,7 @@ ghost use Rattle.acas_spec.specs.Model.{advisory_at, sigma_at, vertices};
 ghost use Rattle.acas_grid.specs.Grid.{IsInside, IsVertex};
 ghost use Rattle.acas_process.specs.Step as process;
 ghost use Rattle.acas_grid.specs.States as numbers;
+ghost use Rattle.acas_step.specs.Reach.{change_from, own_rate};
 ghost use Rattle.acas_step.specs.Second.{IsAltitude, IsAxisPoint, IsNoise, IsOwnChange, IsPull, IsRate, IsRateChange};
 
 use acas_base::Model;
@@ -104,6 +105,24 @@ fn own_change(model: &Model, advisory: u8, v: i64, noise: i64) -> i64
     let pull = model.pull();
     let asked = model.advisory(advisory);
     command(asked.lo, asked.hi, pull, v) + noise
+}
+
+// The own rate at a vertex.
+pub(crate) fn own_rate_at(model: &Model, vertex: u32) -> i64
+    requires { vertex < vertices model.now.grid }
+    ensures value { result ≡ own_rate model.now.grid (numbers.vertex_at model.now.grid vertex) }
+    ensures rate { IsRate result }
+{
+    vertex_point(model, vertex_at(model.grid(), vertex)).v0
+}
+
+// How much the pilot changes an own rate within a second under an advisory.
+pub(crate) fn pilot_change(model: &Model, advisory: u8, v: i64) -> i64
+    requires advisory { advisory < model.now.grid.advisories }
+    requires rate { IsRate v }
+    ensures { result ≡ change_from model.now v advisory }
+{
+    own_change(model, advisory, v, 0)
 }
 
 // Where a sigma point takes a vertex within a second under an advisory.

@@ -1,18 +1,23 @@
 //! Where the sigma points lead from each vertex under each advisory, found once for all layers.
-ghost use Rattle.std.specs.Prelude.{◌≡◌, ◌+◌, ◌*◌, ◌<◌, ◌≤◌, ℤ, length, IfOk};
+ghost use Rattle.std.specs.Prelude.{◌≡◌, ℕ, ◌+◌, ◌*◌, ◌<◌, ◌≤◌, ℤ, length, get_or, IfOk};
 ghost use Rattle.acas_spec.specs.Limits.{IsGrid, IsModel};
 ghost use Rattle.acas_spec.specs.Model.{states, vertices};
 ghost use Rattle.acas_spec.specs.declared.place.Point.{Point};
 ghost use Rattle.acas_grid.specs.Grid.{IsInside};
 ghost use Rattle.acas_grid.specs.States as numbers;
-ghost use Rattle.acas_process.specs.Axis.{gap};
 ghost use Rattle.acas_process.specs.Step as process;
 ghost use Rattle.acas_step.specs.Corners.{AreCorners, IsInterpolation, IsWeighting};
 ghost use Rattle.acas_step.specs.Ends.{FitsGrid, IsEnds, IsRound};
 ghost use Rattle.acas_step.specs.Stencils.{AreStencils, AreStencilsOf, IsAbove, IsStencil, point_of, stencil_count};
+ghost use Rattle.acas_step.specs.Units.{AreUnits, DivideGaps, DivideOffsets, DivideUnits, IsCountedIn, IsUnitCell, IsVertexCell};
+ghost use Rattle.acas_step.specs.declared.stencils.Stencil.{Stencil};
 
 use crate::cell::{Cell, CornerSet, Ends, cell_of, corner_set};
+use crate::divisor::Divisor;
 use crate::second::moved_from;
+use crate::units::{Units, common, gap_at, grid_units, in_unit};
+use crate::values::total_weight;
+use crate::vertex_cells::{VertexCell, vertex_cells};
 use acas_base::Model;
 use acas_grid::{Axis, Grid, Vertex, state_present, state_vertex, vertex_at};
 use acas_spec::Point;
@@ -28,19 +33,22 @@ pub(crate) struct Stencil {
     v1: u32,
 }
 
-/// A length on each axis, in ticks or ft/min, in which offsets are counted.
-#[derive(Clone, Copy, Debug)]
-pub(crate) struct Units {
-    h: u32,
-    v0: u32,
-    v1: u32,
+/// The cell of a stencil in units, the number of its lower corner, and its whole weight as a divisor.
+#[derive(Clone, Copy)]
+pub(crate) struct UnitCell {
+    pub(crate) cell: Cell,
+    pub(crate) base: u32,
+    pub(crate) divisor: Divisor,
 }
 
-/// The stencils of a model: for each advisory, vertex and sigma point the cell that a second leads to, and where in it.
+/// The stencils of a model: for each advisory, vertex and sigma point the cell that a second leads to, and where in it. With them
+/// stand the cell above each vertex and the whole weight of the sigma points.
 #[derive(Debug, Drop)]
 pub struct Stencils {
     stencils: Vec<Stencil>,
     units: Units,
+    cells: Vec<VertexCell>,
+    pub(crate) total: Divisor,
 }
 
 // The stencil of a cell that holds a point, in units of 1.
@@ -109,25 +117,87 @@ fn fill_stencils(model: &Model, count: u32, stencils: &mut [Stencil])
     }
 }
 
-// The gap from a place of an axis to the next.
-fn gap_at(axis: &Axis, place: u32) -> u64
-    requires { place + 1 < length axis.now }
-    ensures { result ≡ gap axis.now place }
+// Units that divide others and the offsets of a stencil.
+fn units_with(units: Units, stencil: Stencil) -> Units
+    requires { AreUnits units }
+    ensures some { AreUnits result }
+    ensures units { DivideUnits result units }
+    ensures offsets { DivideOffsets result stencil }
 {
-    let lower = axis.value(place);
-    axis.value(place + 1).abs_diff(lower)
+    Units {
+        h: common(u64::from(stencil.h), units.h),
+        v0: common(u64::from(stencil.v0), units.v0),
+        v1: common(u64::from(stencil.v1), units.v1),
+    }
+}
+
+// Units that divide the gaps of a grid and the offsets of stencils.
+fn units_of(grid: &Grid, stencils: &[Stencil]) -> Units
+    ensures some { AreUnits result }
+    ensures gaps { DivideGaps grid.now result }
+    ensures offsets { (n : ℕ) (d : Stencil) → n < length stencils.now
+        → DivideOffsets result (get_or stencils.now n d) }
+{
+    let mut units = grid_units(grid);
+    for stencil in stencils {
+        units = units_with(units, *stencil);
+    }
+    units
+}
+
+// A stencil whose offsets are counted in units.
+fn counted(stencil: Stencil, units: Units) -> Stencil
+    requires units { AreUnits units }
+    requires offsets { DivideOffsets units stencil }
+    ensures { IsCountedIn units stencil result }
+{
+    Stencil {
+        base: stencil.base,
+        h: in_unit(stencil.h, units.h),
+        v0: in_unit(stencil.v0, units.v0),
+        v1: in_unit(stencil.v1, units.v1),
+    }
+}
+
+// Counts the offsets of stencils in units that divide them.
+fn count_offsets(units: Units, stencils: &mut [Stencil])
+    requires units { AreUnits units }
+    requires offsets { (n : ℕ) (d : Stencil) → n < length stencils.old
+        → DivideOffsets units (get_or stencils.old n d) }
+    ensures count { length stencils.new ≡ length stencils.old }
+    ensures counted { (n : ℕ) (d : Stencil) → n < length stencils.old
+        → IsCountedIn units (get_or stencils.old n d) (get_or stencils.new n d) }
+{
+    for number in 0..stencils.len() {
+        stencils[number] = counted(stencils[number], units);
+    }
+}
+
+// Writes the stencils of a model in units of its own, and gives these.
+fn fill_in_units(model: &Model, count: u32, stencils: &mut [Stencil]) -> Units
+    requires count { count ≤ states model.now.grid * length model.now.sigmas }
+    requires stencils { length stencils.old ≡ count }
+    ensures count { length stencils.new ≡ count }
+    ensures stencils { AreStencils model.now result count stencils.new }
+    ensures some { AreUnits result }
+    ensures gaps { DivideGaps model.now.grid result }
+{
+    fill_stencils(model, count, stencils);
+    let units = units_of(model.grid(), stencils);
+    count_offsets(units, stencils);
+    units
 }
 
 // The ends of the cell that begins at a place of an axis, for a number that is so many units above that place.
-fn ends_above(axis: &Axis, unit: u32, place: u32, offset: u32) -> Ends
+fn ends_above(axis: &Axis, unit: u64, place: u32, offset: u32) -> Ends
     requires { (x : ℤ) × IsAbove axis.now unit x place offset }
     ensures { (x : ℤ) → IsAbove axis.now unit x place offset → IsEnds axis.now x result }
 {
-    let upper = u64::from(unit) * u64::from(offset);
-    let lower = gap_at(axis, place) - upper;
+    let gap = gap_at(axis, place);
+    let upper = unit * u64::from(offset);
     Ends {
         cell: place,
-        lower,
+        lower: gap - upper,
         upper,
     }
 }
@@ -147,8 +217,43 @@ fn cell_of_stencil(grid: &Grid, units: Units, stencil: Stencil) -> Cell
     }
 }
 
+// The ends of a cell on an axis in a unit, for a number that is so many units above the place where it begins.
+fn ends_in(place: u8, gap: u32, offset: u32) -> Ends
+    requires { offset ≤ gap }
+    ensures cell { result.cell ≡ place }
+    ensures lower { result.lower + offset ≡ gap }
+    ensures upper { result.upper ≡ offset }
+{
+    Ends {
+        cell: u32::from(place),
+        lower: u64::from(gap - offset),
+        upper: u64::from(offset),
+    }
+}
+
+// The cell of a stencil in units, by the cell above its lower corner.
+fn unit_cell_of(grid: &Grid, units: Units, above: VertexCell, stencil: Stencil) -> UnitCell
+    requires grid { IsGrid grid.now }
+    requires units { AreUnits units }
+    requires above { IsVertexCell grid.now units (numbers.vertex_at grid.now stencil.base) above }
+    requires stencil { (x : Point) × IsStencil grid.now units x stencil }
+    ensures { (x : Point) → IsStencil grid.now units x stencil → IsUnitCell grid.now units x result }
+{
+    let _ = grid.vertices();
+    UnitCell {
+        cell: Cell {
+            h: ends_in(above.i, above.h, stencil.h),
+            v0: ends_in(above.j, above.v0, stencil.v0),
+            v1: ends_in(above.k, above.v1, stencil.v1),
+        },
+        base: stencil.base,
+        divisor: above.divisor,
+    }
+}
+
 impl Stencils {
-    /// The stencils of a model. It takes 16 bytes for each, and at horizon 0 there are none. It fails only for want of memory.
+    /// The stencils of a model. It takes 16 bytes for each, and at horizon 0 there are none; and it takes 32 bytes for each vertex.
+    /// It fails only for want of memory.
     pub fn make(alloc: Global, model: &Model) -> Result<Stencils, AllocError>
         ensures { IfOk result (λ stencils. AreStencilsOf model.now stencils) }
     {
@@ -160,10 +265,13 @@ impl Stencils {
             v1: 0,
         };
         let mut stencils = vec![in alloc; none; count as usize]?;
-        fill_stencils(model, count, &mut stencils);
+        let units = fill_in_units(model, count, &mut stencils);
+        let cells = vertex_cells(alloc, model.grid(), units)?;
         Ok(Stencils {
             stencils,
-            units: Units { h: 1, v0: 1, v1: 1 },
+            units,
+            cells,
+            total: Divisor::new(total_weight(model) as u64),
         })
     }
 
@@ -195,6 +303,21 @@ impl Stencils {
         let grid = model.grid();
         let stencil = self.stencil(model, vertex, advisory, sigma);
         cell_of_stencil(grid, self.units, stencil)
+    }
+
+    // The same in units, with no division.
+    pub(crate) fn unit_cell(&self, model: &Model, vertex: u32, advisory: u8, sigma: u32) -> UnitCell
+        requires stencils { AreStencilsOf model.now self.now }
+        requires horizon { 0 < model.now.grid.horizon }
+        requires vertex { vertex < vertices model.now.grid }
+        requires advisory { advisory < model.now.grid.advisories }
+        requires sigma { sigma < length model.now.sigmas }
+        ensures { let x = numbers.vertex_at model.now.grid vertex in
+            IsUnitCell model.now.grid self.now.units (process.moved model.now x advisory sigma) result }
+    {
+        let stencil = self.stencil(model, vertex, advisory, sigma);
+        let above = self.cells[stencil.base as usize];
+        unit_cell_of(model.grid(), self.units, above, stencil)
     }
 
     /// The corners of the cell to which a sigma point leads from a vertex within a second under an advisory: those that `corners`

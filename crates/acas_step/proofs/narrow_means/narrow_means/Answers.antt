@@ -1,5 +1,4 @@
 use Rattle.std.proofs.Common.{◌+◌, ◌*◌, ◌^◌, ◌<◌, ◌≤◌, ℕ, mul-le-mul_right, arith}
-use Rattle.std.proofs.lemmas.Int.{ints}
 use Rattle.acas_step.proofs.narrow_means.narrow_means.Goals as goal
 
 -- a size has room where some weight has
@@ -8,10 +7,10 @@ size_fits widest size some room = omega (arith, mul-le-mul_right (2 * size + 1) 
 
 pub lowered-requires-clause-room : goal.lowered-requires-clause-room
 lowered-requires-clause-room c =
-    let some : 1 ≤ c.args.reach.widest = omega (arith, ints, c.if-total-reach.false, c.total_weight-total.ensures.value, c.total_weight-total.ensures.some) in
+    let some : 1 ≤ c.args.reach.widest = omega (arith, c.if-total-reach.false, c.requires.stencils.total.some) in
     size_fits c.args.reach.widest c.args.reach.size some c.requires.reach.room
 
 pub lowered-requires-2-clause-room : goal.lowered-requires-2-clause-room
 lowered-requires-2-clause-room c =
-    let some : 1 ≤ c.args.reach.widest = omega (arith, ints, c.if-total-reach.false, c.total_weight-total.ensures.value, c.total_weight-total.ensures.some) in
+    let some : 1 ≤ c.args.reach.widest = omega (arith, c.if-total-reach.false, c.requires.stencils.total.some) in
     size_fits c.args.reach.widest c.args.reach.size some c.requires.reach.room

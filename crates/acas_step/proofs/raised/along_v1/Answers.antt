@@ -7,3 +7,8 @@ pub returns-clause-within : goal.returns-clause-within
 returns-clause-within c =
     subst (λ n. n ≤ 2 * c.args.by * width c.args.cell.now.v1) (sym c.blend.ensures)
     (blended-le c.args.cell.now.v1 c.raised-near.result c.raised-far.result (2 * c.args.by) c.raised-near.ensures.within c.raised-far.ensures.within)
+
+pub returns-then-cell-eq0-clause-within : goal.returns-then-cell-eq0-clause-within
+returns-then-cell-eq0-clause-within c =
+    subst (λ n. n ≤ 2 * c.args.by * width c.args.cell.now.v1) (sym (c.near_alone.ensures c.raised-near.result))
+    (blended-le c.args.cell.now.v1 c.raised-near.result c.raised-near.result (2 * c.args.by) c.raised-near.ensures.within c.raised-near.ensures.within)
