@@ -1,22 +1,15 @@
 -- The best of the choices from a place on, for a loop that goes down.
 use Rattle.std.specs.Int.{int_min}
-use Rattle.std.proofs.Common.{◌≡◌, ℕ, suc, ◌+◌, ◌<◌, List, length, get_or, drop, cond, int_le, subst, sym, ◌∙◌}
+use Rattle.std.proofs.Common.{◌≡◌, ℕ, suc, ◌<◌, List, length, get_or, drop, cond, int_le, subst, sym, ◌∙◌}
 use Rattle.acas_spec.specs.Model.{ModelData}
 use Rattle.acas_spec.specs.declared.parts.Choice.{Choice}
 use Rattle.acas_units.specs.declared.pair.Entry.{Entry}
 use Rattle.acas_units.specs.declared.pair.Pair.{Pair}
-use Rattle.acas_process.proofs.Least.{best_of_last, first_least-drop, least-drop}
+use Rattle.acas_process.proofs.Least.{first_least-drop, least-drop}
 use Rattle.acas_step.specs.Choices.{no_choice, value_by_mean}
 use Rattle.acas_step.specs.Layer.{value_at}
 use Rattle.acas_step.specs.declared.layer.Side.TheVariants.{Upper, Lower}
 use Rattle.acas_sweep.specs.Best.{IsBest, IsValued}
-
--- the last choice is the best from its place on
-pub best_last : (m : ModelData) (means : List Pair) (p : ℕ) (cs : List Choice) (i : ℕ) (e : Entry) → i + 1 ≡ length cs → IsValued m means p (get_or cs i no_choice) e → IsBest m means p (drop i cs) e
-best_last m means p cs i e last v =
-    let up = best_of_last (value_by_mean m p (value_at Upper means)) cs i no_choice last in
-    let low = best_of_last (value_by_mean m p (value_at Lower means)) cs i no_choice last in
-    record { upper = v.upper ∙ up.least; lower = v.lower ∙ low.least; advice = v.advice ∙ up.first }
 
 -- the best of a choice and of those after it
 pub record IsBetter (choice later e : Entry) : Type 0 where

@@ -1,7 +1,6 @@
 -- A plane that is written vertex by vertex, and at a vertex present advisory by present advisory.
 use Rattle.std.proofs.Common.{◌≡◌, ◌≢◌, ℕ, ◌+◌, ◌<◌, ◌≤◌, inl, inr, ⊎_elim, List, [], ◌∷◌, length, map, set, replicate, refl, ap, sym, subst, ◌∙◌, arith}
 use Rattle.std.specs.Prelude.{Option, Some, None, unwrap_or}
-use Rattle.std.proofs.Math.Nat.{mul_comm}
 use Rattle.std.proofs.lemmas.List.{get_or-replicate, length-map, length-replicate, length-set, map-set}
 use Rattle.std.proofs.lemmas.Nat.{same_from_place}
 use Rattle.std.proofs.lemmas.Option.{slice_get-get_or}
@@ -63,18 +62,3 @@ filled_next g v p plane x inside known so_far = record {
     apart w q wi ahead same =
         let parts = same_from_place q w p v (vertices g) wi inside same in
         ⊎_elim (λ (l : v < w). absurd (omega (arith, parts.1))) (λ (h : (w ≡ v) × (p + 1 ≤ q)). absurd (omega (arith, parts.0, h.1))) ahead
-
-pub filled_vertex : (g : GridData) (v : ℕ) (plane : Plane) → IsFilledTo g v g.advisories plane → IsFilledTo g (v + 1) 0 plane
-filled_vertex g v plane so_far = record {
-  state_count = so_far.state_count;
-  place_count = so_far.place_count;
-  missing = omega (arith, so_far.missing);
-  free = λ w q wi qi ahead. so_far.free w q wi qi (inl (later w q ahead));
-}
-  where
-    later : (w q : ℕ) → IsAhead (v + 1) 0 w q → v < w
-    later w q ahead = ⊎_elim (λ (l : v + 1 < w). omega arith) (λ (h : (w ≡ v + 1) × (0 ≤ q)). omega (arith, h.0)) ahead
-
--- nothing is missing at the end
-pub filled_all : (g : GridData) (plane : Plane) → IsFilledTo g (vertices g) 0 plane → missing_in plane.work ≡ 0
-filled_all g plane so_far = omega (arith, so_far.missing, mul_comm (vertices g) g.advisories)

@@ -1,45 +1,27 @@
 //! The best of the choices under a present advisory.
-ghost use Rattle.std.specs.Prelude.{◌≡◌, ◌+◌, ◌<◌, ◌≤◌, ◌^◌, ◌+ℤ◌, length, unsigned_abs, if◌then◌else◌, int_le};
+ghost use Rattle.std.specs.Prelude.{◌≡◌, ◌+◌, ◌<◌, ◌^◌, length, if◌then◌else◌, int_le};
 ghost use Rattle.std.specs.Int.{int_min};
-ghost use Rattle.acas_spec.specs.Axis.{IsBetween};
 ghost use Rattle.acas_spec.specs.Model.{choices_at};
-ghost use Rattle.acas_process.specs.Bounds.{millionths};
 ghost use Rattle.acas_step.specs.Choices.{listed_choice};
 ghost use Rattle.acas_sweep.specs.Best.{IsBest, IsValued};
-ghost use Rattle.acas_sweep.specs.Entries.{AreSmall, greatest_value};
+ghost use Rattle.acas_sweep.specs.Entries.{AreSmall};
 
 use acas_base::Model;
 use acas_spec::Choice;
-use acas_step::{Backups, Side, VertexMeans, choice_at, choice_count, value_of_choice};
-use acas_units::{Entry, GREATEST_COST, LEAST_COST, Pair};
-
-// Both values of a choice, by the means under its advisory. It counts one backup.
-fn pair_of_choice(means: Pair, choice: &Choice, count: &mut Backups) -> Pair
-    requires upper { unsigned_abs means.upper ≤ greatest_value }
-    requires lower { unsigned_abs means.lower ≤ greatest_value }
-    requires cost { IsBetween LEAST_COST GREATEST_COST choice.now.cost }
-    requires count { count.old + 1 < 2 ^ 64 }
-    ensures upper { result.upper ≡ means.upper +ℤ millionths choice.now.cost }
-    ensures lower { result.lower ≡ means.lower +ℤ millionths choice.now.cost }
-    ensures count { count.new ≡ count.old + 1 }
-{
-    let upper = value_of_choice(means.upper, choice, Side::Upper, count);
-    let lower = value_of_choice(means.lower, choice, Side::Lower, count);
-    Pair {
-        upper: upper as i64,
-        lower: lower as i64,
-    }
-}
+use acas_step::{Backups, VertexMeans, choice_among, values_of_choice};
+use acas_units::{Entry, Pair};
 
 // Both values of the choice at a place, by the means at a vertex, and its advisory. It counts one backup.
 fn valued_choice(
     model: &Model,
     present: u8,
+    choices: &[Choice],
     place: usize,
     vertex_means: &VertexMeans,
     count: &mut Backups,
 ) -> Entry
     requires present { present < model.now.grid.advisories }
+    requires choices { choices.now ≡ choices_at model.now present }
     requires place { place < length (choices_at model.now present) }
     requires means { AreSmall vertex_means.now }
     requires count { count.old + 1 < 2 ^ 64 }
@@ -49,10 +31,10 @@ fn valued_choice(
 {
     // A model within its limits has no more advisories than there are means.
     let _ = model.grid();
-    let choice = choice_at(model, present, place);
+    let choice = choice_among(model, present, choices, place);
     let means = vertex_means[usize::from(choice.advisory)];
     Entry {
-        pair: pair_of_choice(means, &choice, count),
+        pair: values_of_choice(means, &choice, count),
         advice: choice.advisory,
     }
 }
@@ -91,11 +73,14 @@ pub(crate) fn best_choice(
     ensures best { IsBest model.now vertex_means.now present (choices_at model.now present) result }
     ensures count { count.new ≡ count.old + length (choices_at model.now present) }
 {
-    let mut place = choice_count(model, present) - 1;
-    let mut best = valued_choice(model, present, place, vertex_means, count);
+    // A model within its limits has a choice under each present advisory.
+    let _ = model.grid();
+    let choices = model.choices(present);
+    let mut place = choices.len() - 1;
+    let mut best = valued_choice(model, present, choices, place, vertex_means, count);
     while place > 0 {
         place -= 1;
-        let choice = valued_choice(model, present, place, vertex_means, count);
+        let choice = valued_choice(model, present, choices, place, vertex_means, count);
         best = better(choice, best);
     }
     best

@@ -59,7 +59,7 @@ pub(crate) fn fill_over(
     ensures over { AreOver model.now below.now (vertices model.now.grid) pairs.new advice.new }
     ensures count { count.new ≡ count.old + layer_backups model.now }
 {
-    let reach = reach_of(stencils, below);
+    let reach = reach_of(model, below);
     for vertex in 0..model.grid().vertices() {
         let vertex_means = means_with(model, stencils, reach, vertex, below);
         fill_vertex(model, vertex, &vertex_means, pairs, advice, count);

@@ -94,7 +94,7 @@ pub(crate) fn put_over(
     ensures filled { IsFilledTo model.now.grid (vertices model.now.grid) 0 block.new }
     ensures count { count.new ≡ count.old + layer_backups model.now }
 {
-    let reach = reach_of(stencils, block.finished());
+    let reach = reach_of(model, block.finished());
     for vertex in 0..model.grid().vertices() {
         let vertex_means = means_with(model, stencils, reach, vertex, block.finished());
         put_vertex(model, vertex, &vertex_means, block, advice, count);

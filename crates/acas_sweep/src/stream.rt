@@ -77,6 +77,8 @@ pub fn sweep<S: LayerSink>(
     ensures faults { S.faults rows.old ≤ S.faults rows.new }
     ensures backups { OnOk result (count.new ≡ count.old + backup_count model.now) }
     ensures turns { OnOk result (turned.new ≡ turned.old + entries model.now.grid) }
+    ensures rising { count.old ≤ count.new }
+    ensures rising_turned { turned.old ≤ turned.new }
 {
     put_first(model, block, advice);
     match hand_on(0, block, advice, rows, turned) {

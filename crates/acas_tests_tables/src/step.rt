@@ -214,7 +214,7 @@ fn same_means(model: &Model, stencils: &Stencils, below: &[Pair]) -> bool
     if grid.horizon == 0 || below.len() != grid.states() as usize {
         return false;
     }
-    let reach = reach_of(stencils, below);
+    let reach = reach_of(model, below);
     let mut same = true;
     for vertex in 0..grid.vertices() {
         let plain = means_at(model, vertex, below);

@@ -59,7 +59,9 @@ struct Streamed {
 fn sweep_streamed(alloc: Global, model: &Model, fails_at: u32) -> Option<Streamed> {
     let grid = model.grid();
     let states = grid.states();
-    let stencils = Stencils::make(alloc, model).ok()?;
+    let Ok(stencils) = Stencils::make(alloc, model) else {
+        return None;
+    };
     let mut block = PlaneBlock::make(alloc, states).ok()?;
     let mut advice = vec![in alloc; 0u8; states as usize].ok()?;
     let mut rows = Kept {

@@ -14,12 +14,12 @@ priced value cost own mean place advisory is at same = is ∙ ap (λ (k : ℕ). 
 pub returns-clause-value : goal.returns-clause-value
 returns-clause-value c =
     let means = c.args.vertex_means.now in
-    let choice = c.choice_at-choice.result in
-    let own = c.choice_at-choice.ensures.known.cost in
-    let e : Entry = record { pair = c.pair_of_choice.result; advice = c.choice_at-choice.result.advisory } in
-    subst (λ (d : Choice). IsValued c.args.model.now c.args.vertex_means.now c.args.present d e) c.choice_at-choice.ensures.value
+    let choice = c.choice_among-choice.result in
+    let own = c.choice_among-choice.ensures.known.cost in
+    let e : Entry = record { pair = c.values_of_choice.result; advice = c.choice_among-choice.result.advisory } in
+    subst (λ (d : Choice). IsValued c.args.model.now c.args.vertex_means.now c.args.present d e) c.choice_among-choice.ensures.value
     (record {
-      upper = priced c.pair_of_choice.result.upper choice.cost _ (value_at Upper means) c.from.result choice.advisory c.pair_of_choice.ensures.upper c.from.ensures own;
-      lower = priced c.pair_of_choice.result.lower choice.cost _ (value_at Lower means) c.from.result choice.advisory c.pair_of_choice.ensures.lower c.from.ensures own;
-      advice = λ i. c.choice_at-choice.result.advisory;
+      upper = priced c.values_of_choice.result.upper choice.cost _ (value_at Upper means) c.from.result choice.advisory c.values_of_choice.ensures.upper c.from.ensures own;
+      lower = priced c.values_of_choice.result.lower choice.cost _ (value_at Lower means) c.from.result choice.advisory c.values_of_choice.ensures.lower c.from.ensures own;
+      advice = λ i. c.choice_among-choice.result.advisory;
     })

@@ -4,7 +4,7 @@ use Rattle.acas_spec.specs.Model.{GridData, vertices}
 use Rattle.acas_grid.specs.States.{vertex_at}
 use Rattle.acas_units.specs.declared.pair.Pair.{Pair}
 use Rattle.acas_step.specs.Means.{AreVertexMeans}
-use Rattle.acas_step.specs.Stencils.{IsReach}
+use Rattle.acas_step.specs.Reach.{IsReach}
 use Rattle.acas_sweep.specs.Filled.{pairs_in}
 use Rattle.acas_sweep.specs.Layers.{choice_count}
 use Rattle.acas_sweep.proofs.Over.{over_next}
@@ -19,7 +19,7 @@ pub means_with-vertex_means-requires-clause-reach : goal.means_with-vertex_means
 means_with-vertex_means-requires-clause-reach c =
     let same : c.finished.result.now ≡ c.finished-in-loop-vertex.result.now =
     c.finished.ensures ∙ sym (c.finished-in-loop-vertex.ensures ∙ c.loop-vertex.invariant.finished) in
-    subst (λ (l : List Pair). IsReach c.args.stencils.now l c.reach_of-reach.result) same c.reach_of-reach.ensures
+    subst (λ (l : List Pair). IsReach c.args.model.now.grid l c.reach_of-reach.result) same c.reach_of-reach.ensures
 
 pub loop-vertex-preserved : goal.loop-vertex-preserved
 loop-vertex-preserved c =
