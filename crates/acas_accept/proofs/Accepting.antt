@@ -22,20 +22,6 @@ use Rattle.acas_accept.proofs.Texts.{text_small}
 
 -- ---- no table
 
-begins_file : (m : ModelData) (digest : List ℕ) (file : Option (List ℕ)) (fault : AcceptFault) → Begins m digest file (Err fault) → Accepts m digest file (Err fault)
-begins_file m digest None (Refused refusal) begins = absurd begins
-begins_file m digest (Some bytes) (Refused refusal) begins = begins
-begins_file m digest None Absent begins = begins
-begins_file m digest (Some bytes) Absent begins = begins
-begins_file m digest None Failed begins = tt
-begins_file m digest (Some bytes) Failed begins = tt
-begins_file m digest None Memory begins = tt
-begins_file m digest (Some bytes) Memory begins = tt
-
-pub begins_given : (holds : Option Files) (name : List ℕ) (m : ModelData) (digest : List ℕ) (fault : AcceptFault) → Given holds name (λ file. Begins m digest file (Err fault)) → Given holds name (λ file. Accepts m digest file (Err fault))
-begins_given None name m digest fault begins = tt
-begins_given (Some files) name m digest fault begins = begins_file m digest (get files name) fault begins
-
 pub fault_accepts : (m : ModelData) (digest bytes : List ℕ) (fault : AcceptFault) → IsAnswer m digest bytes fault → Accepts m digest (Some bytes) (Err fault)
 fault_accepts m digest bytes (Refused refusal) answer = answer
 fault_accepts m digest bytes Absent answer = absurd answer

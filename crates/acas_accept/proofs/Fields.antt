@@ -1,5 +1,5 @@
 -- What is read of bytes without fault: values of 64 bits, and no advice in layer 0.
-use Rattle.std.proofs.Common.{◌≡◌, ℕ, ◌+◌, ◌*◌, ◌<◌, ◌≤◌, Bool, true, false, cond, List, [], ◌∷◌, drop, None, refl, sym, ◌∙◌, ap, arith, w64, to_z, inl, inr}
+use Rattle.std.proofs.Common.{◌≡◌, ℕ, ◌+◌, ◌*◌, ◌<◌, ◌≤◌, Bool, true, cond, List, [], ◌∷◌, drop, None, sym, ◌∙◌, ap, arith, w64, to_z, inl, inr}
 use Rattle.std.proofs.Math.Facts.{sfits_to_z}
 use Rattle.std.proofs.lemmas.Bool.{cases_lt, eqb-true, le-ltb, lt-ltb, ltb-true}
 use Rattle.std.proofs.lemmas.List.{get_or-take, get_or-drop, get_or_past, length-take}
@@ -7,10 +7,10 @@ use Rattle.std.specs.Prelude.{◌==◌, FitsSigned, nat_lt}
 use Rattle.byteorder.specs.Endian.{little_number}
 use Rattle.byteorder.specs.Numbers.{little_from-lt}
 use Rattle.acas_outside.specs.Bytes.{IsBytes}
-use Rattle.acas_table.specs.Faults.{advice_fault, end_fault, entry_fault, unless}
+use Rattle.acas_table.specs.Faults.{advice_fault, end_fault, entry_fault}
 use Rattle.acas_table.specs.Text.{entry_at, entry_of, length_1, part}
 use Rattle.acas_table.specs.declared.shape.TableShape.{TableShape}
-use Rattle.acas_table.specs.declared.fault.TableFault.{TableFault}
+use Rattle.acas_table.proofs.Backward.{passed_if}
 use Rattle.acas_table.proofs.Cuts.{first_none}
 
 IsBytes-part : (bytes : List ℕ) (at n : ℕ) → IsBytes bytes → IsBytes (part bytes at n)
@@ -30,10 +30,6 @@ upper_fits bytes i small = number_fits (part (part bytes (60 + 17 * i) 17) 0 8) 
 pub lower_fits : (bytes : List ℕ) (i : ℕ) → IsBytes bytes → FitsSigned w64 (entry_at bytes i).pair.lower
 unfolding entry_of
 lower_fits bytes i small = number_fits (part (part bytes (60 + 17 * i) 17) 8 8) (IsBytes-part (part bytes (60 + 17 * i) 17) 8 8 (IsBytes-part bytes (60 + 17 * i) 17 small))
-
-passed_if : (b : Bool) (fault : TableFault) → unless b fault ≡ None → b ≡ true
-passed_if true fault e = refl
-passed_if false fault e = absurd (cc e)
 
 advice_passes : (s : TableShape) (bytes : List ℕ) (i : ℕ) → entry_fault s bytes i ≡ None → advice_fault s i (entry_at bytes i).advice ≡ None
 unfolding entry_fault

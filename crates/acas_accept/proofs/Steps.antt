@@ -162,9 +162,6 @@ in_layer_next m digest old r new n state bytes entry check seconds inside within
 -- ---- a layer
 
 -- the same at an equal count
-pub check_at : (m : ModelData) (t : TableCheck) (i j : ℕ) → i ≡ j → IsCheckOf m t i → IsCheckOf m t j
-check_at m t i j same check = subst (λ (k : ℕ). IsCheckOf m t k) same check
-
 pub accepted_at : (m : ModelData) (digest : List ℕ) (t : TableCheck) (i j : ℕ) (bytes : List ℕ) → i ≡ j → HasAccepted m digest t i bytes → HasAccepted m digest t j bytes
 accepted_at m digest t i j bytes same accepted = subst (λ (k : ℕ). HasAccepted m digest t k bytes) same accepted
 
@@ -186,9 +183,6 @@ in_layer_first m digest old new n bytes reader advices means before =
           OfBelow-map (λ k. AreValuesOf m (given_table m.grid bytes) k old.pairs.items) (λ k. AreMeansOf m (given_table m.grid bytes) k new.means.items) n (λ k values. means (given_table m.grid bytes) k values) before.values;
     }
 
-pub before_first_layer : (m : ModelData) (digest : List ℕ) (t : TableCheck) (bytes : List ℕ) → HasAccepted m digest t 0 bytes → IsBeforeLayer m digest t 0 bytes
-before_first_layer m digest t bytes accepted = record { accepted = accepted_at m digest t 0 (0 * states m.grid) bytes (omega arith) accepted; values = tt }
-
 layer_values_are : (m : ModelData) (digest : List ℕ) (t : TableCheck) (n : ℕ) (bytes : List ℕ) → IsInLayer m digest t n (states m.grid) bytes → AreValuesOf m (given_table m.grid bytes) n t.pairs.items
 layer_values_are m digest t n bytes within = record {
   upper = λ s inside. ap (λ (p : Pair). p.upper) (within.pairs s inside) ∙ ap (λ (e : Entry). e.pair.upper) (sym (given-place m.grid bytes n s));
@@ -206,9 +200,6 @@ before_next_layer m digest t n state bytes all within =
       accepted = accepted_at m digest t (entry_place m.grid n (states m.grid)) ((n + 1) * states m.grid) bytes (row_end n (states m.grid)) whole.accepted;
       values = subst (λ (k : ℕ). OfBelow (λ j. AreValuesOf m (given_table m.grid bytes) j t.pairs.items) k) (sym (add-one n)) (layer_values_are m digest t n bytes whole);
     }
-
-pub check_done : (m : ModelData) (t : TableCheck) (n state : ℕ) → state ≡ states m.grid → IsCheckOf m t (entry_place m.grid n state) → IsCheckOf m t ((n + 1) * states m.grid)
-check_done m t n state all check = check_at m t (entry_place m.grid n state) ((n + 1) * states m.grid) (ap (λ (k : ℕ). n * states m.grid + k) all ∙ row_end n (states m.grid)) check
 
 -- ---- what follows the entries
 

@@ -1,5 +1,5 @@
 -- The text of a table whose entries are sound and fit is read as that table.
-use Rattle.std.proofs.Common.{◌≡◌, ℕ, zero, suc, ◌+◌, ◌*◌, ◌/◌, ◌%◌, ◌<◌, ◌≤◌, Bool, true, cond, List, length, None, sym, ◌∙◌, ap, subst, arith, w64}
+use Rattle.std.proofs.Common.{◌≡◌, ℕ, zero, suc, ◌+◌, ◌*◌, ◌/◌, ◌%◌, ◌<◌, ◌≤◌, Bool, cond, List, length, None, sym, ◌∙◌, ap, subst, arith, w64}
 use Rattle.std.proofs.lemmas.Bool.{eq-eqb, le-ltb, lt-ltb}
 use Rattle.std.specs.Prelude.{◌==◌, FitsSigned, nat_lt}
 use Rattle.acas_spec.specs.Limits.{IsModel}
@@ -12,15 +12,14 @@ use Rattle.acas_process.specs.Bounds.{IsSound, IsSoundEntry}
 use Rattle.acas_process.specs.Cost.{IsEntry}
 use Rattle.acas_process.proofs.ModelLaws.{is_chosen}
 use Rattle.acas_grid.specs.States.{state_present, state_vertex}
-use Rattle.acas_table.specs.Faults.{advice_fault, first_fault, unless}
+use Rattle.acas_table.specs.Faults.{advice_fault, first_fault}
 use Rattle.acas_table.specs.Layers.{layers_of, state_entry, table_text}
 use Rattle.acas_table.specs.Shape.{shape_of}
 use Rattle.acas_table.specs.Tables.{IsTable, all_entries, flat_text}
 use Rattle.acas_table.specs.Text.{entry_at}
-use Rattle.acas_table.specs.declared.fault.TableFault.{TableFault}
 use Rattle.acas_table.proofs.Flat.{flat}
 use Rattle.acas_table.proofs.Shapes.{limited}
-use Rattle.acas_table.proofs.TextLaws.{entry_read, text_is_good}
+use Rattle.acas_table.proofs.TextLaws.{entry_read, good_if, text_is_good}
 use Rattle.acas_accept.specs.Accepted.{IsWritable}
 use Rattle.acas_accept.specs.GivenTable.{entry_place, given_entry, given_table}
 use Rattle.acas_accept.proofs.Given.{all_entries-at, all_entries-place, length-all_entries}
@@ -29,9 +28,6 @@ use Rattle.acas_grid.proofs.Vertices.{vertices-one_to_one}
 use Rattle.acas_step.proofs.NumberedStates.{state_number-below}
 use Rattle.acas_accept.proofs.Places.{is_place, entry_place-below, state_entry_is}
 use Rattle.acas_accept.proofs.Same.{AreSame}
-
-good_if : (b : Bool) (fault : TableFault) → b ≡ true → unless b fault ≡ None
-good_if b fault good = ap (λ (c : Bool). unless c fault) good
 
 -- an advice that may stand in a layer
 advice_good : (m : ModelData) (t : Table) (n state : ℕ) → IsModel m → IsWritable m t → IsSound m t → n ≤ m.grid.horizon → state < states m.grid

@@ -42,7 +42,7 @@ ahead_more old new bytes into from k n place room grown so_far more =
     ∙ sym (take-add k n (drop place bytes))
 
 -- bytes behind bytes
-bytes_of_both : (a b : List ℕ) → IsBytes a → IsBytes b → IsBytes (a ++ b)
+pub bytes_of_both : (a b : List ℕ) → IsBytes a → IsBytes b → IsBytes (a ++ b)
 bytes_of_both [] b front behind i = behind i
 bytes_of_both (x ∷ a) b front behind zero = front 0
 bytes_of_both (x ∷ a) b front behind (suc i) = bytes_of_both a b (λ j. front (suc j)) behind i

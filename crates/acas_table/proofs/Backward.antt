@@ -55,7 +55,7 @@ good e t at n check none =
     let b = first_none (check (part t at n)) [] a.1 in
     record { there = ltb-false _ _ (not_short (ltb (length t) (at + n)) _ a.0); passes = b.0 }
 
-passed_if : (b : Bool) (fault : TableFault) → unless b fault ≡ None → b ≡ true
+pub passed_if : (b : Bool) (fault : TableFault) → unless b fault ≡ None → b ≡ true
 passed_if true fault e = refl
 passed_if false fault e = absurd (cc e)
 

@@ -59,7 +59,7 @@ good_field e t at n f check long is good =
     ∙ ap (λ (p : List ℕ). first (check p ∷ [])) is
     ∙ ap (λ (o : Option TableFault). first (o ∷ [])) good
 
-good_if : (b : Bool) (fault : TableFault) → b ≡ true → unless b fault ≡ None
+pub good_if : (b : Bool) (fault : TableFault) → b ≡ true → unless b fault ≡ None
 good_if b fault good = ap (λ (c : Bool). unless c fault) good
 
 same_bytes : (x : List ℕ) → bytes_eq x x ≡ true

@@ -6,7 +6,7 @@ use Rattle.acas_table.specs.Text.{base, next_base}
 use Rattle.acas_table.specs.Pieces.{Holds}
 use Rattle.acas_table.specs.Writer.{HasWritten}
 use Rattle.acas_table.specs.declared.writer.TableWriter.{TableWriter}
-use Rattle.acas_table.proofs.Versions.{base-more, base-none}
+use Rattle.acas_table.proofs.Versions.{base-more}
 
 pub writes_layer : (old new : TableWriter) (layers : List (List Entry)) (layer : List Entry) → HasWritten old layers → new.version ≡ old.version → new.head.items ≡ old.head.items → new.given ≡ old.given + 1
     → Holds new.pieces (next_base old.version (base old.version old.head.items layers) layer) → HasWritten new (layers ++ layer ∷ [])
@@ -16,10 +16,4 @@ writes_layer old new layers layer written version head given holds = record {
       (sym (ap (λ (v : ℕ). base v new.head.items (layers ++ layer ∷ [])) version ∙ ap (λ (h : List ℕ). base old.version h (layers ++ layer ∷ [])) head ∙ base-more old.version old.head.items layers layer))
       holds;
   count = length_push layers layer ∙ ap (λ (n : ℕ). n + 1) written.count ∙ sym given;
-}
-
-pub writes_none : (new : TableWriter) → new.given ≡ 0 → Holds new.pieces new.head.items → HasWritten new []
-writes_none new given holds = record {
-  hashed = subst (λ (l : List ℕ). Holds new.pieces l) (sym (base-none new.version new.head.items)) holds;
-  count = sym given;
 }
