@@ -1,8 +1,10 @@
 -- What an audit goes on with behind its files.
-use Rattle.std.proofs.Common.{◌≡◌, ℕ, List, [], None, refl, sym}
+use Rattle.std.proofs.Common.{◌≡◌, ℕ, List, [], Option, None, refl, sym, subst}
+use Rattle.std.specs.Prelude.{IfSome}
 use Rattle.std.specs.FinMap.{get}
 use Rattle.acas_spec.specs.Model.{ModelData}
-use Rattle.acas_outside.specs.Files.{Files}
+use Rattle.acas_base.specs.Advices.{AdvicesData, AreAdvices, AreAdvicesOf}
+use Rattle.acas_outside.specs.Files.{Files, Given}
 use Rattle.acas_boxes.specs.Whole.{boxes_of}
 use Rattle.acas_command.specs.Calls.{with_input_file}
 use Rattle.acas_command.proofs.Inputs.{no_file-input_file}
@@ -11,11 +13,12 @@ use Rattle.acas_command.specs.Outcome.{Outcome, prints}
 use Rattle.acas_command.specs.declared.status.FileRole.TheVariants.{Boxes as BoxesFile}
 use Rattle.acas_command.proofs.Files.{with_model-file}
 use Rattle.acas_command.proofs.Reports.{no_file-model, refers-report}
+use Rattle.acas_table_file.specs.AcceptedFile.{IsTableFile, IsTableOf}
 use Rattle.acas_table_file.specs.Calls.{with_table}
 use Rattle.acas_table_file.proofs.Files.{no_file-table}
 use Rattle.acas_report.specs.declared.counts.Which.{Which}
 use Rattle.acas_command.specs.Called.{calls_for}
-use Rattle.acas_command.proofs.Behind.{Refers}
+use Rattle.acas_command.proofs.Behind.{Refers, told-both}
 use Rattle.acas_audit_commands.specs.Calls.{CallsForAudit, CallsForRegions, IsAuditBegun, IsAuditText, IsRegionsBegun, IsRegionsText, audit_looks_at, regions_looks_at}
 
 -- looking at the files stores nothing
@@ -46,3 +49,11 @@ pub regions-refers : (model boxes : List ℕ) (files : Files) (outcome_of : File
     → Refers files (calls_for outcome_of) (CallsForRegions model boxes)
 regions-refers model boxes files outcome_of same =
     refers-report files outcome_of (regions_looks_at model boxes) (IsRegionsText model boxes) (IsRegionsBegun model boxes) same (no_file-regions model boxes files)
+
+-- the advices of the table, where the model's file was read first
+pub table-of : (model table digest : List ℕ) (m : ModelData) (advices : AdvicesData) (before mid : Option Files) → mid ≡ before
+    → Given before model (λ file. IsModelFile file digest m) → Given mid table (λ file. IsTableFile m digest file advices) → AreAdvicesOf m advices → AreAdvices advices
+    → IfSome before (λ files. IsTableOf model table files m advices)
+table-of model table digest m advices before mid same is_model is_table fits known =
+    told-both before _ _ _ (λ files model_file table_file. record { digest = digest; model_file = model_file; table_file = table_file; fits = fits; known = known })
+    is_model (subst (λ (h : Option Files). Given h table (λ file. IsTableFile m digest file advices)) same is_table)

@@ -1,3 +1,4 @@
+mod Decisions
 mod Files
 pub mod Verdicts
 pub mod Worth

@@ -1,18 +1,21 @@
 //! The command `audit`.
-ghost use Rattle.std.specs.Prelude.{◌≤◌, IsErrOf, IsTrue};
+ghost use Rattle.std.specs.Prelude.{◌≤◌, ◌^◌, IsErrOf, IsTrue};
 ghost use Rattle.acas_outside.specs.Frame.{ReadsAndWrites};
 ghost use Rattle.acas_outside.specs.Outside.{outside};
 ghost use Rattle.acas_command.specs.Answers.{Answers, report_ended};
 ghost use Rattle.acas_audit_commands.specs.Calls.{CallsForAudit};
+ghost use Rattle.acas_audit_commands.specs.Decisions.{CountsAudit};
 
+use acas_cell::Decisions;
 use acas_command::{Cause, read_model_file};
 use acas_outside::{Folder, Sink};
-use acas_report::{ReportFault, Which, write_report};
+use acas_report::{ReportFault, Which, write_blocks};
 use acas_table_file::read_table_file;
 use std::alloc::Global;
 
 /// Rules on each advisory cell of a table, once the whole table is accepted, and prints the report. It answers how many are reported.
-/// It keeps the table's advices, one byte each, and reads the table once.
+/// It keeps the table's advices, one byte each, and reads the table once. Whole blocks of cells are decided first, and it counts these
+/// decisions: where the whole report is out, the count rose by their whole number. A count of at most 2^63 leaves room for them.
 pub fn audit<F: Folder, O: Sink>(
     alloc: Global,
     model: &str,
@@ -20,17 +23,21 @@ pub fn audit<F: Folder, O: Sink>(
     which: Which,
     folder: &mut F,
     out: &mut O,
+    count: &mut Decisions,
 ) -> Result<u64, Cause>
     requires model { IsTrue (F.serves folder.old model.now) }
     requires table { IsTrue (F.serves folder.old table.now) }
+    requires count { count.old ≤ 2 ^ 63 }
     ensures answers { Answers (CallsForAudit model.now table.now which) (report_ended result)
         (outside F.Folder O.Sink folder.old out.old) (outside F.Folder O.Sink folder.new out.new) }
     ensures folder { ReadsAndWrites F.Folder folder.old folder.new (IsErrOf result Cause.Folder) }
     ensures output { O.faults out.old ≤ O.faults out.new }
+    ensures work { CountsAudit model.now table.now (F.holds folder.old) (report_ended result) count.old count.new }
+    ensures rising { count.old ≤ count.new }
 {
     let found = read_model_file(alloc, model, folder)?;
     let advices = read_table_file(alloc, &found, table, folder)?;
-    match write_report(alloc, &found.model, &advices, out, which) {
+    match write_blocks(alloc, &found.model, &advices, out, which, count) {
         Ok(counts) => Ok(counts.reported),
         Err(ReportFault::Sink) => Err(Cause::Output),
         Err(ReportFault::Memory) => Err(Cause::Memory),

@@ -49,6 +49,9 @@ pub struct Cases {
     #[serde(default)]
     pub each_call: Vec<u64>,
     pub taken: Option<u64>,
+    pub backups: Option<String>,
+    pub turned: Option<String>,
+    pub decisions: Option<String>,
 }
 
 /// Reads a text of cases.

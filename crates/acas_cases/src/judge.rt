@@ -29,6 +29,7 @@ pub fn judge(
     {
         report.add("takes another number of bytes")?;
     }
+    judge_counts(alloc, cases, row, end, report)?;
     judge_files(alloc, cases, row, start, end, report)
 }
 
@@ -101,6 +102,58 @@ fn judge_digest(
 ) -> Result<(), Fault> {
     let digits = hex::encode(alloc, Sha256::digest(found))?;
     Ok(report.holds(what, found, digits.as_str() == digest)?)
+}
+
+// What the runs counted together.
+fn judge_counts(
+    alloc: Global,
+    cases: &Cases,
+    row: &[String],
+    end: &End,
+    report: &mut Report,
+) -> Result<(), Fault> {
+    let work = &end.work;
+    judge_count(
+        alloc,
+        "backups",
+        &cases.backups,
+        row,
+        work.backups(),
+        report,
+    )?;
+    judge_count(
+        alloc,
+        "turned pairs",
+        &cases.turned,
+        row,
+        work.turned(),
+        report,
+    )?;
+    judge_count(
+        alloc,
+        "decisions",
+        &cases.decisions,
+        row,
+        work.decisions(),
+        report,
+    )
+}
+
+// One count, where the case says it.
+fn judge_count(
+    alloc: Global,
+    what: &str,
+    wanted: &Option<String>,
+    row: &[String],
+    found: u64,
+    report: &mut Report,
+) -> Result<(), Fault> {
+    let Some(wanted) = wanted else {
+        return Ok(());
+    };
+    let wanted = filled(alloc, wanted, row)?;
+    let found = found.to_string(alloc)?;
+    Ok(report.same(what, found.as_bytes(), wanted.as_bytes())?)
 }
 
 // The files: those that the case names are as it says, and the others as they were.

@@ -27,6 +27,8 @@
 //! - `after`: the files that are not as before, made as at the start. `after_sha256`: files with the digests of their bytes.
 //!   `absent`: the names of no file.
 //! - `taken`: how many bytes the reads gave in all.
+//! - `backups`, `turned`, `decisions`: how many backups, turned pairs and decisions of blocks the runs count together. They are not
+//!   looked at where they are left out.
 //! - `each_call`: the numbers of calls of each kind, as those of the folder and the outputs are to be. Then each of them is made to fail in turn: the code is to say whose call it
 //!   was, what is printed is to be a part of what is printed else, and a file that the run changes is to be as before where a
 //!   read or the create fails, and a part of what it becomes else where an append fails.
@@ -57,6 +59,8 @@ mod boxes;
 mod cases;
 #[cfg(test)]
 mod changed_bits;
+#[cfg(test)]
+mod counts;
 #[cfg(test)]
 mod documents;
 #[cfg(test)]

@@ -24,10 +24,11 @@ pub struct Start {
     pub runs: Vec<String>,
 }
 
-/// How the runs of a case ended, and what is there afterwards.
+/// How the runs of a case ended, what they counted together, and what is there afterwards.
 #[derive(Drop)]
 pub struct End {
     pub ends: Vec<String>,
+    pub work: Work,
     pub folder: Endless,
     pub out: Stuck,
     pub err: Stuck,
@@ -51,14 +52,16 @@ pub fn perform(alloc: Global, start: &Start, failing: &[String]) -> Result<End, 
     let mut end = beginning(alloc, start, failing)?;
     for command in &start.runs {
         let words = words_of(alloc, command)?;
-        let mut work = Work::new();
+        if !end.work.has_room() {
+            return Err(Fault::Text("no room for the counts of another run"));
+        }
         let status = run(
             alloc,
             &words,
             &mut end.folder,
             &mut end.out,
             &mut end.err,
-            &mut work,
+            &mut end.work,
         );
         end.ends.push(end_text(alloc, &status)?)?;
     }
@@ -82,6 +85,7 @@ fn beginning(alloc: Global, start: &Start, failing: &[String]) -> Result<End, Fa
     let err = MemorySink::new(alloc, numbers_of(alloc, failing, "error")?, most)?;
     Ok(End {
         ends: Vec::new(alloc),
+        work: Work::new(),
         folder: Endless::new(folder, start.endless.clone()?),
         out: Stuck::new(out, start.stuck.as_str() == "write"),
         err: Stuck::new(err, start.stuck.as_str() == "error"),

@@ -2,3 +2,4 @@ pub mod Words
 pub mod Forms
 pub mod Calls
 pub mod Headline
+pub mod Work

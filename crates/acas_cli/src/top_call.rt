@@ -9,12 +9,12 @@ ghost use Rattle.acas_cli.specs.Calls.{AnswersForm, CallsFor};
 ghost use Rattle.acas_cli.specs.Forms.{HasNumber, form_of_command};
 ghost use Rattle.acas_cli.specs.Headline.{Headline, IsWorth};
 ghost use Rattle.acas_cli.specs.Words.{form_of, names_of};
+ghost use Rattle.acas_cli.specs.Work.{CountsFor, CountsForm, HasRoom, NoneFell};
 
 use crate::words::{Command, command_of};
+use crate::work::Work;
 use acas_audit_commands::{audit, regions};
-use acas_command::{
-    Cause, Status, Work, cause_of, cause_of_report, report, report_memory, report_words,
-};
+use acas_command::{Cause, Status, cause_of, cause_of_report, report, report_memory, report_words};
 use acas_drill::drill;
 use acas_encounter_commands::replay;
 use acas_outside::{Folder, Sink};
@@ -24,15 +24,20 @@ use std::alloc::Global;
 
 /// Does all that the program does, for the words after its name: the command that they are the form of, over this folder,
 /// with its output on `out` and, where it is not done, one line on `err`.
+///
+/// It raises the counts of `work`, each of which is at most 2^63 before, as those of a new one are. The same one may go from run to
+/// run: no count falls, so its counts are those of all runs. No clause bounds how far a run that ends otherwise than done raises
+/// them, so before the next run a caller asks [`Work::has_room`], or takes a new one.
 pub fn run<F: Folder, O: Sink, E: Sink>(
     alloc: Global,
     words: &[String],
     folder: &mut F,
     out: &mut O,
     err: &mut E,
-    _work: &mut Work,
+    work: &mut Work,
 ) -> Status
     requires served { All (λ word. IsTrue (F.serves folder.old word)) (map string_bytes words.now) }
+    requires counts { HasRoom work.old }
 
     // Words of no form are refused, and no others.
     ensures words { (result.cause ≡ Cause.Words) ↔ (form_of (map string_bytes words.now) ≡ None) }
@@ -45,17 +50,21 @@ pub fn run<F: Folder, O: Sink, E: Sink>(
     ensures headline { Headline (form_of (map string_bytes words.now)) result.cause
         (outside F.Folder O.Sink folder.old out.old) (outside F.Folder O.Sink folder.new out.new) }
 
+    // What is counted: by whole numbers where the command is done, and what is not named for a command stands.
+    ensures work { CountsForm (form_of (map string_bytes words.now)) (F.holds folder.old) result.cause work.old work.new }
+    ensures rising { NoneFell work.old work.new }
+
     // The exit code, and the line on the error output.
     ensures code { result.code ≡ code_of result.cause }
     ensures line { Reports result.cause (map string_bytes words.now)
         (E.written err.old) (E.written err.new) (E.faults err.old) (E.faults err.new) }
 
-    // The folder serves as before, and no count falls, so that the next run can begin.
+    // The folder serves as before, and no count of faults falls, so that the next run can begin.
     ensures folder { ReadsAndWrites F.Folder folder.old folder.new (result.cause ≡ Cause.Folder) }
     ensures output { O.faults out.old ≤ O.faults out.new }
     ensures error_output { E.faults err.old ≤ E.faults err.new }
 {
-    let cause = answer_and_report(alloc, words, folder, out, err);
+    let cause = answer_and_report(alloc, words, folder, out, err, work);
     Status {
         code: cause.code(),
         cause,
@@ -68,13 +77,17 @@ fn answer_and_report<F: Folder, O: Sink, E: Sink>(
     folder: &mut F,
     out: &mut O,
     err: &mut E,
+    work: &mut Work,
 ) -> Cause
     requires served { All (λ word. IsTrue (F.serves folder.old word)) (map string_bytes words.now) }
+    requires counts { HasRoom work.old }
     ensures words { (result ≡ Cause.Words) ↔ (form_of (map string_bytes words.now) ≡ None) }
     ensures answers { AnswersForm (form_of (map string_bytes words.now)) result
         (outside F.Folder O.Sink folder.old out.old) (outside F.Folder O.Sink folder.new out.new) }
     ensures headline { Headline (form_of (map string_bytes words.now)) result
         (outside F.Folder O.Sink folder.old out.old) (outside F.Folder O.Sink folder.new out.new) }
+    ensures work { CountsForm (form_of (map string_bytes words.now)) (F.holds folder.old) result work.old work.new }
+    ensures rising { NoneFell work.old work.new }
     ensures line { Reports result (map string_bytes words.now)
         (E.written err.old) (E.written err.new) (E.faults err.old) (E.faults err.new) }
     ensures folder { ReadsAndWrites F.Folder folder.old folder.new (result ≡ Cause.Folder) }
@@ -89,7 +102,7 @@ fn answer_and_report<F: Folder, O: Sink, E: Sink>(
         report_memory(err);
         return Cause::Memory;
     };
-    let cause = answer(alloc, &command, folder, out);
+    let cause = answer(alloc, &command, folder, out, work);
     report(words, &cause, &mut line, err);
     cause
 }
@@ -100,25 +113,36 @@ fn answer<F: Folder, O: Sink>(
     command: &Command<'_>,
     folder: &mut F,
     out: &mut O,
+    work: &mut Work,
 ) -> Cause
     requires served { All (λ name. IsTrue (F.serves folder.old name)) (names_of (form_of_command command.now)) }
     requires number { HasNumber (form_of_command command.now) }
+    requires counts { HasRoom work.old }
     ensures answers { Answers (CallsFor (form_of_command command.now)) result
         (outside F.Folder O.Sink folder.old out.old) (outside F.Folder O.Sink folder.new out.new) }
     ensures headline { IfSome (F.holds folder.old) (λ files. IsWorth (form_of_command command.now) files result
         (outside F.Folder O.Sink folder.old out.old) (outside F.Folder O.Sink folder.new out.new)) }
+    ensures work { CountsFor (form_of_command command.now) (F.holds folder.old) result work.old work.new }
+    ensures rising { NoneFell work.old work.new }
     ensures folder { ReadsAndWrites F.Folder folder.old folder.new (result ≡ Cause.Folder) }
     ensures output { O.faults out.old ≤ O.faults out.new }
 {
+    let Work {
+        backups,
+        turned,
+        decisions,
+    } = work;
     match command {
-        Command::Values { model } => cause_of(values(alloc, model, folder, out)),
-        Command::Compile { model, table } => cause_of(compile(alloc, model, table, folder, out)),
+        Command::Values { model } => cause_of(values(alloc, model, folder, out, backups, turned)),
+        Command::Compile { model, table } => cause_of(compile(
+            alloc, model, table, folder, out, backups, turned,
+        )),
         Command::Check { model, table } => cause_of(check(alloc, model, table, folder, out)),
         Command::Audit {
             model,
             table,
             which,
-        } => cause_of_report(audit(alloc, model, table, *which, folder, out)),
+        } => cause_of_report(audit(alloc, model, table, *which, folder, out, decisions)),
         Command::Regions { model, boxes } => cause_of_report(regions(
             alloc, model, boxes, folder, out,
         )),

@@ -154,7 +154,3 @@ answers-folder outcome_of o before after is stored quiet rose = record {
   quiet = quiet;
   told = told-both before.holds _ _ _ (λ files same part. subst (λ (p : Outcome). MayStorePart p.file files after.holds) same part) is stored;
 }
-
--- one that found no memory
-pub answers-memory : (called : Called) (before after : Outside) → after.holds ≡ before.holds → PrintsNothing before after → Answers called Memory before after
-answers-memory called before after same quiet = record { has_cause = tt; quiet = quiet; told = told-kept before.holds after.holds same }

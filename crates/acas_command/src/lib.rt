@@ -14,5 +14,5 @@ pub use acas_table::TableRefusal;
 pub use error_line::{report, report_memory, report_words};
 pub use line_fields::{put_count, put_millionths, put_number, put_text, put_wide_millionths};
 pub use model_file::{ModelFile, read_model_file};
-pub use status::{Cause, FileRole, Status, Work, cause_of, cause_of_report};
+pub use status::{Cause, FileRole, Status, cause_of, cause_of_report};
 pub use text_file::read_text_file;

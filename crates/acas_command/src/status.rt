@@ -83,17 +83,6 @@ pub fn cause_of_report(answer: Result<u64, Cause>) -> Cause
     }
 }
 
-/// The counters of one run. There are none yet.
-#[derive(Debug, Drop)]
-pub struct Work {}
-
-impl Work {
-    /// The counters at the start of a run.
-    pub fn new() -> Work {
-        Work {}
-    }
-}
-
 impl Cause {
     /// The exit code.
     pub fn code(&self) -> u8

@@ -13,8 +13,10 @@ use acas_accept::{AcceptFault, accept};
 use acas_base::Advices;
 use acas_command::ModelFile;
 use acas_outside::MemoryFolder;
+use acas_plane::Turned;
+use acas_step::Backups;
 use acas_table::TableWriter;
-use acas_table_commands::{compiled_layers, store_table};
+use acas_table_commands::{SweepRoom, store_swept};
 use std::alloc::{AllocError, Global};
 
 /// The name of the table in the folder of a drill.
@@ -34,10 +36,21 @@ pub(crate) fn drill_table(alloc: Global, found: &ModelFile) -> Result<DrillTable
     ensures fits { IfOk result (λ table. AreAdvicesOf found.now.model table.advices) }
     ensures tabled { IfOk result (λ table. AreTabled found.now.model (compiled found.now.model) table.advices) }
 {
-    let layers = compiled_layers(alloc, &found.model)?;
+    let mut room = SweepRoom::make(alloc, &found.model)?;
     let writer = TableWriter::new(alloc, &found.model, &found.digest)?;
     let mut folder = new_folder(alloc)?;
-    let Ok(bytes) = store_table(found, &layers, writer, &mut folder, TABLE) else {
+    // Nobody asks how much work a drill does.
+    let mut backups = Backups::new();
+    let mut turned = Turned::new();
+    let Ok(bytes) = store_swept(
+        found,
+        &mut room,
+        writer,
+        &mut folder,
+        TABLE,
+        &mut backups,
+        &mut turned,
+    ) else {
         return Err(AllocError);
     };
     let advices = accepted_advices(alloc, found, &mut folder)?;

@@ -1,7 +1,8 @@
 mod Names
 mod TableLines
-mod CompiledLayers
 mod StoredLayers
 mod BegunWriters
 mod SweptTable
+mod SweptLines
+mod Swept
 pub mod Worth

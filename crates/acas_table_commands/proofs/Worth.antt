@@ -3,7 +3,6 @@ use Rattle.std.proofs.Common.{◌≡◌, ℕ, List, Option, Some, None, ⊎_elim
 use Rattle.std.specs.Prelude.{IfSome, IsSomeAnd}
 use Rattle.std.specs.FinMap.{get}
 use Rattle.sha2.specs.Sha256.{sha256}
-use Rattle.sha2.proofs.Facts256.{length-sha256}
 use Rattle.acas_spec.specs.Model.{ModelData}
 use Rattle.acas_spec.specs.Table.{Table}
 use Rattle.acas_outside.specs.Bytes.{Appends, IsBytes}
@@ -16,7 +15,7 @@ use Rattle.acas_accept.specs.Accepted.{IsAcceptedTable}
 use Rattle.acas_accept.specs.GivenTable.{given_table}
 use Rattle.acas_table.specs.declared.refusal.TableRefusal.{TableRefusal}
 use Rattle.acas_accept.proofs.CompiledTables.{compiled_is_accepted}
-use Rattle.acas_accept.proofs.Tables.{accepted_has_none, given_is_accepted}
+use Rattle.acas_accept.proofs.Tables.{given_is_accepted}
 use Rattle.acas_command.specs.Answers.{Agrees, Answers, Completes, Refuses}
 use Rattle.acas_command.specs.Called.{MayPrint, PrintsPart}
 use Rattle.acas_table_file.specs.Calls.{with_table}

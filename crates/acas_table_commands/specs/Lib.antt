@@ -5,5 +5,8 @@ pub mod TableFile
 pub mod BegunWriter
 pub mod SweepRoom
 pub mod TableRows
+pub mod LayerParts
+pub mod LineRows
 pub mod Calls
+pub mod Work
 pub mod Worth

@@ -1,5 +1,5 @@
 -- What a sweep takes of memory.
-use Rattle.std.specs.Prelude.{◌≡◌, ℕ, length}
+use Rattle.std.specs.Prelude.{◌≡◌, length}
 use Rattle.acas_spec.specs.Model.{ModelData, states}
 use Rattle.acas_plane.specs.Plane.{fresh}
 use Rattle.acas_step.specs.Stencils.{AreStencilsOf}

@@ -1,5 +1,5 @@
 -- The lines of `values`.
-use Rattle.std.specs.Prelude.{ℕ, zero, suc, ◌+◌, ℤ, pos, int_div, List, [], ◌∷◌, ◌++◌}
+use Rattle.std.specs.Prelude.{ℕ, nat_lt, ◌+◌, ◌&&◌, if◌then◌else◌, ℤ, pos, int_div, List, [], ◌∷◌, ◌++◌, get_or}
 use Rattle.std.specs.Fmt.{decimal, signed_decimal}
 use Rattle.acas_units.specs.declared.ticks.TheConstants.{TICKS_PER_FOOT}
 use Rattle.acas_spec.specs.Axis.{place_value}
@@ -10,6 +10,8 @@ use Rattle.acas_grid.specs.States.{state_present, state_vertex}
 use Rattle.acas_spec.specs.declared.place.Vertex.{Vertex}
 use Rattle.acas_spec.specs.Table.{Table}
 use Rattle.acas_process.specs.Compiled.{compiled}
+use Rattle.acas_step.specs.Layer.{pair_at}
+use Rattle.acas_sweep.specs.Handed.{LayerData}
 
 -- ticks in whole feet
 abbrev pub feet : ℤ → ℤ
@@ -19,10 +21,10 @@ feet ticks = int_div ticks (pos TICKS_PER_FOOT)
 unfoldable pub field : List ℕ → List ℕ
 field text = text ++ 32 ∷ []
 
--- the advice by name; with no second to go there is none
+-- the advice by name; there is none with no second to go, and where its number is no advisory's
 unfoldable pub advice_text : ModelData → ℕ → ℕ → List ℕ
-advice_text m zero advice = 45 ∷ []
-advice_text m (suc n) advice = (advisory_at m advice).name
+advice_text m n advice =
+    if nat_lt 0 n && nat_lt advice m.grid.advisories then (advisory_at m advice).name else 45 ∷ []
 
 -- the line of an entry: seconds to go, present advisory, altitude in feet, own rate, intruder rate, lower value, upper value, advice
 unfoldable pub entry_line : ModelData → ℕ → ℕ → Vertex → ℤ → ℤ → ℕ → List ℕ
@@ -48,6 +50,16 @@ state_line m t n state = table_line m t n (state_present m.grid state) (state_ve
 -- the lines of all states with n seconds to go
 abbrev pub layer_lines : ModelData → Table → ℕ → List ℕ
 layer_lines m t n = below (states m.grid) (state_line m t n)
+
+-- the line of a state by its number, by the lists of a layer
+abbrev pub listed_line : ModelData → LayerData → ℕ → List ℕ
+listed_line m layer state =
+    let pair = pair_at layer.pairs state in
+    entry_line m layer.n (state_present m.grid state) (state_vertex m.grid state) pair.lower pair.upper (get_or layer.advice state 0)
+
+-- the lines of all states, by the lists of a layer
+abbrev pub listed_lines : ModelData → LayerData → List ℕ
+listed_lines m layer = below (states m.grid) (listed_line m layer)
 
 -- all lines of a table, from layer 0 to the horizon
 abbrev pub table_lines : ModelData → Table → List ℕ

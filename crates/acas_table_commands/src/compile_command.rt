@@ -1,5 +1,5 @@
 //! The command `compile`.
-ghost use Rattle.std.specs.Prelude.{◌≤◌, [], ◌≡◌, IsErrOf, IsTrue};
+ghost use Rattle.std.specs.Prelude.{◌≤◌, ◌^◌, [], ◌≡◌, IsErrOf, IsTrue};
 ghost use Rattle.acas_outside.specs.Frame.{ReadsAndWrites};
 ghost use Rattle.acas_outside.specs.Outside.{outside};
 ghost use Rattle.acas_table.specs.Shape.{shape_of};
@@ -7,37 +7,48 @@ ghost use Rattle.acas_table.specs.Text.{length_1};
 ghost use Rattle.acas_command.specs.Answers.{Answers, ended};
 ghost use Rattle.acas_table_commands.specs.Calls.{CallsForCompile};
 ghost use Rattle.acas_table_commands.specs.CompiledLine.{compiled_line};
+ghost use Rattle.acas_table_commands.specs.Work.{CountsSweep};
 
 use crate::sweep_room::SweepRoom;
 use crate::swept_table::store_swept;
 use acas_command::{Cause, put_count, put_text, read_model_file};
 use acas_grid::Grid;
 use acas_outside::{Folder, Sink, emit};
+use acas_plane::Turned;
+use acas_step::Backups;
 use acas_table::TableWriter;
 use acas_units::Line;
 use std::alloc::Global;
 
 /// Stores the compiled table of a model under another name, and then prints how large it is. It takes all its memory before it
-/// creates the table's file.
+/// creates the table's file. It counts the backups and the turned pairs of its sweep; each count is to be at most 2^63 before.
 pub fn compile<F: Folder, O: Sink>(
     alloc: Global,
     model: &str,
     table: &str,
     folder: &mut F,
     out: &mut O,
+    backups: &mut Backups,
+    turned: &mut Turned,
 ) -> Result<(), Cause>
     requires model { IsTrue (F.serves folder.old model.now) }
     requires table { IsTrue (F.serves folder.old table.now) }
+    requires backups { backups.old ≤ 2 ^ 63 }
+    requires turned { turned.old ≤ 2 ^ 63 }
     ensures answers { Answers (CallsForCompile model.now table.now) (ended result)
         (outside F.Folder O.Sink folder.old out.old) (outside F.Folder O.Sink folder.new out.new) }
     ensures folder { ReadsAndWrites F.Folder folder.old folder.new (IsErrOf result Cause.Folder) }
     ensures output { O.faults out.old ≤ O.faults out.new }
+    ensures rising { backups.old ≤ backups.new }
+    ensures rising_turned { turned.old ≤ turned.new }
+    // Over a folder that tells its files, a done run has counted exactly one sweep of the model.
+    ensures work { CountsSweep model.now (F.holds folder.old) (ended result) backups.old backups.new turned.old turned.new }
 {
     let found = read_model_file(alloc, model, folder)?;
     let mut room = SweepRoom::make(alloc, &found.model)?;
     let writer = TableWriter::new(alloc, &found.model, &found.digest)?;
     let mut line = Line::make(alloc)?;
-    let length = match store_swept(&found, &mut room, writer, folder, table) {
+    let length = match store_swept(&found, &mut room, writer, folder, table, backups, turned) {
         Ok(length) => length,
         Err(_) => return Err(Cause::Folder),
     };

@@ -1,5 +1,5 @@
 //! The lines of a table's entries.
-ghost use Rattle.std.specs.Prelude.{◌≡◌, ◌≢◌, ◌+◌, ◌≤◌, ◌<◌, ◌++◌, ◌∷◌, [], length};
+ghost use Rattle.std.specs.Prelude.{◌≡◌, ◌+◌, ◌≤◌, ◌<◌, ◌++◌, ◌∷◌, [], length};
 ghost use Rattle.std.specs.Fmt.{decimal, signed_decimal};
 ghost use Rattle.acas_grid.specs.Grid.{IsVertex};
 ghost use Rattle.acas_spec.specs.Model.{advisory_at};
@@ -24,7 +24,6 @@ pub(crate) fn write_entry(
 )
     requires present { present < model.now.grid.advisories }
     requires vertex { IsVertex model.now.grid vertex }
-    requires advice { n ≢ 0 → advice < model.now.grid.advisories }
     ensures value { line.new ≡ entry_line model.now n present vertex pair.lower pair.upper advice }
     ensures short { length line.new ≤ LINE_BYTES }
 {
@@ -41,17 +40,17 @@ pub(crate) fn write_entry(
     line.push(b"\n");
 }
 
-// The advice by name, and `-` where there is none.
+// The advice by name, and `-` with no second to go and where its number is no advisory's.
 #[tactic(auto, unfolding(crate::specs::ValuesText::advice_text))]
 fn advice_name(model: &Model, n: u32, advice: u8) -> &[u8]
-    requires { n ≢ 0 → advice < model.now.grid.advisories }
     ensures value { result.now ≡ advice_text model.now n advice }
     ensures short { length result.now ≤ GREATEST_NAME_BYTES }
 {
-    if n == 0 {
-        return b"-";
+    if 0 < n && u32::from(advice) < model.grid().advisories {
+        name_of(model, advice)
+    } else {
+        b"-"
     }
-    name_of(model, advice)
 }
 
 // The name of an advisory.

@@ -1,17 +1,16 @@
-use Rattle.std.proofs.Common.{refl, ◌∙◌, Option, inr, subst, arith, []}
+use Rattle.std.proofs.Common.{refl, ◌∙◌, inr, subst, arith, []}
 use Rattle.std.specs.FinMap.{get}
 use Rattle.std.proofs.lemmas.Result.{err_from_is_err_and}
 use Rattle.acas_base.specs.Advices.{AreAdvices}
-use Rattle.acas_outside.specs.Files.{Files, Given}
 use Rattle.acas_outside.specs.Outside.{Outside, outside}
 use Rattle.acas_command.specs.Called.{calls_for}
 use Rattle.acas_command.specs.Outcome.{prints, report_cause, reports}
-use Rattle.acas_command.proofs.Behind.{answers-behind, answers-printed, told-both, told-kept, told-map}
+use Rattle.acas_command.proofs.Behind.{answers-behind, answers-printed, told-kept, told-map}
 use Rattle.acas_command.proofs.Reports.{answers-refer, may_print-report_cause, told-all}
-use Rattle.acas_table_file.specs.AcceptedFile.{IsTableFile}
 use Rattle.acas_table_file.specs.Calls.{with_table}
 use Rattle.acas_audit_commands.specs.Calls.{CallsForAudit, audit_looks_at}
-use Rattle.acas_audit_commands.proofs.Files.{audit-behind_model, audit-refers}
+use Rattle.acas_audit_commands.proofs.Decisions.{counts-looking}
+use Rattle.acas_audit_commands.proofs.Files.{audit-behind_model, audit-refers, table-of}
 use Rattle.acas_audit_commands.proofs.audit_command.audit.Goals as goal
 
 pub returns-in_err-found-clause-answers : goal.returns-in_err-found-clause-answers
@@ -56,21 +55,34 @@ returns-in-Ok-clause-answers g c =
     let counts = c.in-Ok.counts in
     let r = c.in-Ok.ensures.report in
     let before : Outside = outside g.F.Folder g.O.Sink c.args.folder.now c.args.out.now in
-    let after : Outside = outside g.F.Folder g.O.Sink c.read_table_file.new.folder c.write_report.new.sink in
-    let accepted : Given before.holds table (λ file. IsTableFile m digest file advices) =
-    subst (λ (h : Option Files). Given h table (λ file. IsTableFile m digest file advices)) c.read_model_file.ensures.frame.holds c.in_ok-advices.ensures.ok in
+    let after : Outside = outside g.F.Folder g.O.Sink c.read_table_file.new.folder c.write_blocks.new.sink in
     answers-printed (CallsForAudit model table c.args.which) (report_cause counts.reported) (reports counts.reported r.0) before after (may_print-report_cause counts.reported)
-    (told-both before.holds _ _ _ (λ files is_model is_table. inr (record {
+    (told-map before.holds _ _ (λ files is. inr (record {
       reported = counts.reported;
       text = r.0;
-      report = record {
-        m = m;
-        advices = advices;
-        advised = record { digest = digest; model_file = is_model; table_file = is_table; fits = c.in_ok-advices.ensures.advices; known = subst AreAdvices c.advices.view_is c.advices.invariant };
-        counts = counts;
-        report = r.1;
-        count = refl;
-      };
+      report = record { m = m; advices = advices; advised = is; counts = counts; report = r.1; count = refl };
       is = refl;
-    })) c.in_ok-found.ensures.ok accepted) refl
+    }))
+    (table-of model table digest m advices before.holds _ c.read_model_file.ensures.frame.holds c.in_ok-found.ensures.ok c.in_ok-advices.ensures.ok
+    c.in_ok-advices.ensures.advices (subst AreAdvices c.advices.view_is c.advices.invariant))) refl
     (told-kept before.holds after.holds (c.read_table_file.ensures.frame.holds ∙ c.read_model_file.ensures.frame.holds)) r.2
+
+pub returns-in_err-found-clause-work : goal.returns-in_err-found-clause-work
+returns-in_err-found-clause-work g c =
+    let p = err_from_is_err_and c.from_residual.result c.from_residual.ensures.1 in
+    rw (p.1, p.2) (counts-looking c.args.model.now c.args.table.now (g.F.Folder.holds c.args.folder.now) c.in_err-found.field-0.0 _ _ c.in_err-found.ensures.refused)
+
+pub returns-in_err-advices-clause-work : goal.returns-in_err-advices-clause-work
+returns-in_err-advices-clause-work g c =
+    let p = err_from_is_err_and c.from_residual-in_err-advices.result c.from_residual-in_err-advices.ensures.1 in
+    rw (p.1, p.2) (counts-looking c.args.model.now c.args.table.now (g.F.Folder.holds c.args.folder.now) c.in_err-advices.field-0.0 _ _ c.in_err-advices.ensures.refused)
+
+pub returns-in-Ok-clause-work : goal.returns-in-Ok-clause-work
+returns-in-Ok-clause-work g c may =
+    let m = c.in_ok-found.found.model in
+    let advices = c.in_ok-advices.advices in
+    let counted = c.in-Ok.ensures.decisions in
+    let holds = g.F.Folder.holds c.args.folder.now in
+    told-map holds _ _ (λ files is. record { m = m; advices = advices; advised = is; number = counted.0; decided = counted.1; raised = counted.2 })
+    (table-of c.args.model.now c.args.table.now c.in_ok-found.found.digest m advices holds _ c.read_model_file.ensures.frame.holds c.in_ok-found.ensures.ok c.in_ok-advices.ensures.ok
+    c.in_ok-advices.ensures.advices (subst AreAdvices c.advices.view_is c.advices.invariant))

@@ -11,6 +11,7 @@ use Rattle.acas_command.proofs.Files.{called-model}
 use Rattle.acas_table_commands.specs.Calls.{compile_of}
 use Rattle.acas_table_commands.specs.CompiledLine.{compiled_line}
 use Rattle.acas_table_commands.specs.TableFile.{compiled_text}
+use Rattle.acas_table_commands.proofs.Swept.{counts_nothing, counts_sweep}
 use Rattle.acas_table_commands.proofs.Worth.{rest_of_compile}
 use Rattle.acas_table_commands.proofs.compile_command.compile.Goals as goal
 
@@ -58,3 +59,12 @@ returns-clause-answers g c =
     (called-model before.holds c.args.model.now digest m (λ files d n. rest_of_compile table d n) c.in_ok-found.ensures.ok) tt
     (told-stored before.holds after.holds table (compiled_text digest m)
     (subst (λ (h : Option Files). Stores h after.holds table (compiled_text digest m)) c.read_model_file.ensures.frame.holds c.in-Ok.ensures.ok)) part rose
+
+pub returns-in_err-found-clause-work : goal.returns-in_err-found-clause-work
+returns-in_err-found-clause-work g c =
+    let p = err_from_is_err_and c.from_residual.result c.from_residual.ensures.1 in
+    rw (p.1, p.2) (counts_nothing _ _ _ _ _ _ _ c.in_err-found.ensures.refused)
+
+pub returns-in-Ok-emit-clause-work : goal.returns-in-Ok-emit-clause-work
+returns-in-Ok-emit-clause-work g c =
+    counts_sweep _ _ c.in_ok-found.found.digest c.in_ok-found.found.model _ _ _ _ _ c.in_ok-found.ensures.ok c.in-Ok.ensures.counted c.in-Ok.ensures.turns

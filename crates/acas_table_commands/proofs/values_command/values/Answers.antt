@@ -7,6 +7,7 @@ use Rattle.acas_command.proofs.Behind.{answers-done, answers-output, told-kept}
 use Rattle.acas_command.proofs.Files.{called-model}
 use Rattle.acas_table_commands.specs.Calls.{values_of}
 use Rattle.acas_table_commands.specs.ValuesText.{values_text}
+use Rattle.acas_table_commands.proofs.Swept.{counts_nothing, counts_sweep}
 use Rattle.acas_table_commands.proofs.Worth.{rest_of_values}
 use Rattle.acas_table_commands.proofs.values_command.values.Goals as goal
 
@@ -32,3 +33,12 @@ returns-clause-answers g c =
     answers-output (λ files. values_of (get files c.args.model.now)) (prints (values_text m)) before after
     (called-model before.holds c.args.model.now c.in_ok-found.found.digest m (λ files digest n. rest_of_values digest n) c.in_ok-found.ensures.ok) tt
     (told-kept before.holds after.holds c.read_model_file.ensures.frame.holds) c.in-Err.ensures.err (c.in-Err.ensures.frame.fault refl)
+
+pub returns-in_err-found-clause-work : goal.returns-in_err-found-clause-work
+returns-in_err-found-clause-work g c =
+    let p = err_from_is_err_and c.from_residual.result c.from_residual.ensures.1 in
+    rw (p.1, p.2) (counts_nothing _ _ _ _ _ _ _ c.in_err-found.ensures.refused)
+
+pub returns-in-Ok-clause-work : goal.returns-in-Ok-clause-work
+returns-in-Ok-clause-work g c =
+    counts_sweep _ _ c.in_ok-found.found.digest c.in_ok-found.found.model _ _ _ _ _ c.in_ok-found.ensures.ok c.in-Ok.ensures.counted c.in-Ok.ensures.turns

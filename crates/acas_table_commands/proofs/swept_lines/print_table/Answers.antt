@@ -3,7 +3,7 @@ use Rattle.acas_outside.specs.Bytes.{Appends, AppendsPart}
 use Rattle.acas_outside.proofs.Appended.{on_err_always}
 use Rattle.acas_print.proofs.PrintedPieces.{part_of_waiting, prints_all}
 use Rattle.acas_table_commands.proofs.TableLines.{values_text-behind_nothing}
-use Rattle.acas_table_commands.proofs.table_lines.print_table.Goals as goal
+use Rattle.acas_table_commands.proofs.swept_lines.print_table.Goals as goal
 
 pub returns-in_err-print_layers-clause-err : goal.returns-in_err-print_layers-clause-err
 returns-in_err-print_layers-clause-err g c =
