@@ -5,19 +5,23 @@ use Rattle.std.proofs.lemmas.List.Sums.{sum_by_more, sum_by_more_le}
 use Rattle.acas_spec.specs.Limits.{IsModel}
 use Rattle.acas_spec.specs.Model.{GridData, ModelData, total_weight, vertices, weight_of}
 use Rattle.acas_spec.specs.declared.place.Point.{Point}
-use Rattle.acas_frac.specs.Rounding.{IsRounding}
+use Rattle.acas_spec.specs.declared.place.Vertex.{Vertex}
+use Rattle.acas_frac.specs.Rounding.{IsRounding, down, up}
 use Rattle.acas_frac.proofs.SignedProducts.{mul-add_ℤ}
 use Rattle.acas_grid.specs.Grid.{vertex_number}
 use Rattle.acas_units.specs.declared.pair.Pair.{Pair}
 use Rattle.acas_process.specs.Bounds.{interpolated}
-use Rattle.acas_process.specs.Step.{grid_product, over_vertices, share, sigma_weight}
+use Rattle.acas_process.specs.Step.{grid_product, moved, over_vertices, share, sigma_weight}
 use Rattle.acas_process.proofs.MeanLaws.{grid_product_pos}
 use Rattle.acas_process.specs.Sums.{sum_below}
 use Rattle.acas_step.specs.Ends.{IsRound, weight_of_cell}
 use Rattle.acas_step.specs.Layer.{layer_values, value_at}
-use Rattle.acas_step.specs.Narrow.{sum_over, weights_below}
+use Rattle.acas_step.specs.Narrow.{AreRaisedSums, IsRaisedPoint, sum_over, weights_below}
+use Rattle.acas_step.specs.Raised.{AreRaisedWithin}
 use Rattle.acas_step.specs.declared.cell.Cell.{Cell}
 use Rattle.acas_step.specs.declared.layer.Side.{Side}
+use Rattle.acas_step.specs.declared.layer.Side.TheVariants.{Upper, Lower}
+use Rattle.acas_step.specs.declared.raised.Raised.{Raised}
 use Rattle.acas_step.proofs.CornerLaws.{ends_interpolate, weight_of_cell-pos}
 use Rattle.acas_step.proofs.Quotients.{quotient_is}
 
@@ -55,6 +59,22 @@ raised_fits m by q w sum point here weight so at room =
     let scaled : w * point ≡ v * point = ap (λ (n : ℕ). n * point) weight in
     let whole : (2 * by) * (weights_below m q + v) ≤ (2 * by) * total_weight m = mul-le-mul_left (2 * by) (weights_most m q here) in
     omega (arith, so, scaled, whole, room, mul-le-mul_left v at)
+
+-- the same of both sides
+pub within_more : (m : ModelData) (by q w : ℕ) (sums point next : Raised) → q < length m.sigmas → w ≡ sigma_weight m q → AreRaisedWithin (2 * by * weights_below m q) sums → AreRaisedWithin (2 * by) point →
+    next.upper ≡ sums.upper + w * point.upper → next.lower ≡ sums.lower + w * point.lower → AreRaisedWithin (2 * by * weights_below m (q + 1)) next
+within_more m by q w sums point next here weight so at upper lower = record {
+  upper = raised_more m (2 * by) q w sums.upper point.upper next.upper here weight so.upper at.upper upper;
+  lower = raised_more m (2 * by) q w sums.lower point.lower next.lower here weight so.lower at.lower lower;
+}
+
+pub sums_more : (m : ModelData) (below : List Pair) (by : ℕ) (x : Vertex) (a q w : ℕ) (sums point next : Raised) → q < length m.sigmas → w ≡ sigma_weight m q → AreRaisedSums m below by x a q sums → IsRaisedPoint m below by a (moved m x a q) point →
+    next.upper ≡ sums.upper + w * point.upper → next.lower ≡ sums.lower + w * point.lower → AreRaisedSums m below by x a (q + 1) next
+sums_more m below by x a q w sums point next here weight so is upper lower = record {
+  upper = raised_step m (λ q. interpolated up m (layer_values Upper m.grid below) a (moved m x a q)) by q w sums.upper point.upper next.upper here weight so.upper is.upper upper;
+  lower = raised_step m (λ q. interpolated down m (layer_values Lower m.grid below) a (moved m x a q)) by q w sums.lower point.lower next.lower here weight so.lower is.lower lower;
+  within = within_more m by q w sums point next here weight so.within is.within upper lower;
+}
 
 -- a sum over the corners of a point's cell, over the cell's weight, rounded
 pub interpolated_is : (round : ℤ → ℤ → ℤ) → IsRounding round → (m : ModelData) (s : Point) (t : Cell) (a : ℕ) (side : Side) (below : List Pair) → IsModel m → IsRound m.grid s t →

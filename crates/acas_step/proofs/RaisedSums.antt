@@ -66,14 +66,6 @@ over_ends-raised g t first by f v n are fits e =
     (ap (λ (m : ℕ). m + length g.v0 * length g.v1) e ∙ next_h t.h.cell t.v0.cell t.v1.cell (length g.v0) (length g.v1) first))
     ∙ ap (λ (m : ℕ). at_both t.h plane +ℤ pos m) (weights_joined by (width t.h) (width t.v0) (width t.v1))
 
--- the last corner of a cell has the greatest number
-pub last_corner : (g : GridData) (t : Cell) (first n : ℕ) → FitsGrid g t → n ≡ first + vertex_number g (record { i = t.h.cell; j = t.v0.cell; k = t.v1.cell }) →
-    n + length g.v0 * length g.v1 + length g.v1 + 1 < first + vertices g
-last_corner g t first n fits e =
-    let y : Vertex = record { i = suc t.h.cell; j = suc t.v0.cell; k = suc t.v1.cell } in
-    let inside : IsVertex g y = record { i = omega (arith, fits.h.place); j = omega (arith, fits.v0.place); k = omega (arith, fits.v1.place) } in
-    omega (arith, (vertices-one_to_one g).below y inside, e)
-
 some_first : (a b c : ℕ) → 0 < a * b * c → 1 ≤ a
 some_first a b c some = factor_pos (a * b * c) a (b * c) some (omega arith)
 

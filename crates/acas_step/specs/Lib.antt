@@ -13,3 +13,4 @@ pub mod Stencils
 pub mod Reach
 pub mod Raised
 pub mod Narrow
+pub mod Columns

@@ -1,5 +1,5 @@
 -- Both sides of a layer at a point and their sums over points, raised so that none is below 0.
-use Rattle.std.specs.Prelude.{◌≡◌, ℕ, ◌*◌, ◌+◌, ◌≤◌, ℤ, pos, ◌+ℤ◌, ◌*ℤ◌, List, take, sum_by}
+use Rattle.std.specs.Prelude.{◌≡◌, ℕ, ◌*◌, ◌+◌, ℤ, pos, ◌+ℤ◌, ◌*ℤ◌, List, take, sum_by}
 use Rattle.acas_spec.specs.Model.{GridData, ModelData, weight_of}
 use Rattle.acas_spec.specs.Table.{Values}
 use Rattle.acas_spec.specs.declared.place.Point.{Point}
@@ -12,20 +12,16 @@ use Rattle.acas_process.specs.Sums.{sum_below}
 use Rattle.acas_units.specs.declared.pair.Pair.{Pair}
 use Rattle.acas_step.specs.Ends.{over_ends}
 use Rattle.acas_step.specs.Layer.{layer_values, value_at}
+use Rattle.acas_step.specs.Raised.{AreRaisedWithin}
 use Rattle.acas_step.specs.declared.cell.Cell.{Cell}
 use Rattle.acas_step.specs.declared.layer.Side.{Side}
 use Rattle.acas_step.specs.declared.layer.Side.TheVariants.{Upper, Lower}
-use Rattle.acas_step.specs.declared.narrow_means.Raised.{Raised}
+use Rattle.acas_step.specs.declared.raised.Raised.{Raised}
 
 -- the sum of a side's values at the corners of a cell by their weights, where the states of an advisory begin at `first`
 abbrev pub sum_over : GridData → Cell → ℕ → Side → List Pair → ℤ
 sum_over g t first side below =
     over_ends t (λ i j k. value_at side below (first + vertex_number g (record { i = i; j = j; k = k })))
-
--- neither number is more than so much
-pub record AreRaisedWithin (most : ℕ) (p : Raised) : Type 0 where
-  pub upper : p.upper ≤ most
-  pub lower : p.lower ≤ most
 
 -- both sides of a layer at a point, interpolated under the advisory a, rounded and raised
 pub record IsRaisedPoint (m : ModelData) (below : List Pair) (by a : ℕ) (s : Point) (p : Raised) : Type 0 where

@@ -2,7 +2,7 @@
 ghost use Rattle.std.specs.Prelude.{◌≡◌, ◌*◌, ◌+◌, ◌<◌, ◌≤◌, pos};
 ghost use Rattle.acas_spec.specs.Limits.{IsGrid};
 ghost use Rattle.acas_spec.specs.declared.place.Point.{Point};
-ghost use Rattle.acas_grid.specs.Axis.{IsBetweenEnds};
+ghost use Rattle.acas_grid.specs.Axis.{IsBetweenEnds, IsCell};
 ghost use Rattle.acas_grid.specs.Grid.{IsInside};
 ghost use Rattle.acas_step.specs.Corners.{AreCorners, IsInterpolation, IsWeighting};
 ghost use Rattle.acas_step.specs.Ends.{FitsGrid, IsCorner, IsEnds, IsRound, place_on, weight_of_cell, weight_on};
@@ -50,14 +50,44 @@ pub(crate) struct Cell {
     pub(crate) v1: Ends,
 }
 
+// The ends of the cell that begins at a place.
+fn ends_at(axis: &Axis, cell: u32, x: i64) -> Ends
+    requires { IsCell axis.now cell x }
+    ensures { IsEnds axis.now x result }
+{
+    let upper = x.abs_diff(axis.value(cell));
+    let lower = axis.value(cell + 1).abs_diff(x);
+    Ends { cell, lower, upper }
+}
+
 fn ends_of(axis: &Axis, x: i64) -> Ends
     requires { IsBetweenEnds axis.now x }
     ensures { IsEnds axis.now x result }
 {
-    let cell = axis.cell_of(x);
-    let upper = x.abs_diff(axis.value(cell));
-    let lower = axis.value(cell + 1).abs_diff(x);
-    Ends { cell, lower, upper }
+    ends_at(axis, axis.cell_of(x), x)
+}
+
+// The place where the cell of a number begins, looked for from a place on that is likely near it.
+fn place_near(axis: &Axis, near: u32, x: i64) -> u32
+    requires { IsBetweenEnds axis.now x }
+    ensures { IsCell axis.now result x }
+{
+    let last = axis.len() - 2;
+    let mut place = near.min(last);
+    while axis.value(place) > x {
+        place -= 1;
+    }
+    while place < last && axis.value(place + 1) <= x {
+        place += 1;
+    }
+    place
+}
+
+fn ends_near(axis: &Axis, near: u32, x: i64) -> Ends
+    requires { IsBetweenEnds axis.now x }
+    ensures { IsEnds axis.now x result }
+{
+    ends_at(axis, place_near(axis, near, x), x)
 }
 
 // The cell that holds a point of the grid.
@@ -71,6 +101,20 @@ pub(crate) fn cell_of(grid: &Grid, point: Point) -> Cell
         h: ends_of(&grid.h, point.h),
         v0: ends_of(&grid.v0, point.v0),
         v1: ends_of(&grid.v1, point.v1),
+    }
+}
+
+// The same, looked for from a vertex on that is likely near the point.
+pub(crate) fn cell_near(grid: &Grid, near: Vertex, point: Point) -> Cell
+    requires grid { IsGrid grid.now }
+    requires inside { IsInside grid.now point }
+    ensures round { IsRound grid.now point result }
+    ensures fits { FitsGrid grid.now result }
+{
+    Cell {
+        h: ends_near(&grid.h, near.i, point.h),
+        v0: ends_near(&grid.v0, near.j, point.v0),
+        v1: ends_near(&grid.v1, near.k, point.v1),
     }
 }
 

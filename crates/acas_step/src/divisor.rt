@@ -1,13 +1,15 @@
-//! Exact quotients by a divisor that is known beforehand, by a product in the place of a division (Granlund and Montgomery, Division
-//! by Invariant Integers using Multiplication, PLDI 1994).
-ghost use Rattle.std.specs.Prelude.{◌≡◌, ◌*◌, ◌/◌, ◌^◌, ◌<◌};
+//! Exact quotients by a divisor that is known beforehand, by a product in the place of a division: the round-down method (Robison,
+//! N-Bit Unsigned Division Via N-Bit Multiply-Add, 2005). It has no correction, for all numbers below 2^63.
+ghost use Rattle.std.specs.Prelude.{◌≡◌, ◌+◌, ◌-◌, ◌*◌, ◌/◌, ◌^◌, ◌<◌, ◌≤◌};
 ghost use Rattle.acas_step.specs.Divisor.{IsDivisor};
 
-/// A divisor above 0, and how often it goes into the greatest number of 64 bits.
+/// A divisor above 0, with the number of its binary digits below the highest one, and how often it goes into the greatest number of
+/// 64 digits more than these.
 #[derive(Clone, Copy, Debug)]
 pub(crate) struct Divisor {
     pub(crate) by: u64,
-    inverse: u64,
+    multiplier: u64,
+    shift: u8,
 }
 
 // The upper 64 bits of a product.
@@ -24,24 +26,30 @@ impl Divisor {
         ensures divisor { IsDivisor result }
         ensures by { result.by ≡ by }
     {
+        let shift = by.ilog2();
+        let greatest = (1u128 << (64 + shift)) - 1;
         Divisor {
             by,
-            inverse: u64::MAX / by,
+            multiplier: (greatest / u128::from(by)) as u64,
+            shift: shift as u8,
         }
     }
 
     /// The quotient of a number by the divisor, rounded down.
     pub(crate) fn down(self, x: u64) -> u64
-        requires { IsDivisor self }
+        requires divisor { IsDivisor self }
+        requires room { x < 2 ^ 63 }
         ensures { result ≡ x / self.by }
     {
-        // The quotient, or one less.
-        let estimate = upper_half(x, self.inverse);
-        let rest = x - estimate * self.by;
-        if rest < self.by {
-            estimate
-        } else {
-            estimate + 1
-        }
+        upper_half(x + 1, self.multiplier) >> self.shift
+    }
+
+    /// The quotient of a number by the divisor, rounded up.
+    pub(crate) fn up(self, x: u64) -> u64
+        requires divisor { IsDivisor self }
+        requires room { x + self.by ≤ 2 ^ 63 }
+        ensures { result ≡ (x + (self.by - 1)) / self.by }
+    {
+        upper_half(x + self.by, self.multiplier) >> self.shift
     }
 }

@@ -1,7 +1,6 @@
 //! Both means of a layer at a vertex under an advisory. They do not depend on the present advisory, so each is formed once and
 //! serves every state that may choose the advisory there.
 ghost use Rattle.std.specs.Prelude.{◌≡◌, ℕ, ◌<◌, ◌≤◌, length, unsigned_abs};
-ghost use Rattle.acas_spec.specs.Limits.{IsModel};
 ghost use Rattle.acas_spec.specs.Model.{states, vertices};
 ghost use Rattle.acas_spec.specs.Table.{Table};
 ghost use Rattle.acas_grid.specs.States as numbers;

@@ -1,7 +1,7 @@
 //! How large the values of a layer are, and under which advisories they are the same.
-ghost use Rattle.std.specs.Prelude.{◌≡◌, ◌+◌, ◌*◌, ◌^◌, ◌<◌, ◌≤◌, length, unsigned_abs};
+ghost use Rattle.std.specs.Prelude.{◌≡◌, ◌+◌, ◌*◌, ◌^◌, ◌<◌, ◌≤ℤ◌, length};
 ghost use Rattle.acas_spec.specs.Model.{states};
-ghost use Rattle.acas_step.specs.Layer.{AreWithin, value_of};
+ghost use Rattle.acas_step.specs.Layer.{AreWithin};
 ghost use Rattle.acas_step.specs.Reach.{IsReach};
 ghost use Rattle.acas_step.specs.declared.layer.Side.{Side};
 
@@ -22,13 +22,26 @@ pub struct Reach {
     pub(crate) likes: Likes,
 }
 
-// The larger of a size and those of a pair's values.
-fn size_with(size: u64, pair: Pair) -> u64
-    ensures old { size ≤ result }
-    ensures pair { (side : Side) → unsigned_abs (value_of side pair) ≤ result }
+// The least and the greatest of 0 and some values, of both sides.
+#[derive(Clone, Copy)]
+struct Span {
+    least: i64,
+    greatest: i64,
+}
+
+// The same with a pair's values.
+fn span_with(span: Span, pair: Pair) -> Span
+    ensures least { result.least ≤ℤ span.least }
+    ensures greatest { span.greatest ≤ℤ result.greatest }
+    ensures upper_above { result.least ≤ℤ pair.upper }
+    ensures lower_above { result.least ≤ℤ pair.lower }
+    ensures upper_below { pair.upper ≤ℤ result.greatest }
+    ensures lower_below { pair.lower ≤ℤ result.greatest }
 {
-    size.max(pair.upper.unsigned_abs())
-        .max(pair.lower.unsigned_abs())
+    Span {
+        least: span.least.min(pair.upper).min(pair.lower),
+        greatest: span.greatest.max(pair.upper).max(pair.lower),
+    }
 }
 
 // The greatest whole weight by which sums of values of a size surely have 64 bits, even where each is raised by the size.
@@ -45,11 +58,14 @@ fn widest_of(size: u64) -> u64
 fn size_of(below: &[Pair]) -> u64
     ensures { (side : Side) → AreWithin result side below.now }
 {
-    let mut size = 0;
+    let mut span = Span {
+        least: 0,
+        greatest: 0,
+    };
     for pair in below {
-        size = size_with(size, *pair);
+        span = span_with(span, *pair);
     }
-    size
+    span.greatest.unsigned_abs().max(span.least.unsigned_abs())
 }
 
 /// The reach of a layer, found by one look at each of its values, and by comparing advisories as far as their pairs are the same.

@@ -1,18 +1,19 @@
 //! Where the sigma points lead from each vertex under each advisory, found once for all layers.
 ghost use Rattle.std.specs.Prelude.{◌≡◌, ℕ, ◌+◌, ◌*◌, ◌<◌, ◌≤◌, ℤ, length, get_or, IfOk};
-ghost use Rattle.acas_spec.specs.Limits.{IsGrid, IsModel};
+ghost use Rattle.acas_spec.specs.Limits.{IsGrid};
 ghost use Rattle.acas_spec.specs.Model.{states, vertices};
 ghost use Rattle.acas_spec.specs.declared.place.Point.{Point};
 ghost use Rattle.acas_grid.specs.Grid.{IsInside};
 ghost use Rattle.acas_grid.specs.States as numbers;
 ghost use Rattle.acas_process.specs.Step as process;
+ghost use Rattle.acas_step.specs.Columns.{HoldsRates};
 ghost use Rattle.acas_step.specs.Corners.{AreCorners, IsInterpolation, IsWeighting};
 ghost use Rattle.acas_step.specs.Ends.{FitsGrid, IsEnds, IsRound};
 ghost use Rattle.acas_step.specs.Stencils.{AreStencils, AreStencilsOf, IsAbove, IsStencil, point_of, stencil_count};
 ghost use Rattle.acas_step.specs.Units.{AreUnits, DivideGaps, DivideOffsets, DivideUnits, IsCountedIn, IsUnitCell, IsVertexCell};
 ghost use Rattle.acas_step.specs.declared.stencils.Stencil.{Stencil};
 
-use crate::cell::{Cell, CornerSet, Ends, cell_of, corner_set};
+use crate::cell::{Cell, CornerSet, Ends, cell_near, corner_set};
 use crate::divisor::Divisor;
 use crate::second::moved_from;
 use crate::units::{Units, common, gap_at, grid_units, in_unit};
@@ -90,7 +91,8 @@ fn stencil_at(model: &Model, number: u32) -> Stencil
     ensures { IsStencil model.now.grid (record { h = 1; v0 = 1; v1 = 1 }) (point_of model.now number) result }
 {
     let grid = model.grid();
-    stencil_of(grid, &cell_of(grid, led_to(model, number)))
+    let near = state_vertex(grid, number / model.points().len() as u32);
+    stencil_of(grid, &cell_near(grid, near, led_to(model, number)))
 }
 
 // How many stencils a model has.
@@ -252,7 +254,7 @@ fn unit_cell_of(grid: &Grid, units: Units, above: VertexCell, stencil: Stencil) 
 }
 
 impl Stencils {
-    /// The stencils of a model. It takes 16 bytes for each, and at horizon 0 there are none; and it takes 32 bytes for each vertex.
+    /// The stencils of a model. It takes 16 bytes for each, and at horizon 0 there are none; and it takes 40 bytes for each vertex.
     /// It fails only for want of memory.
     pub fn make(alloc: Global, model: &Model) -> Result<Stencils, AllocError>
         ensures { IfOk result (λ stencils. AreStencilsOf model.now stencils) }
@@ -318,6 +320,42 @@ impl Stencils {
         let stencil = self.stencil(model, vertex, advisory, sigma);
         let above = self.cells[stencil.base as usize];
         unit_cell_of(model.grid(), self.units, above, stencil)
+    }
+
+    // The cell in units to which a sigma point leads from a vertex within a second under an advisory, where the rates are in a cell
+    // that is known.
+    pub(crate) fn cell_at_rates(
+        &self,
+        model: &Model,
+        vertex: u32,
+        advisory: u8,
+        sigma: u32,
+        rates: &Cell,
+    ) -> UnitCell
+        requires stencils { AreStencilsOf model.now self.now }
+        requires horizon { 0 < model.now.grid.horizon }
+        requires vertex { vertex < vertices model.now.grid }
+        requires advisory { advisory < model.now.grid.advisories }
+        requires sigma { sigma < length model.now.sigmas }
+        requires rates { let x = numbers.vertex_at model.now.grid vertex in
+            HoldsRates model.now.grid self.now.units (process.moved model.now x advisory sigma) rates.now }
+        ensures cell { let x = numbers.vertex_at model.now.grid vertex in
+            IsUnitCell model.now.grid self.now.units (process.moved model.now x advisory sigma) result }
+        ensures v0 { result.cell.v0 ≡ rates.now.v0 }
+        ensures v1 { result.cell.v1 ≡ rates.now.v1 }
+    {
+        let _ = model.grid();
+        let stencil = self.stencil(model, vertex, advisory, sigma);
+        let corner = self.cells[stencil.base as usize];
+        UnitCell {
+            cell: Cell {
+                h: ends_in(corner.i, corner.h, stencil.h),
+                v0: rates.v0,
+                v1: rates.v1,
+            },
+            base: stencil.base,
+            divisor: corner.divisor,
+        }
     }
 
     /// The corners of the cell to which a sigma point leads from a vertex within a second under an advisory: those that `corners`

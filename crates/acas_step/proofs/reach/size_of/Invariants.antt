@@ -1,7 +1,11 @@
-use Rattle.std.proofs.Common.{ℕ, ◌<◌, ◌≤◌, unsigned_abs}
-use Rattle.acas_step.specs.Layer.{value_at}
-use Rattle.acas_step.specs.declared.layer.Side.{Side}
+use Rattle.std.proofs.Common.{ℕ, ◌<◌, ◌≤ℤ◌}
+use Rattle.acas_step.specs.Layer.{pair_at}
 use Rattle.acas_step.proofs.reach.size_of.Given as goal
 
 abbrev pub invariant-loop-pair : goal.invariant-loop-pair
-invariant-loop-pair l = (place : ℕ) (side : Side) → place < l.pair-index → unsigned_abs (value_at side l.below place) ≤ l.size
+invariant-loop-pair l = record {
+  upper_above : (place : ℕ) → place < l.pair-index → l.span.least ≤ℤ (pair_at l.below place).upper;
+  lower_above : (place : ℕ) → place < l.pair-index → l.span.least ≤ℤ (pair_at l.below place).lower;
+  upper_below : (place : ℕ) → place < l.pair-index → (pair_at l.below place).upper ≤ℤ l.span.greatest;
+  lower_below : (place : ℕ) → place < l.pair-index → (pair_at l.below place).lower ≤ℤ l.span.greatest;
+}

@@ -1,0 +1,36 @@
+//! The columns of a grid: the vertices that have the same rates, altitude by altitude.
+ghost use Rattle.std.specs.Prelude.{◌≡◌, ◌*◌, ◌<◌, length};
+ghost use Rattle.acas_spec.specs.Model.{vertices};
+ghost use Rattle.acas_step.specs.Columns.{column_of, columns, vertex_in};
+ghost use Rattle.acas_step.specs.Ends.{FitsGrid};
+
+use crate::cell::Cell;
+use acas_grid::Grid;
+
+/// How many columns of vertices a grid has: one for each own rate and intruder rate.
+pub fn column_count(grid: &Grid) -> u32
+    ensures { result ≡ columns grid.now }
+{
+    grid.v0.len() * grid.v1.len()
+}
+
+/// The number of the vertex of a column at a place of the altitudes.
+pub fn vertex_in_column(grid: &Grid, column: u32, i: u32) -> u32
+    requires column { column < columns grid.now }
+    requires place { i < length grid.now.h }
+    ensures value { result ≡ vertex_in grid.now column i }
+    ensures below { result < vertices grid.now }
+{
+    // Opens the axes: there are so few vertices that their numbers are small.
+    let _ = grid.vertices();
+    i * column_count(grid) + column
+}
+
+/// The number of the column at the lower corner of a cell.
+pub(crate) fn column_of_cell(grid: &Grid, cell: &Cell) -> u32
+    requires { FitsGrid grid.now cell.now }
+    ensures value { result ≡ column_of grid.now cell.now }
+    ensures below { result < columns grid.now }
+{
+    cell.v0.cell * grid.v1.len() + cell.v1.cell
+}
