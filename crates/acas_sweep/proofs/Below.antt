@@ -1,5 +1,5 @@
 -- The layers below a number of seconds to go, layer by layer.
-use Rattle.std.proofs.Common.{◌≡◌, ℕ, zero, suc, ◌+◌, ◌-◌, ◌*◌, ◌<◌, ◌≤◌, inl, inr, ⊎_elim, pos, List, length, get_or, take, drop, ◌++◌, refl, ap, sym, subst, ◌∙◌, arith}
+use Rattle.std.proofs.Common.{◌≡◌, ℕ, zero, suc, ◌+◌, ◌-◌, ◌*◌, ◌%◌, ◌<◌, ◌≤◌, inl, inr, ⊎_elim, pos, List, length, get_or, take, drop, ◌++◌, refl, ap, sym, subst, ◌∙◌, arith}
 use Rattle.std.proofs.lemmas.List.{get_or-append-add, get_or-drop, get_or-take, get_or_append_left, length-drop, length-take, take_all}
 use Rattle.std.proofs.Math.Nat.{mul-le-mul_right}
 use Rattle.std.proofs.Math.Seq.{take-append_seam}
@@ -23,6 +23,7 @@ use Rattle.acas_step.specs.declared.layer.Side.TheVariants.{Upper, Lower}
 use Rattle.acas_sweep.specs.Entries.{AreBelow, AreOver, IsWhole, listed_entry}
 use Rattle.acas_sweep.specs.Layers.{AreLayers, LayersData}
 use Rattle.acas_sweep.proofs.Placed.{below_or_at}
+use Rattle.acas_sweep.proofs.Turns.{turn-below}
 use Rattle.acas_grid.proofs.StateNumbers.{state_present-below}
 
 pub below_one : (m : ModelData) (pairs : List Pair) (advice : List ℕ)
@@ -80,7 +81,7 @@ pub next_entry : (m : ModelData) (k : ℕ) (below pairs : List Pair) (advice : L
     → (s : ℕ) → s < states m.grid → IsStateEntry m (compiled m) (suc k) s (listed_entry pairs advice s)
 next_entry m k below pairs advice valid are over s h =
     let known = state_present-below m.grid s h in
-    let here = over.entry s h (mod_below s (vertices m.grid) (some_width m.grid.advisories (vertices m.grid) s h)) in
+    let here = over.entry s h (turn-below m.grid (s % vertices m.grid) (mod_below s (vertices m.grid) (some_width m.grid.advisories (vertices m.grid) s h))) in
     record {
       upper = here.upper ∙ next_layer up m k (layer_values Upper m.grid below) valid upper (state_present m.grid s) (state_vertex m.grid s) known;
       lower = here.lower ∙ next_layer down m k (layer_values Lower m.grid below) valid lower (state_present m.grid s) (state_vertex m.grid s) known;

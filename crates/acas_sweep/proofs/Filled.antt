@@ -1,4 +1,4 @@
--- A plane that is written vertex by vertex, and at a vertex present advisory by present advisory.
+-- A plane that is written vertex by vertex in the order of turns, and at a vertex present advisory by present advisory.
 use Rattle.std.proofs.Common.{◌≡◌, ◌≢◌, ℕ, ◌+◌, ◌<◌, ◌≤◌, inl, inr, ⊎_elim, List, [], ◌∷◌, length, map, set, replicate, refl, ap, sym, subst, ◌∙◌, arith}
 use Rattle.std.specs.Prelude.{Option, Some, None, unwrap_or}
 use Rattle.std.proofs.lemmas.List.{get_or-replicate, length-map, length-replicate, length-set, map-set}
@@ -13,6 +13,7 @@ use Rattle.acas_plane.specs.Plane.{IsFree, Plane, missing_in, with_pair}
 use Rattle.acas_plane.proofs.Masks.{missing_in-none, missing_in-set}
 use Rattle.acas_step.specs.Layer.{no_pair}
 use Rattle.acas_sweep.specs.Filled.{IsAhead, IsFilledTo, pairs_in}
+use Rattle.acas_sweep.specs.Turns.{turn}
 
 -- ---- the pairs that were written
 
@@ -44,10 +45,10 @@ filled_none g plane same empty = record {
 }
 
 -- the next place was not written
-pub next_free : (g : GridData) (v p : ℕ) (plane : Plane) → v < vertices g → p < g.advisories → IsFilledTo g v p plane → IsFree plane.work (state_number g p v)
+pub next_free : (g : GridData) (v p : ℕ) (plane : Plane) → v < vertices g → p < g.advisories → IsFilledTo g (turn g v) p plane → IsFree plane.work (state_number g p v)
 next_free g v p plane inside known so_far = so_far.free v p inside known (inr (refl, omega arith))
 
-pub filled_next : (g : GridData) (v p : ℕ) (plane : Plane) (x : Pair) → v < vertices g → p < g.advisories → IsFilledTo g v p plane → IsFilledTo g v (p + 1) (with_pair plane (state_number g p v) x)
+pub filled_next : (g : GridData) (v p : ℕ) (plane : Plane) (x : Pair) → v < vertices g → p < g.advisories → IsFilledTo g (turn g v) p plane → IsFilledTo g (turn g v) (p + 1) (with_pair plane (state_number g p v) x)
 filled_next g v p plane x inside known so_far = record {
   state_count = so_far.state_count;
   place_count = length-set plane.work (state_number g p v) (Some x) ∙ so_far.place_count;
@@ -55,10 +56,10 @@ filled_next g v p plane x inside known so_far = record {
   free = λ w q wi qi ahead. slice_get-set_other plane.work (state_number g p v) (state_number g q w) (Some x) (apart w q wi ahead) ∙ so_far.free w q wi qi (earlier w q ahead);
 }
   where
-    earlier : (w q : ℕ) → IsAhead v (p + 1) w q → IsAhead v p w q
-    earlier w q ahead = ⊎_elim (λ (l : v < w). inl l) (λ (h : (w ≡ v) × (p + 1 ≤ q)). inr (h.0, omega (arith, h.1))) ahead
+    earlier : (w q : ℕ) → IsAhead (turn g v) (p + 1) (turn g w) q → IsAhead (turn g v) p (turn g w) q
+    earlier w q ahead = ⊎_elim (λ (l : turn g v < turn g w). inl l) (λ (h : (turn g w ≡ turn g v) × (p + 1 ≤ q)). inr (h.0, omega (arith, h.1))) ahead
 
-    apart : (w q : ℕ) → w < vertices g → IsAhead v (p + 1) w q → state_number g q w ≢ state_number g p v
+    apart : (w q : ℕ) → w < vertices g → IsAhead (turn g v) (p + 1) (turn g w) q → state_number g q w ≢ state_number g p v
     apart w q wi ahead same =
         let parts = same_from_place q w p v (vertices g) wi inside same in
-        ⊎_elim (λ (l : v < w). absurd (omega (arith, parts.1))) (λ (h : (w ≡ v) × (p + 1 ≤ q)). absurd (omega (arith, parts.0, h.1))) ahead
+        ⊎_elim (λ (l : turn g v < turn g w). absurd (omega (arith, ap (λ (u : ℕ). turn g u) parts.1))) (λ (h : (turn g w ≡ turn g v) × (p + 1 ≤ q)). absurd (omega (arith, parts.0, h.1))) ahead

@@ -6,3 +6,4 @@ pub mod Counts
 pub mod Filled
 pub mod Handed
 pub mod Placed
+mod Turns

@@ -1,5 +1,5 @@
 -- Entries over the layer below, vertex by vertex.
-use Rattle.std.proofs.Common.{◌≡◌, ◌≢◌, ℕ, ◌+◌, ◌%◌, ◌<◌, ◌+ℤ◌, List, length, set, ap, ◌∙◌}
+use Rattle.std.proofs.Common.{◌≡◌, ◌≢◌, ℕ, zero, suc, ◌+◌, ◌%◌, ◌<◌, ◌≤◌, ◌+ℤ◌, unsigned_abs, List, length, set, replicate, ap, ◌∙◌, arith}
 use Rattle.std.proofs.lemmas.Nat.{mod-mul-add}
 use Rattle.acas_spec.specs.Limits.{IsModel}
 use Rattle.acas_spec.specs.Model.{GridData, ModelData, choices_at, vertices}
@@ -11,15 +11,37 @@ use Rattle.acas_process.specs.Bounds.{choice_value, millionths}
 use Rattle.acas_process.specs.Cost.{MayChoose, cost_of}
 use Rattle.acas_process.proofs.ModelLaws.{is_chosen}
 use Rattle.acas_step.specs.Choices.{value_by_mean}
-use Rattle.acas_step.specs.Layer.{layer_values, value_at}
+use Rattle.acas_step.specs.Columns.{pairs_at}
+use Rattle.acas_step.specs.Layer.{AreWithin, layer_values, no_pair, value_at}
 use Rattle.acas_step.specs.Means.{AreVertexMeans}
 use Rattle.acas_process.proofs.Least.{first_least-same, least-same}
 use Rattle.acas_grid.specs.States.{vertex_at}
+use Rattle.acas_step.specs.declared.layer.Side.{Side}
 use Rattle.acas_step.specs.declared.layer.Side.TheVariants.{Upper, Lower}
-use Rattle.acas_sweep.specs.Entries.{AreOver, IsOver, SameElsewhere, listed_entry}
+use Rattle.acas_sweep.specs.Entries.{AreAllSmall, AreOver, IsOver, SameElsewhere, greatest_value, listed_entry}
 use Rattle.acas_sweep.specs.Best.{AreBest, IsBest}
+use Rattle.acas_sweep.specs.Turns.{turn}
 use Rattle.acas_sweep.proofs.Placed.{entries_next, states_next}
 use Rattle.acas_sweep.proofs.Written.{listed_entry-other}
+
+-- ---- pairs that are small
+
+-- no value is larger than any other number in lists of zeros
+none_within : (most : ℕ) (side : Side) (k place : ℕ) → unsigned_abs (value_at side (replicate k no_pair) place) ≤ most
+none_within most Upper zero place = omega arith
+none_within most Lower zero place = omega arith
+none_within most Upper (suc k) zero = omega arith
+none_within most Lower (suc k) zero = omega arith
+none_within most Upper (suc k) (suc place) = none_within most Upper k place
+none_within most Lower (suc k) (suc place) = none_within most Lower k place
+
+all_within : (most : ℕ) (side : Side) (n k i : ℕ) → AreWithin most side (pairs_at (replicate n (replicate k no_pair)) i)
+all_within most side zero k i = record { bounded = λ place room. absurd (omega (arith, room)) }
+all_within most side (suc n) k zero = record { bounded = λ place room. none_within most side k place }
+all_within most side (suc n) k (suc i) = all_within most side n k i
+
+pub none_small : (n k : ℕ) → AreAllSmall (replicate n (replicate k no_pair))
+none_small n k = record { upper = record { each = all_within greatest_value Upper n k }; lower = record { each = all_within greatest_value Lower n k } }
 
 -- ---- present by present
 
@@ -55,10 +77,10 @@ over_best m below means v p e valid known are best = record {
     lower : (a : ℕ) → MayChoose m p a → value_by_mean m p (value_at Lower means) a ≡ choice_value down m (layer_values Lower m.grid below) p (vertex_at m.grid v) a
     lower a chosen = ap (λ z. z +ℤ millionths (cost_of m p a)) ((are.each a ((is_chosen m p a valid known chosen).inside)).lower)
 
-pub over_next : (m : ModelData) (below means : List Pair) (v : ℕ) (pairs : List Pair) (advice : List ℕ) (pairs' : List Pair) (advice' : List ℕ) → IsModel m
-    → AreVertexMeans m below (vertex_at m.grid v) means
-    → AreOver m below v pairs advice → AreBest m means v m.grid.advisories pairs' advice' → SameElsewhere m.grid v pairs advice pairs' advice' → AreOver m below (v + 1) pairs' advice'
-over_next m below means v pairs advice pairs' advice' valid are so_far best others = record {
-  entry = states_next m.grid (λ (p w : ℕ) (x : Entry). IsOver m below p (vertex_at m.grid w) x) v pairs advice pairs' advice' so_far.entry
+pub over_next : (m : ModelData) (below means : List Pair) (v c : ℕ) (pairs : List Pair) (advice : List ℕ) (pairs' : List Pair) (advice' : List ℕ) → IsModel m
+    → v < vertices m.grid → turn m.grid v ≡ c → AreVertexMeans m below (vertex_at m.grid v) means
+    → AreOver m below c pairs advice → AreBest m means v m.grid.advisories pairs' advice' → SameElsewhere m.grid v pairs advice pairs' advice' → AreOver m below (c + 1) pairs' advice'
+over_next m below means v c pairs advice pairs' advice' valid inside is are so_far best others = record {
+  entry = states_next m.grid (λ (p w : ℕ) (x : Entry). IsOver m below p (vertex_at m.grid w) x) v c pairs advice pairs' advice' inside is so_far.entry
       (λ p known. over_best m below means v p (listed_entry pairs' advice' (state_number m.grid p v)) valid known are (best.entry p known)) others;
 }

@@ -1,17 +1,20 @@
 -- Entries at one vertex, present advisory by present advisory, and then vertex by vertex.
 use Rattle.std.proofs.Common.{◌≡◌, ◌≢◌, ℕ, ◌+◌, ◌*◌, ◌%◌, ◌<◌, ◌≤◌, ◌⊎◌, inl, inr, ⊎_elim, List, length, set, ap, sym, subst, ◌∙◌, arith}
 use Rattle.std.proofs.lemmas.Bool.{cases_lt}
-use Rattle.std.proofs.lemmas.Nat.{div-add-mod', same_from_place}
+use Rattle.std.proofs.lemmas.Nat.{div-add-mod', mod_below, same_from_place}
 use Rattle.acas_spec.specs.Model.{GridData, ModelData, states, vertices}
 use Rattle.acas_grid.specs.Grid.{state_number}
 use Rattle.acas_grid.specs.States.{state_present, vertex_at}
 use Rattle.acas_grid.proofs.StateNumbers.{state_present-below}
+use Rattle.acas_grid.proofs.Vertices.{some_width}
 use Rattle.acas_units.specs.declared.pair.Entry.{Entry}
 use Rattle.acas_units.specs.declared.pair.Pair.{Pair}
 use Rattle.acas_process.specs.Compiled.{compiled}
 use Rattle.acas_step.specs.Entries.{IsEntryOf, IsStateEntry}
 use Rattle.acas_sweep.specs.Entries.{SameElsewhere, listed_entry}
 use Rattle.acas_sweep.specs.Filled.{AreEndings}
+use Rattle.acas_sweep.specs.Turns.{turn}
+use Rattle.acas_sweep.proofs.Turns.{turn-same}
 use Rattle.acas_sweep.proofs.Written.{listed_entry-other, listed_entry-written}
 
 -- a number below the next one is below or at this one
@@ -29,19 +32,22 @@ entries_next g P v p pairs advice e inside h k so_far written q below = ⊎_elim
     (subst (λ (x : Entry). P p x) (sym (listed_entry-written pairs advice (state_number g p v) e h k)) written))
     (below_or_at q p below)
 
--- of the entries at the vertices below one, and of those at that vertex
-pub states_next : (g : GridData) (P : ℕ → ℕ → Entry → Type 0) (v : ℕ) (pairs : List Pair) (advice : List ℕ) (pairs' : List Pair) (advice' : List ℕ)
-    → ((s : ℕ) → s < states g → s % vertices g < v → P (state_present g s) (s % vertices g) (listed_entry pairs advice s))
+-- of the entries at the vertices before one in the order of turns, and of those at that vertex
+pub states_next : (g : GridData) (P : ℕ → ℕ → Entry → Type 0) (v c : ℕ) (pairs : List Pair) (advice : List ℕ) (pairs' : List Pair) (advice' : List ℕ)
+    → v < vertices g → turn g v ≡ c
+    → ((s : ℕ) → s < states g → turn g (s % vertices g) < c → P (state_present g s) (s % vertices g) (listed_entry pairs advice s))
     → ((p : ℕ) → p < g.advisories → P p v (listed_entry pairs' advice' (state_number g p v))) → SameElsewhere g v pairs advice pairs' advice'
-    → (s : ℕ) → s < states g → s % vertices g < v + 1 → P (state_present g s) (s % vertices g) (listed_entry pairs' advice' s)
-states_next g P v pairs advice pairs' advice' so_far at_vertex others s inside h = ⊎_elim
-    (λ (l : s % vertices g < v). let apart : s % vertices g ≢ v = λ same. absurd (omega arith) in
+    → (s : ℕ) → s < states g → turn g (s % vertices g) < c + 1 → P (state_present g s) (s % vertices g) (listed_entry pairs' advice' s)
+states_next g P v c pairs advice pairs' advice' known is so_far at_vertex others s inside h = ⊎_elim
+    (λ (l : turn g (s % vertices g) < c). let apart : s % vertices g ≢ v = λ same. absurd (omega (arith, is, ap (λ (w : ℕ). turn g w) same)) in
     subst (λ (x : Entry). P (state_present g s) (s % vertices g) x) (sym (others.entry s apart)) (so_far s inside l))
-    (λ (here : s % vertices g ≡ v).
+    (λ (now : turn g (s % vertices g) ≡ c).
+    let place = mod_below s (vertices g) (some_width g.advisories (vertices g) s inside) in
+    let here : s % vertices g ≡ v = turn-same g (s % vertices g) v place known (now ∙ sym is) in
     let number : state_number g (state_present g s) v ≡ s = ap (λ (n : ℕ). state_present g s * vertices g + n) (sym here) ∙ div-add-mod' s (vertices g) in
     subst (λ (n : ℕ). P (state_present g s) n (listed_entry pairs' advice' s)) (sym here)
     (subst (λ (n : ℕ). P (state_present g s) v (listed_entry pairs' advice' n)) number (at_vertex (state_present g s) (state_present-below g s inside))))
-    (below_or_at (s % vertices g) v h)
+    (below_or_at (turn g (s % vertices g)) c h)
 
 -- ---- with no second to go
 
@@ -53,9 +59,10 @@ endings_next m v p pairs advice e inside h k so_far ending = record {
       (record { upper = ending.upper; lower = ending.lower; advice = ending.advice });
 }
 
-pub first_next : (m : ModelData) (v : ℕ) (pairs : List Pair) (advice : List ℕ) (pairs' : List Pair) (advice' : List ℕ)
-    → ((s : ℕ) → s < states m.grid → s % vertices m.grid < v → IsStateEntry m (compiled m) 0 s (listed_entry pairs advice s))
+pub first_next : (m : ModelData) (v c : ℕ) (pairs : List Pair) (advice : List ℕ) (pairs' : List Pair) (advice' : List ℕ)
+    → v < vertices m.grid → turn m.grid v ≡ c
+    → ((s : ℕ) → s < states m.grid → turn m.grid (s % vertices m.grid) < c → IsStateEntry m (compiled m) 0 s (listed_entry pairs advice s))
     → AreEndings m v m.grid.advisories pairs' advice' → SameElsewhere m.grid v pairs advice pairs' advice'
-    → (s : ℕ) → s < states m.grid → s % vertices m.grid < v + 1 → IsStateEntry m (compiled m) 0 s (listed_entry pairs' advice' s)
-first_next m v pairs advice pairs' advice' so_far endings others =
-    states_next m.grid (λ (p w : ℕ) (x : Entry). IsEntryOf (compiled m) 0 p (vertex_at m.grid w) x) v pairs advice pairs' advice' so_far endings.entry others
+    → (s : ℕ) → s < states m.grid → turn m.grid (s % vertices m.grid) < c + 1 → IsStateEntry m (compiled m) 0 s (listed_entry pairs' advice' s)
+first_next m v c pairs advice pairs' advice' known is so_far endings others =
+    states_next m.grid (λ (p w : ℕ) (x : Entry). IsEntryOf (compiled m) 0 p (vertex_at m.grid w) x) v c pairs advice pairs' advice' known is so_far endings.entry others

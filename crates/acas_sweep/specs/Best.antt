@@ -11,11 +11,10 @@ use Rattle.acas_step.specs.Layer.{value_at}
 use Rattle.acas_step.specs.declared.layer.Side.TheVariants.{Upper, Lower}
 use Rattle.acas_sweep.specs.Entries.{listed_entry}
 
--- an entry has the two values of a choice, and advises it
-pub record IsValued (m : ModelData) (vertex_means : List Pair) (p : ℕ) (c : Choice) (e : Entry) : Type 0 where
-  pub upper : e.pair.upper ≡ value_by_mean m p (value_at Upper vertex_means) c.advisory
-  pub lower : e.pair.lower ≡ value_by_mean m p (value_at Lower vertex_means) c.advisory
-  pub advice : e.advice ≡ c.advisory
+-- a pair has the two values of a choice
+pub record IsValued (m : ModelData) (vertex_means : List Pair) (p : ℕ) (c : Choice) (pair : Pair) : Type 0 where
+  pub upper : pair.upper ≡ value_by_mean m p (value_at Upper vertex_means) c.advisory
+  pub lower : pair.lower ≡ value_by_mean m p (value_at Lower vertex_means) c.advisory
 
 -- an entry has the least values of some choices, and the first choice that has the least upper value
 pub record IsBest (m : ModelData) (vertex_means : List Pair) (p : ℕ) (choices : List Choice) (e : Entry)

@@ -9,9 +9,11 @@ use Rattle.acas_units.specs.declared.pair.Entry.{Entry}
 use Rattle.acas_units.specs.declared.pair.Pair.{Pair}
 use Rattle.acas_process.specs.Bounds.{choice_value}
 use Rattle.acas_process.specs.Compiled.{compiled, first_least, least}
+use Rattle.acas_step.specs.Columns.{AreAllWithin}
 use Rattle.acas_step.specs.Entries.{IsStateEntry}
 use Rattle.acas_step.specs.Layer.{AreWithin, layer_values, pair_at}
 use Rattle.acas_step.specs.declared.layer.Side.TheVariants.{Upper, Lower}
+use Rattle.acas_sweep.specs.Turns.{turn}
 
 -- the pair and the advice at a place
 abbrev pub listed_entry : List Pair → List ℕ → ℕ → Entry
@@ -31,6 +33,11 @@ pub record AreSmall (pairs : List Pair) : Type 0 where
   pub upper : AreWithin greatest_value Upper pairs
   pub lower : AreWithin greatest_value Lower pairs
 
+-- no value in any of these lists is larger
+pub record AreAllSmall (lists : List (List Pair)) : Type 0 where
+  pub upper : AreAllWithin greatest_value Upper lists
+  pub lower : AreAllWithin greatest_value Lower lists
+
 -- a layer has such a pair for each state
 pub record IsWhole (m : ModelData) (below : List Pair) : Type 0 where
   pub count : length below ≡ states m.grid
@@ -43,10 +50,10 @@ pub record IsOver (m : ModelData) (below : List Pair) (p : ℕ) (x : Vertex) (e 
   pub advice : e.advice
       ≡ first_least (choice_value up m (layer_values Upper m.grid below) p x) (choices_at m p)
 
--- the entries of all states at the vertices below a number are over the layer below
-pub record AreOver (m : ModelData) (below : List Pair) (number : ℕ) (pairs : List Pair) (advice : List ℕ)
+-- the entries of all states at the vertices whose turn is below a number are over the layer below
+pub record AreOver (m : ModelData) (below : List Pair) (count : ℕ) (pairs : List Pair) (advice : List ℕ)
     : Type 0 where
-  pub entry : (s : ℕ) → s < states m.grid → s % vertices m.grid < number
+  pub entry : (s : ℕ) → s < states m.grid → turn m.grid (s % vertices m.grid) < count
       → IsOver m below (state_present m.grid s) (state_vertex m.grid s) (listed_entry pairs advice s)
 
 -- entries of other vertices stay as they are

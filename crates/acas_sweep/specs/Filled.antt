@@ -1,4 +1,4 @@
--- A plane that is written vertex by vertex, and at a vertex present advisory by present advisory.
+-- A plane that is written vertex by vertex in the order of turns, and at a vertex present advisory by present advisory.
 use Rattle.std.specs.Prelude.{◌≡◌, ℕ, ◌+◌, ◌*◌, ◌<◌, ◌≤◌, ◌⊎◌, List, Option, length, map, unwrap_or}
 use Rattle.acas_spec.specs.Model.{GridData, ModelData, states, vertices}
 use Rattle.acas_grid.specs.Grid.{state_number}
@@ -9,21 +9,22 @@ use Rattle.acas_process.specs.Compiled.{compiled}
 use Rattle.acas_step.specs.Entries.{IsEntryOf}
 use Rattle.acas_step.specs.Layer.{no_pair}
 use Rattle.acas_sweep.specs.Entries.{listed_entry}
+use Rattle.acas_sweep.specs.Turns.{turn}
 
 -- the pairs that were written, and where none was, the pair that a list holds where it ends
 abbrev pub pairs_in : List (Option Pair) → List Pair
 pairs_in places = map (λ place. unwrap_or place no_pair) places
 
--- the vertex w under the present advisory q comes after all vertices below v, and at v after the first p present advisories
+-- the turn t under the present advisory q comes after the turn c, or is that turn, after its first p present advisories
 abbrev pub IsAhead : ℕ → ℕ → ℕ → ℕ → Type 0
-IsAhead v p w q = (v < w) ⊎ ((w ≡ v) × (p ≤ q))
+IsAhead c p t q = (c < t) ⊎ ((t ≡ c) × (p ≤ q))
 
 -- a plane of a grid's states is written up to there, and nothing ahead of it
-pub record IsFilledTo (g : GridData) (v p : ℕ) (plane : Plane) : Type 0 where
+pub record IsFilledTo (g : GridData) (c p : ℕ) (plane : Plane) : Type 0 where
   pub state_count : plane.states ≡ states g
   pub place_count : length plane.work ≡ states g
-  pub missing : missing_in plane.work + (v * g.advisories + p) ≡ states g
-  pub free : (w q : ℕ) → w < vertices g → q < g.advisories → IsAhead v p w q → IsFree plane.work (state_number g q w)
+  pub missing : missing_in plane.work + (c * g.advisories + p) ≡ states g
+  pub free : (w q : ℕ) → w < vertices g → q < g.advisories → IsAhead c p (turn g w) q → IsFree plane.work (state_number g q w)
 
 -- the entries at a vertex under the first present advisories are those with no second to go
 pub record AreEndings (m : ModelData) (vertex count : ℕ) (pairs : List Pair) (advice : List ℕ) : Type 0 where

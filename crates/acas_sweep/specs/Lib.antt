@@ -1,4 +1,5 @@
 pub mod Layers
+pub mod Turns
 pub mod Entries
 pub mod Best
 pub mod Filled

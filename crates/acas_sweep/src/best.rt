@@ -11,7 +11,7 @@ use acas_spec::Choice;
 use acas_step::{Backups, VertexMeans, choice_among, values_of_choice};
 use acas_units::{Entry, Pair};
 
-// Both values of the choice at a place, by the means at a vertex, and its advisory. It counts one backup.
+// Both values of the choice at a place, by the means at a vertex. It counts one backup.
 fn valued_choice(
     model: &Model,
     present: u8,
@@ -19,7 +19,7 @@ fn valued_choice(
     place: usize,
     vertex_means: &VertexMeans,
     count: &mut Backups,
-) -> Entry
+) -> Pair
     requires present { present < model.now.grid.advisories }
     requires choices { choices.now ≡ choices_at model.now present }
     requires place { place < length (choices_at model.now present) }
@@ -33,29 +33,28 @@ fn valued_choice(
     let _ = model.grid();
     let choice = choice_among(model, present, choices, place);
     let means = vertex_means[usize::from(choice.advisory)];
-    Entry {
-        pair: values_of_choice(means, &choice, count),
-        advice: choice.advisory,
+    values_of_choice(means, &choice, count)
+}
+
+// The lesser upper and the lesser lower value of two pairs.
+fn least_of(pair: Pair, later: Pair) -> Pair
+    ensures upper { result.upper ≡ int_min pair.upper later.upper }
+    ensures lower { result.lower ≡ int_min pair.lower later.lower }
+{
+    Pair {
+        upper: pair.upper.min(later.upper),
+        lower: pair.lower.min(later.lower),
     }
 }
 
-// The best of a choice and of those that stand after it. Where they tie, the choice is advised.
-fn better(choice: Entry, later: Entry) -> Entry
-    ensures upper { result.pair.upper ≡ int_min choice.pair.upper later.pair.upper }
-    ensures lower { result.pair.lower ≡ int_min choice.pair.lower later.pair.lower }
-    ensures advice { let first = int_le choice.pair.upper later.pair.upper in
-        result.advice ≡ (if first then choice.advice else later.advice) }
+// The place of the choice that has the lesser upper value of two. Where they tie, it is the first.
+fn advised_of(place: usize, pair: Pair, later_place: usize, later: Pair) -> usize
+    ensures { let first = int_le pair.upper later.upper in result ≡ (if first then place else later_place) }
 {
-    Entry {
-        pair: Pair {
-            upper: choice.pair.upper.min(later.pair.upper),
-            lower: choice.pair.lower.min(later.pair.lower),
-        },
-        advice: if choice.pair.upper <= later.pair.upper {
-            choice.advice
-        } else {
-            later.advice
-        },
+    if pair.upper <= later.upper {
+        place
+    } else {
+        later_place
     }
 }
 
@@ -77,11 +76,16 @@ pub(crate) fn best_choice(
     let _ = model.grid();
     let choices = model.choices(present);
     let mut place = choices.len() - 1;
-    let mut best = valued_choice(model, present, choices, place, vertex_means, count);
+    let mut advised = place;
+    let mut least = valued_choice(model, present, choices, place, vertex_means, count);
     while place > 0 {
         place -= 1;
-        let choice = valued_choice(model, present, choices, place, vertex_means, count);
-        best = better(choice, best);
+        let pair = valued_choice(model, present, choices, place, vertex_means, count);
+        advised = advised_of(place, pair, advised, least);
+        least = least_of(pair, least);
     }
-    best
+    Entry {
+        pair: least,
+        advice: choice_among(model, present, choices, advised).advisory,
+    }
 }

@@ -4,13 +4,13 @@ ghost use Rattle.acas_spec.specs.Model.{states, vertices};
 ghost use Rattle.acas_process.specs.Compiled.{compiled};
 ghost use Rattle.acas_grid.specs.States.{vertex_at};
 ghost use Rattle.acas_step.specs.Entries.{IsEntryOf};
-ghost use Rattle.acas_step.specs.Stencils.{AreStencilsOf};
 ghost use Rattle.acas_sweep.specs.Entries.{AreBelow, AreOver, IsWhole};
 ghost use Rattle.acas_sweep.specs.Layers.{layer_backups};
 
+use crate::order::vertex_after;
 use crate::vertex::fill_vertex;
 use acas_base::Model;
-use acas_step::{Backups, Stencils, means_with, reach_of, terminal};
+use acas_step::{Backups, means_at, terminal};
 use acas_units::{Entry, Pair};
 
 /// The entry of a vertex with no second to go, under each present advisory: the cost at the end, and no advice, which is written 255.
@@ -41,17 +41,14 @@ pub(crate) fn fill_first(model: &Model, pairs: &mut [Pair], advice: &mut [u8])
     }
 }
 
-/// Writes a layer over the one below, vertex by vertex, by the stencils of the model. It takes no memory.
+/// Writes a layer over the one below, vertex by vertex, each by its own search of cells. It takes no memory.
 pub(crate) fn fill_over(
     model: &Model,
-    stencils: &Stencils,
     below: &[Pair],
     pairs: &mut [Pair],
     advice: &mut [u8],
     count: &mut Backups,
 )
-    requires stencils { AreStencilsOf model.now stencils.now }
-    requires horizon { 0 < model.now.grid.horizon }
     requires below { IsWhole model.now below.now }
     requires pairs { states model.now.grid ≤ length pairs.old }
     requires advice { states model.now.grid ≤ length advice.old }
@@ -59,9 +56,9 @@ pub(crate) fn fill_over(
     ensures over { AreOver model.now below.now (vertices model.now.grid) pairs.new advice.new }
     ensures count { count.new ≡ count.old + layer_backups model.now }
 {
-    let reach = reach_of(model, below);
-    for vertex in 0..model.grid().vertices() {
-        let vertex_means = means_with(model, stencils, reach, vertex, below);
+    for written in 0..model.grid().vertices() {
+        let vertex = vertex_after(model.grid(), written);
+        let vertex_means = means_at(model, vertex, below);
         fill_vertex(model, vertex, &vertex_means, pairs, advice, count);
     }
 }

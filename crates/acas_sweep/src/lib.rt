@@ -8,6 +8,7 @@ mod laws;
 mod layer;
 mod layers;
 mod list;
+mod order;
 mod plane;
 mod sink;
 mod stream;

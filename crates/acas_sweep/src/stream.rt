@@ -1,5 +1,5 @@
 //! The sweep from no second to go up to the horizon, over two planes: each layer is handed on as soon as it stands.
-ghost use Rattle.std.specs.Prelude.{◌≡◌, ◌+◌, ◌*◌, ◌<◌, ◌≤◌, ◌^◌, None, length, replicate, OnOk, OnErr};
+ghost use Rattle.std.specs.Prelude.{◌≡◌, ◌+◌, ◌<◌, ◌≤◌, ◌^◌, None, length, replicate, OnOk, OnErr};
 ghost use Rattle.acas_spec.specs.Model.{entries, states};
 ghost use Rattle.acas_outside.specs.Counts.{Rose};
 ghost use Rattle.acas_plane.specs.Plane.{fresh, missing_in};

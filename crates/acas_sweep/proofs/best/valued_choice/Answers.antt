@@ -1,6 +1,5 @@
 use Rattle.std.proofs.Common.{◌≡◌, ℕ, ℤ, ◌+ℤ◌, ap, subst, sym, ◌∙◌}
 use Rattle.acas_spec.specs.declared.parts.Choice.{Choice}
-use Rattle.acas_units.specs.declared.pair.Entry.{Entry}
 use Rattle.acas_process.specs.Bounds.{millionths}
 use Rattle.acas_step.specs.Layer.{value_at}
 use Rattle.acas_step.specs.declared.layer.Side.TheVariants.{Lower, Upper}
@@ -16,10 +15,8 @@ returns-clause-value c =
     let means = c.args.vertex_means.now in
     let choice = c.choice_among-choice.result in
     let own = c.choice_among-choice.ensures.known.cost in
-    let e : Entry = record { pair = c.values_of_choice.result; advice = c.choice_among-choice.result.advisory } in
-    subst (λ (d : Choice). IsValued c.args.model.now c.args.vertex_means.now c.args.present d e) c.choice_among-choice.ensures.value
+    subst (λ (d : Choice). IsValued c.args.model.now c.args.vertex_means.now c.args.present d c.values_of_choice.result) c.choice_among-choice.ensures.value
     (record {
       upper = priced c.values_of_choice.result.upper choice.cost _ (value_at Upper means) c.from.result choice.advisory c.values_of_choice.ensures.upper c.from.ensures own;
       lower = priced c.values_of_choice.result.lower choice.cost _ (value_at Lower means) c.from.result choice.advisory c.values_of_choice.ensures.lower c.from.ensures own;
-      advice = λ i. c.choice_among-choice.result.advisory;
     })

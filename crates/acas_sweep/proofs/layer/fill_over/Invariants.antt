@@ -3,8 +3,8 @@ use Rattle.acas_sweep.specs.Entries.{AreOver}
 use Rattle.acas_sweep.specs.Layers.{choice_count}
 use Rattle.acas_sweep.proofs.layer.fill_over.Given as goal
 
-abbrev pub invariant-loop-vertex : goal.invariant-loop-vertex
-invariant-loop-vertex l = record {
-  over : AreOver l.model l.below l.vertex l.pairs l.advice;
-  counted : l.count ≡ l.initial.count + l.vertex * choice_count l.model;
+abbrev pub invariant-loop-written : goal.invariant-loop-written
+invariant-loop-written l = record {
+  over : AreOver l.model l.below l.written l.pairs l.advice;
+  counted : l.count ≡ l.initial.count + l.written * choice_count l.model;
 }

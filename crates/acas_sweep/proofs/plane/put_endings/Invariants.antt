@@ -1,10 +1,11 @@
 use Rattle.acas_sweep.specs.Entries.{SameElsewhere}
 use Rattle.acas_sweep.specs.Filled.{AreEndings, IsFilledTo, pairs_in}
+use Rattle.acas_sweep.specs.Turns.{turn}
 use Rattle.acas_sweep.proofs.plane.put_endings.Given as goal
 
 abbrev pub invariant-loop-present : goal.invariant-loop-present
 invariant-loop-present l = record {
   endings : AreEndings l.model l.vertex l.present (pairs_in l.block.work) l.advice;
   others : SameElsewhere l.model.grid l.vertex (pairs_in l.initial.block.work) l.initial.advice (pairs_in l.block.work) l.advice;
-  filled : IsFilledTo l.model.grid l.vertex l.present l.block;
+  filled : IsFilledTo l.model.grid (turn l.model.grid l.vertex) l.present l.block;
 }

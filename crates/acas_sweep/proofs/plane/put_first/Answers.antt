@@ -1,20 +1,28 @@
-use Rattle.std.proofs.Common.{ap, ◌∙◌, arith}
+use Rattle.std.proofs.Common.{◌≡◌, ◌%◌, ap, subst, ◌∙◌, arith, ℕ, ◌+◌}
 use Rattle.std.proofs.lemmas.Nat.{mod_below}
 use Rattle.acas_spec.specs.Model.{GridData, vertices}
 use Rattle.acas_grid.proofs.Vertices.{some_width}
-use Rattle.acas_sweep.specs.Filled.{pairs_in}
+use Rattle.acas_sweep.specs.Filled.{IsFilledTo, pairs_in}
+use Rattle.acas_sweep.specs.Turns.{turn}
 use Rattle.acas_sweep.proofs.Placed.{first_next}
+use Rattle.acas_sweep.proofs.Turns.{turn-below}
 use Rattle.acas_sweep.proofs.plane.put_first.Goals as goal
 
-pub loop-vertex-preserved : goal.loop-vertex-preserved
-loop-vertex-preserved c = record {
-  first = first_next c.args.model.now c.loop-vertex.vertex (pairs_in c.loop-vertex.block.work) c.loop-vertex.advice (pairs_in c.put_endings.new.block.work) c.put_endings.new.advice c.loop-vertex.invariant.first c.put_endings.ensures.endings c.put_endings.ensures.others;
-  filled = c.put_endings.ensures.filled;
-}
+pub loop-count-preserved : goal.loop-count-preserved
+loop-count-preserved c =
+    let m = c.args.model.now in
+    let v = c.vertex_after.result in
+    let k = c.loop-count.count in
+    let same = c.grid-in-loop-count.ensures.value in
+    let turn_is : turn m.grid v ≡ k = rw same at c.vertex_after.ensures.turn in
+    record {
+      first = first_next m v k (pairs_in c.loop-count.block.work) c.loop-count.advice (pairs_in c.put_endings.new.block.work) c.put_endings.new.advice (rw same at c.vertex_after.ensures.below) turn_is c.loop-count.invariant.first c.put_endings.ensures.endings c.put_endings.ensures.others;
+      filled = subst (λ (t : ℕ). IsFilledTo m.grid (t + 1) 0 c.put_endings.new.block) turn_is c.put_endings.ensures.filled;
+    }
 
 pub returns-clause-entries : goal.returns-clause-entries
 returns-clause-entries c s inside =
     let g = c.args.model.now.grid in
-    let place = mod_below s (vertices g) (some_width g.advisories (vertices g) s inside) in
-    let end = c.vertices-vertex-end.ensures.value ∙ ap (λ (h : GridData). vertices h) c.grid.ensures.value in
-    c.loop-vertex.invariant.first s inside (omega (arith, place, end, c.loop-vertex-test.false))
+    let place = turn-below g (s % vertices g) (mod_below s (vertices g) (some_width g.advisories (vertices g) s inside)) in
+    let end = c.vertices-count-end.ensures.value ∙ ap (λ (h : GridData). vertices h) c.grid.ensures.value in
+    c.loop-count.invariant.first s inside (omega (arith, place, end, c.loop-count-test.false))
