@@ -15,3 +15,4 @@ pub mod Answered
 pub mod Steps
 pub mod Texts
 pub mod Accepting
+pub mod Planes

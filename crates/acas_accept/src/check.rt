@@ -1,6 +1,7 @@
 //! A table in check: it is read entry by entry, and each entry is looked at before the next is read.
 ghost use Rattle.std.specs.Prelude.{◌≡◌, ◌≤◌, ◌<◌, ◌+◌, ◌-◌, ◌*◌, List, ℕ, None, false, length, set, IsTrue, IsErrOf, IfErr, IfOk, MatchResult};
-ghost use Rattle.acas_spec.specs.Model.{ModelData, entries, states};
+ghost use Rattle.acas_spec.specs.Model.{ModelData, entries, states, vertices};
+ghost use Rattle.acas_grid.specs.Grid.{state_number};
 ghost use Rattle.acas_outside.specs.Counts.{raised};
 ghost use Rattle.acas_outside.specs.Files.{Given};
 ghost use Rattle.acas_outside.specs.Frame.{OnlyReads};
@@ -8,13 +9,14 @@ ghost use Rattle.acas_table.specs.Reader.{Told, reader_state};
 ghost use Rattle.acas_table.specs.Shape.{entry_count, shape_of};
 ghost use Rattle.acas_table.specs.Source.{Takes};
 ghost use Rattle.acas_table.specs.Text.{length_1};
+ghost use Rattle.acas_bounds.specs.Planes.{IsPlane};
 ghost use Rattle.acas_accept.specs.GivenTable.{entry_place};
 ghost use Rattle.acas_accept.specs.Checking.{Begins, HasAccepted, HasNoRefusal, IsAnswer, IsBeforeLayer, IsCheckOf, IsInLayer, with_advice};
 ghost use Rattle.acas_accept.specs.Faults.{IsAnswerable, answered};
 
 use crate::refusal::AcceptFault;
 use acas_base::{Advices, Model};
-use acas_bounds::check_by_means;
+use acas_bounds::{Plane, check_at};
 use acas_outside::Folder;
 use acas_step::{Stencils, fill_means_with};
 use acas_table::{TableFault, TableReader, TableRefusal};
@@ -108,16 +110,16 @@ impl TableCheck {
     }
 
     // Keeps the values of an entry, and with at least one second to go its advice.
-    fn keep(&mut self, n: u32, state: u32, entry: Entry)
+    fn keep(&mut self, n: u32, state: u32, entry: &Entry)
         requires pairs { state < length self.old.pairs.items }
         requires n { n ≤ self.old.advices.horizon }
         requires state { state < self.old.advices.states }
-        requires advice { 0 < n → entry.advice < self.old.advices.advisories }
+        requires advice { 0 < n → entry.now.advice < self.old.advices.advisories }
         ensures reader { self.new.reader ≡ self.old.reader }
         ensures stencils { self.new.stencils ≡ self.old.stencils }
         ensures means { self.new.means ≡ self.old.means }
-        ensures pairs { self.new.pairs.items ≡ set self.old.pairs.items state entry.pair }
-        ensures advices { self.new.advices ≡ with_advice self.old.advices n state entry.advice }
+        ensures pairs { self.new.pairs.items ≡ set self.old.pairs.items state entry.now.pair }
+        ensures advices { self.new.advices ≡ with_advice self.old.advices n state entry.now.advice }
     {
         self.pairs[state as usize] = entry.pair;
         if n > 0 {
@@ -125,18 +127,23 @@ impl TableCheck {
         }
     }
 
-    // Reads and checks the entry of a state with n seconds to go.
+    // Reads and checks the entry with n seconds to go of the state at a vertex under the present advisory of a plane.
     fn entry<F: Folder>(
         &mut self,
         model: &Model,
         n: u32,
+        plane: &Plane,
+        vertex: u32,
         state: u32,
         folder: &mut F,
         name: &str,
     ) -> Result<(), AcceptFault>
         requires served { IsTrue (F.serves folder.old name.now) }
         requires n { n ≤ model.now.grid.horizon }
+        requires plane { IsPlane model.now plane.now }
+        requires vertex { vertex < vertices model.now.grid }
         requires state { state < states model.now.grid }
+        requires place { state ≡ state_number model.now.grid plane.now.present vertex }
         requires check { IsCheckOf model.now self.old (entry_place model.now.grid n state) }
         ensures given { (digest : List ℕ) → Told (F.holds folder.old) name.now (λ bytes.
             IsInLayer model.now digest self.old n state bytes → MatchResult result
@@ -155,9 +162,9 @@ impl TableCheck {
             Ok(entry) => entry,
             Err(fault) => return Err(refused(fault)),
         };
-        match check_by_means(model, n, state, &entry, &self.means) {
+        match check_at(model, n, plane, vertex, &entry, &self.means) {
             Ok(()) => {
-                self.keep(n, state, entry);
+                self.keep(n, state, &entry);
                 Ok(())
             }
             Err(fault) => Err(AcceptFault::Refused(TableRefusal::Entry {
@@ -166,6 +173,42 @@ impl TableCheck {
                 fault,
             })),
         }
+    }
+
+    // Reads and checks the entries with n seconds to go of the states where an advisory is present.
+    fn plane<F: Folder>(
+        &mut self,
+        model: &Model,
+        n: u32,
+        present: u8,
+        folder: &mut F,
+        name: &str,
+    ) -> Result<(), AcceptFault>
+        requires served { IsTrue (F.serves folder.old name.now) }
+        requires n { n ≤ model.now.grid.horizon }
+        requires present { present < model.now.grid.advisories }
+        requires check { IsCheckOf model.now self.old
+            (entry_place model.now.grid n (state_number model.now.grid present 0)) }
+        ensures given { (digest : List ℕ) → Told (F.holds folder.old) name.now (λ bytes.
+            IsInLayer model.now digest self.old n (state_number model.now.grid present 0) bytes → MatchResult result
+            (λ _. IsInLayer model.now digest self.new n (state_number model.now.grid (present + 1) 0) bytes)
+            (IsAnswer model.now digest bytes)) }
+        ensures check { IfOk result (λ _. IsCheckOf model.now self.new
+            (entry_place model.now.grid n (state_number model.now.grid (present + 1) 0))) }
+        ensures shape { (reader_state self.new.reader).shape ≡ (reader_state self.old.reader).shape }
+        ensures taken { Takes F.Folder folder.old folder.new
+            (reader_state self.old.reader).taken (reader_state self.new.reader).taken }
+        ensures kind { IfErr result IsAnswerable }
+        ensures frame { OnlyReads F.Folder folder.old folder.new
+            (IsErrOf result AcceptFault.Failed) (IsErrOf result AcceptFault.Absent) }
+    {
+        let vertices = model.grid().vertices();
+        let plane = Plane::new(model, present);
+        for vertex in 0..vertices {
+            let state = u32::from(present) * vertices + vertex;
+            self.entry(model, n, &plane, vertex, state, folder, name)?;
+        }
+        Ok(())
     }
 
     // Reads and checks the layer with n seconds to go.
@@ -192,8 +235,8 @@ impl TableCheck {
             (IsErrOf result AcceptFault.Failed) (IsErrOf result AcceptFault.Absent) }
     {
         self.begin_layer(model, n);
-        for state in 0..model.grid().states() {
-            self.entry(model, n, state, folder, name)?;
+        for present in 0..model.grid().advisories as u8 {
+            self.plane(model, n, present, folder, name)?;
         }
         Ok(())
     }

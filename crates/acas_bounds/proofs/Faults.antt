@@ -1,9 +1,10 @@
 -- The fault of an entry by the means of the layer below is its fault in the table, and what an answer says.
-use Rattle.std.proofs.Common.{◌≡◌, ℕ, zero, suc, ◌<◌, ℤ, ◌+ℤ◌, Bool, true, false, cond, Option, Some, None, Result, List, refl, ap, sym, subst, arith}
+use Rattle.std.proofs.Common.{◌≡◌, ◌∙◌, ℕ, ◌%◌, zero, suc, ◌<◌, ℤ, ◌+ℤ◌, Bool, true, false, cond, Option, Some, None, Result, List, refl, ap, sym, subst, arith}
 use Rattle.std.specs.Prelude.{OnOk}
 use Rattle.acas_spec.specs.Limits.{IsModel}
-use Rattle.acas_spec.specs.Model.{ModelData, choices_at}
+use Rattle.acas_spec.specs.Model.{ModelData, choices_at, vertices}
 use Rattle.acas_grid.specs.Grid.{IsVertex}
+use Rattle.acas_grid.specs.States.{state_present, state_vertex, vertex_at}
 use Rattle.acas_spec.specs.declared.place.Vertex.{Vertex}
 use Rattle.acas_frac.specs.Rounding.{down, up}
 use Rattle.acas_units.specs.declared.pair.Entry.{Entry}
@@ -68,7 +69,7 @@ choice_fault-is m t n p x e upper lower valid known is are =
     (λ a chosen. ap (λ z. z +ℤ millionths (cost_of m p a)) (are.lower a ((is_chosen m p a valid known chosen).inside))))))
 
 -- the fault that is found by the cost of the advice in the list
-found_in : (b : Bool) (cost own : ℤ) → Some cost ≡ cond b (Some own) None → (b ≡ true) × (cost ≡ own)
+pub found_in : (b : Bool) (cost own : ℤ) → Some cost ≡ cond b (Some own) None → (b ≡ true) × (cost ≡ own)
 found_in true cost own h = (refl, cc)
 found_in false cost own h = cc
 
@@ -77,10 +78,6 @@ pub choice_found : (m : ModelData) (p : ℕ) (e : Entry) (upper lower : ℕ → 
 choice_found m p e upper lower cost needed allowed is n a =
     let found = found_in (is_allowed m p e.advice) cost (cost_of m p e.advice) is in
     rw (found.0, n, a, found.1) refl
-
-pub later_fault : (m : ModelData) (upper lower : ℕ → ℤ) (n p : ℕ) (x : Vertex) (e : Entry) → 0 < n → choice_fault m upper lower p e ≡ fault_by_means m upper lower n p x e
-later_fault m upper lower zero p x e h = absurd (omega arith)
-later_fault m upper lower (suc n) p x e h = refl
 
 pub fault_by_means-is : (m : ModelData) (t : Table) (n p : ℕ) (x : Vertex) (e : Entry) (upper lower : ℕ → ℤ) → IsModel m → p < m.grid.advisories → IsEntryOf t n p x e → OfBelow (λ k. AreOfLayer m t k x upper lower) n →
     fault_by_means m upper lower n p x e ≡ bound_fault m t n p x
@@ -118,3 +115,17 @@ pub ok_allowed : (m : ModelData) (upper lower : ℕ → ℤ) (n p : ℕ) (x : Ve
 ok_allowed m upper lower n p x e r is =
     subst (λ (q : Result (Unit {0}) BoundFault). OnOk q (0 < n → MayChoose m p e.advice)) (sym is)
     (ok_if (fault_by_means m upper lower n p x e) (0 < n → MayChoose m p e.advice) (may_choose m upper lower n p x e))
+
+-- an answer by the means at the vertex of a number where p is present is one by those of a state
+pub at_state : (m : ModelData) (n : ℕ) (e : Entry) (upper lower : ℕ → ℕ → ℤ) (r : Result (Unit {0}) BoundFault) (s p v : ℕ) → p ≡ state_present m.grid s → v ≡ s % vertices m.grid
+    → r ≡ answer_of (fault_by_means m (upper v) (lower v) n p (vertex_at m.grid v) e)
+    → r ≡ answer_of (fault_by_means m (upper (s % vertices m.grid)) (lower (s % vertices m.grid)) n (state_present m.grid s) (state_vertex m.grid s) e)
+at_state m n e upper lower r s p v present vertex is =
+    is
+    ∙ ap (λ (w : ℕ). answer_of (fault_by_means m (upper w) (lower w) n p (vertex_at m.grid w) e)) vertex
+    ∙ ap (λ (q : ℕ). answer_of (fault_by_means m (upper (s % vertices m.grid)) (lower (s % vertices m.grid)) n q (state_vertex m.grid s) e)) present
+
+-- what a check by means says of an entry, whatever table it is of, at the vertex of a number where p is present
+abbrev pub Reports : ModelData → ℕ → Entry → List Pair → Result (Unit {0}) BoundFault → ℕ → ℕ → Type 0
+Reports m n e means r p v =
+    (t : Table) → IsEntryOf t n p (vertex_at m.grid v) e → OfBelow (λ k. AreMeansOf m t k means) n → AnswersFault r (bound_fault m t n p (vertex_at m.grid v))

@@ -2,3 +2,5 @@ pub mod Allowed
 pub mod Sound
 pub mod First
 pub mod Faults
+pub mod Planes
+pub mod Narrow

@@ -35,7 +35,7 @@ values_stand upper needed lower allowed h =
     let tests = neither_fails (int_lt upper needed) (int_lt allowed lower) _ _ h in
     (le-of_lt upper needed tests.0, le-of_lt allowed lower tests.1)
 
-values_pass : (upper needed lower allowed : ℤ) → needed ≤ℤ upper → lower ≤ℤ allowed → values_fault upper needed lower allowed ≡ None
+pub values_pass : (upper needed lower allowed : ℤ) → needed ≤ℤ upper → lower ≤ℤ allowed → values_fault upper needed lower allowed ≡ None
 values_pass upper needed lower allowed h k = rw (lt-false upper needed h, lt-false allowed lower k) refl
 
 -- what a choice between a fault and the rest leaves

@@ -2,3 +2,5 @@ pub mod Sound
 pub mod First
 pub mod Checks
 pub mod Means
+pub mod Planes
+pub mod Narrow

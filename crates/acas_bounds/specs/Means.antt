@@ -3,7 +3,6 @@ use Rattle.std.specs.Prelude.{ℕ, zero, suc, ℤ, List, Option, Some, None, Res
 use Rattle.acas_spec.specs.Model.{ModelData, choices_at}
 use Rattle.acas_spec.specs.declared.place.Vertex.{Vertex}
 use Rattle.acas_frac.specs.Rounding.{down, up}
-use Rattle.acas_grid.specs.States.{state_present, state_vertex}
 use Rattle.acas_units.specs.declared.pair.Entry.{Entry}
 use Rattle.acas_units.specs.declared.pair.Pair.{Pair}
 use Rattle.acas_process.specs.Bounds.{mean_value, millionths}
@@ -33,6 +32,14 @@ abbrev pub lower_below : ModelData → Below → Vertex → ℕ → ℤ
 lower_below m (Values values) x a = mean_value down m (layer_values Lower m.grid values.now) x a
 lower_below m (Means means) x a = layer_values Lower m.grid means.now a x
 
+-- the upper mean as it was formed, at the vertex x under the advisory a
+abbrev pub formed_upper : ModelData → List Pair → Vertex → ℕ → ℤ
+formed_upper m means x a = layer_values Upper m.grid means a x
+
+-- the lower mean in the same way
+abbrev pub formed_lower : ModelData → List Pair → Vertex → ℕ → ℤ
+formed_lower m means x a = layer_values Lower m.grid means a x
+
 -- the cost of an advisory, where it is in the list of choices
 abbrev pub allowed_cost : ModelData → ℕ → ℕ → Option ℤ
 allowed_cost m p a = if is_allowed m p a then Some (cost_of m p a) else None
@@ -56,12 +63,6 @@ choice_fault m upper lower p e =
 abbrev pub fault_by_means : ModelData → (ℕ → ℤ) → (ℕ → ℤ) → ℕ → ℕ → Vertex → Entry → Option BoundFault
 fault_by_means m upper lower zero p x e = ending_fault m x e.pair
 fault_by_means m upper lower (suc n) p x e = choice_fault m upper lower p e
-
--- the same at the state of a number, by the layer below
-abbrev pub fault_below : ModelData → Below → ℕ → ℕ → Entry → Option BoundFault
-fault_below m below n s e =
-    let x = state_vertex m.grid s in
-    fault_by_means m (upper_below m below x) (lower_below m below x) n (state_present m.grid s) x e
 
 -- Ok where there is no fault, and otherwise the fault
 abbrev pub answer_of : Option BoundFault → Result (Unit {0}) BoundFault

@@ -18,8 +18,8 @@ pub(crate) enum Below<'l> {
     Means(&'l [Pair]),
 }
 
-// The means that were formed for an advisory at a vertex.
-fn formed_means(model: &Model, vertex: u32, advisory: u8, means: &[Pair]) -> Pair
+/// The means that were formed for an advisory at a vertex.
+pub(crate) fn formed_means(model: &Model, vertex: u32, advisory: u8, means: &[Pair]) -> Pair
     requires vertex { vertex < vertices model.now.grid }
     requires advisory { advisory < model.now.grid.advisories }
     requires means { length means.now ≡ states model.now.grid }

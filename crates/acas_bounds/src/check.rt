@@ -1,21 +1,25 @@
 //! The check of one entry.
-ghost use Rattle.std.specs.Prelude.{◌≡◌, ℕ, ◌%◌, ◌<◌, ◌+ℤ◌, OnOk, length};
+ghost use Rattle.std.specs.Prelude.{◌≡◌, ◌%◌, ◌<◌, ◌+ℤ◌, OnOk, length};
 ghost use Rattle.acas_spec.specs.Limits.{IsModel};
 ghost use Rattle.acas_spec.specs.Model.{choices_at, states, vertices};
 ghost use Rattle.acas_spec.specs.Table.{Table};
 ghost use Rattle.acas_grid.specs.States as numbers;
 ghost use Rattle.acas_process.specs.Bounds.{millionths};
 ghost use Rattle.acas_process.specs.Compiled.{least};
+ghost use Rattle.acas_process.specs.Cost.{MayChoose};
 ghost use Rattle.acas_step.specs.Choices.{value_by_mean};
-ghost use Rattle.acas_step.specs.Entries.{IsStateEntry};
+ghost use Rattle.acas_step.specs.Entries.{IsEntryOf, IsStateEntry};
 ghost use Rattle.acas_step.specs.Layer.{AreValuesOf};
 ghost use Rattle.acas_step.specs.Means.{AreMeansOf};
 ghost use Rattle.acas_bounds.specs.Checks.{MayAdvise, OfBelow, AnswersFault, state_fault};
-ghost use Rattle.acas_bounds.specs.Means.{answer_of, choice_fault, ending_fault, fault_below, lower_below, pairs_below, upper_below};
-ghost use Rattle.acas_bounds.specs.Sound.{values_fault};
+ghost use Rattle.acas_bounds.specs.Means.{answer_of, choice_fault, ending_fault, fault_by_means, formed_lower, formed_upper, lower_below, pairs_below, upper_below};
+ghost use Rattle.acas_bounds.specs.Planes.{IsPlane};
+ghost use Rattle.acas_bounds.specs.Sound.{bound_fault, values_fault};
 
 use crate::below::{Below, upper_mean};
 use crate::choices::{cost_if_allowed, least_lower};
+use crate::passing::passes;
+use crate::plane::Plane;
 use acas_base::Model;
 use acas_spec::BoundFault;
 use acas_step::{terminal, with_cost};
@@ -124,25 +128,53 @@ fn check_choice(
 }
 
 // The check of an entry with n seconds to go.
+#[inline(never)]
 fn check(
     model: &Model,
     n: u32,
-    state: u32,
+    present: u8,
+    vertex: u32,
     entry: &Entry,
     below: Below<'_>,
 ) -> Result<(), BoundFault>
-    requires state { state < states model.now.grid }
+    requires present { present < model.now.grid.advisories }
+    requires vertex { vertex < vertices model.now.grid }
     requires below { 0 < n → length (pairs_below below) ≡ states model.now.grid }
-    ensures valid { IsModel model.now }
-    ensures answer { result ≡ answer_of (fault_below model.now below.entry n state entry.now) }
-    ensures allowed { OnOk result (MayAdvise model.now n state entry.now.advice) }
+    ensures { let x = numbers.vertex_at model.now.grid vertex in
+        let upper = upper_below model.now below.entry x in
+        let lower = lower_below model.now below.entry x in
+        result ≡ answer_of (fault_by_means model.now upper lower n present x entry.now) }
 {
-    let (present, vertex) = parts(model, state);
     if n == 0 {
         check_ending(model, vertex, entry.pair)
     } else {
         check_choice(model, present, vertex, entry, below)
     }
+}
+
+// The same by means that were formed. Most entries pass at the first look, and the entry is copied for the others, so that it need
+// not lie in memory.
+fn check_formed(
+    model: &Model,
+    n: u32,
+    plane: &Plane,
+    vertex: u32,
+    entry: &Entry,
+    means: &[Pair],
+) -> Result<(), BoundFault>
+    requires plane { IsPlane model.now plane.now }
+    requires vertex { vertex < vertices model.now.grid }
+    requires means { 0 < n → length means.now ≡ states model.now.grid }
+    ensures { let x = numbers.vertex_at model.now.grid vertex in
+        let upper = formed_upper model.now means.now x in
+        let lower = formed_lower model.now means.now x in
+        result ≡ answer_of (fault_by_means model.now upper lower n plane.now.present x entry.now) }
+{
+    if n > 0 && passes(model, plane, vertex, entry, means) {
+        return Ok(());
+    }
+    let entry = *entry;
+    check(model, n, plane.present, vertex, &entry, Below::Means(means))
 }
 
 /// Whether the entry of a state with n seconds to go is sound by the layer below, and the first part that it fails if not. The
@@ -163,7 +195,8 @@ pub fn check_entry(
         → AnswersFault result (state_fault model.now t n state) }
     ensures allowed { OnOk result (MayAdvise model.now n state entry.now.advice) }
 {
-    check(model, n, state, entry, Below::Values(below))
+    let (present, vertex) = parts(model, state);
+    check(model, n, present, vertex, entry, Below::Values(below))
 }
 
 /// The same, by the means of the layer below, as `fill_means` writes them.
@@ -183,5 +216,29 @@ pub fn check_by_means(
         → AnswersFault result (state_fault model.now t n state) }
     ensures allowed { OnOk result (MayAdvise model.now n state entry.now.advice) }
 {
-    check(model, n, state, entry, Below::Means(means))
+    let (present, vertex) = parts(model, state);
+    check_at(model, n, &Plane::new(model, present), vertex, entry, means)
+}
+
+/// The same of the state at a vertex under the present advisory of a plane.
+pub fn check_at(
+    model: &Model,
+    n: u32,
+    plane: &Plane,
+    vertex: u32,
+    entry: &Entry,
+    means: &[Pair],
+) -> Result<(), BoundFault>
+    requires plane { IsPlane model.now plane.now }
+    requires vertex { vertex < vertices model.now.grid }
+    requires means { 0 < n → length means.now ≡ states model.now.grid }
+
+    // Whatever table the entry and the means below it are of, its fault there is reported.
+    ensures value { let x = numbers.vertex_at model.now.grid vertex in
+        (t : Table) → IsEntryOf t n plane.now.present x entry.now
+        → OfBelow (λ k. AreMeansOf model.now t k means.now) n
+        → AnswersFault result (bound_fault model.now t n plane.now.present x) }
+    ensures allowed { OnOk result (0 < n → MayChoose model.now plane.now.present entry.now.advice) }
+{
+    check_formed(model, n, plane, vertex, entry, means)
 }

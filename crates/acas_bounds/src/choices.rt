@@ -1,5 +1,6 @@
 //! The choices under a present advisory, by their costs and by their lower values.
 ghost use Rattle.std.specs.Prelude.{◌≡◌, ◌<◌, length, IfSome};
+ghost use Rattle.acas_spec.specs.Axis.{IsBetween};
 ghost use Rattle.acas_spec.specs.Model.{choices_at, states, vertices};
 ghost use Rattle.acas_grid.specs.States as numbers;
 ghost use Rattle.acas_process.specs.Compiled.{least};
@@ -8,13 +9,16 @@ ghost use Rattle.acas_bounds.specs.Means.{allowed_cost, lower_below, pairs_below
 
 use crate::below::{Below, lower_mean};
 use acas_base::Model;
-use acas_step::{choice_at, choice_count, with_cost};
+use acas_step::{choice_among, choice_at, choice_count, with_cost};
+use acas_units::{GREATEST_COST, LEAST_COST};
 
-/// The cost of an advisory in units, or None where it is not in the list of choices.
-pub(crate) fn cost_if_allowed(model: &Model, present: u8, advisory: u8) -> Option<i64>
+// The cost of an advisory in units, or None where it is at no place of the list of choices.
+#[inline(never)]
+fn scanned_cost(model: &Model, present: u8, advisory: u8) -> Option<i64>
     requires { present < model.now.grid.advisories }
     ensures value { result ≡ allowed_cost model.now present advisory }
     ensures inside { IfSome result (λ cost. advisory < model.now.grid.advisories) }
+    ensures limits { IfSome result (λ cost. IsBetween LEAST_COST GREATEST_COST cost) }
 {
     for place in 0..choice_count(model, present) {
         let choice = choice_at(model, present, place);
@@ -23,6 +27,25 @@ pub(crate) fn cost_if_allowed(model: &Model, present: u8, advisory: u8) -> Optio
         }
     }
     None
+}
+
+/// The cost of an advisory in units, or None where it is not in the list of choices. It looks first at the place of the advisory's own
+/// number, where it stands in a list of all advisories in order.
+pub(crate) fn cost_if_allowed(model: &Model, present: u8, advisory: u8) -> Option<i64>
+    requires { present < model.now.grid.advisories }
+    ensures value { result ≡ allowed_cost model.now present advisory }
+    ensures inside { IfSome result (λ cost. advisory < model.now.grid.advisories) }
+    ensures limits { IfSome result (λ cost. IsBetween LEAST_COST GREATEST_COST cost) }
+{
+    let choices = model.choices(present);
+    let own = usize::from(advisory);
+    if own < choices.len() {
+        let likely = choice_among(model, present, choices, own);
+        if likely.advisory == advisory {
+            return Some(likely.cost);
+        }
+    }
+    scanned_cost(model, present, advisory)
 }
 
 // The lower value of the choice at a place.

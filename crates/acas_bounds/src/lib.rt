@@ -6,8 +6,11 @@ mod below;
 mod check;
 mod choices;
 mod laws;
+mod passing;
+mod plane;
 
 pub use acas_spec::BoundFault;
 pub use acas_step::fill_means;
-pub use check::{check_by_means, check_entry};
+pub use check::{check_at, check_by_means, check_entry};
 pub use laws::{faults_are_first, sound_entries_have_no_fault};
+pub use plane::Plane;

@@ -2,13 +2,12 @@ use Rattle.std.proofs.Common.{◌<◌, ℕ, List, None, Some, Ok, Err, sym, subs
 use Rattle.acas_spec.specs.Model.{entries}
 use Rattle.acas_units.specs.declared.pair.Pair.{Pair}
 use Rattle.acas_process.proofs.ModelLaws.{is_chosen}
-use Rattle.acas_grid.specs.States.{state_present}
-use Rattle.acas_grid.proofs.StateNumbers.{state_present-below}
 use Rattle.acas_table.specs.Reader.{reader_state, GivesEntry, HasRead}
 use Rattle.acas_table.specs.Shape.{entry_count}
 use Rattle.acas_table.specs.declared.shape.TableShape.{TableShape}
 use Rattle.acas_accept.specs.GivenTable.{entry_place}
 use Rattle.acas_accept.proofs.Places.{entry_place-below}
+use Rattle.acas_accept.proofs.Planes.{allowed_at, says_at}
 use Rattle.acas_accept.proofs.Steps.{IsOn, Keeps, Says, check_next, fault_answered, unsound_answered, in_layer_next}
 use Rattle.acas_accept.proofs.Told.{told_both, told_map}
 use Rattle.acas_accept.proofs.check.TableCheck.entry.Goals as goal
@@ -29,26 +28,26 @@ returns-in-Err-clause-given g c = λ digest.
 pub keep-requires-clause-advice : goal.keep-requires-clause-advice
 keep-requires-clause-advice g c = λ some.
     let m = c.args.model.now in
-    let p : ℕ = state_present c.args.model.now.grid c.args.state in
     let advice : ℕ = c.in-Ok.entry.advice in
-    let chosen = c.in-Ok-check_by_means.ensures.allowed some in
-    omega (arith, (is_chosen m p advice c.requires.check.valid (state_present-below m.grid c.args.state c.requires.state) chosen).inside, c.requires.check.advices.advisories)
+    let chosen = c.in-Ok-check_at.ensures.allowed some in
+    omega (arith, (is_chosen m c.args.plane.now.present advice c.requires.check.valid c.requires.plane.present chosen).inside, c.requires.check.advices.advisories)
 
-pub returns-in-Ok-check_by_means-clause-check : goal.returns-in-Ok-check_by_means-clause-check
-returns-in-Ok-check_by_means-clause-check g c =
+pub returns-in-Ok-check_at-clause-check : goal.returns-in-Ok-check_at-clause-check
+returns-in-Ok-check_at-clause-check g c =
     let m = c.args.model.now in
     let on : IsOn c.args.self.now.reader c.entry.new.self = record { shape = c.in-Ok.ensures.shape; given = c.in-Ok.ensures.count; no_fault = c.in-Ok.ensures.fault; not_done = c.in-Ok.ensures.done } in
     let keeps : Keeps c.args.self.now c.entry.new.self c.keep.new.self c.args.n c.args.state c.in-Ok.entry =
     record { reader = c.keep.ensures.reader; stencils = c.keep.ensures.stencils; means = c.keep.ensures.means; pairs = c.keep.ensures.pairs; advices = c.keep.ensures.advices } in
     check_next m c.args.self.now c.entry.new.self c.keep.new.self c.args.n c.args.state c.in-Ok.entry c.requires.check c.requires.n c.requires.state on keeps
-    (λ some. c.in-Ok-check_by_means.ensures.allowed (omega arith))
+    (λ some. allowed_at m c.args.plane.now.present c.args.vertex c.args.state c.in-Ok.entry.advice c.requires.vertex c.requires.place (c.in-Ok-check_at.ensures.allowed (omega arith)))
 
-pub returns-in-Ok-check_by_means-clause-given : goal.returns-in-Ok-check_by_means-clause-given
-returns-in-Ok-check_by_means-clause-given g c = λ digest.
+pub returns-in-Ok-check_at-clause-given : goal.returns-in-Ok-check_at-clause-given
+returns-in-Ok-check_at-clause-given g c = λ digest.
     let m = c.args.model.now in
     let old = c.args.self.now in
     let says : Says c.args.model.now c.args.self.now.means.items c.in-Ok.entry c.args.n c.args.state None =
-    subst (λ (means : List Pair). Says c.args.model.now means c.in-Ok.entry c.args.n c.args.state None) c.deref.ensures.value c.in-Ok-check_by_means.ensures.value in
+    subst (λ (means : List Pair). Says c.args.model.now means c.in-Ok.entry c.args.n c.args.state None) c.deref.ensures.value
+    (says_at m c.deref.result.now c.in-Ok.entry c.args.n c.args.plane.now.present c.args.vertex c.args.state None c.requires.vertex c.requires.place c.in-Ok-check_at.ensures.value) in
     let keeps : Keeps c.args.self.now c.entry.new.self c.keep.new.self c.args.n c.args.state c.in-Ok.entry =
     record { reader = c.keep.ensures.reader; stencils = c.keep.ensures.stencils; means = c.keep.ensures.means; pairs = c.keep.ensures.pairs; advices = c.keep.ensures.advices } in
     told_map _ c.args.name.now
@@ -58,12 +57,13 @@ returns-in-Ok-check_by_means-clause-given g c = λ digest.
     (told_both _ c.args.name.now (λ bytes. HasRead digest c.args.self.now.reader bytes → GivesEntry digest (reader_state c.args.self.now.reader) bytes (Ok c.in-Ok.entry))
     (λ bytes. HasRead digest c.args.self.now.reader bytes → HasRead digest c.entry.new.self bytes) (c.in-Ok.ensures.given digest) (c.in-Ok.ensures.stands digest))
 
-pub returns-in-Err-check_by_means-clause-given : goal.returns-in-Err-check_by_means-clause-given
-returns-in-Err-check_by_means-clause-given g c = λ digest.
+pub returns-in-Err-check_at-clause-given : goal.returns-in-Err-check_at-clause-given
+returns-in-Err-check_at-clause-given g c = λ digest.
     let m = c.args.model.now in
-    let says : Says c.args.model.now c.args.self.now.means.items c.in-Ok.entry c.args.n c.args.state (Some c.in-Err-check_by_means.fault) =
-    subst (λ (means : List Pair). Says c.args.model.now means c.in-Ok.entry c.args.n c.args.state (Some c.in-Err-check_by_means.fault)) c.deref.ensures.value c.in-Err-check_by_means.ensures.value in
+    let says : Says c.args.model.now c.args.self.now.means.items c.in-Ok.entry c.args.n c.args.state (Some c.in-Err-check_at.fault) =
+    subst (λ (means : List Pair). Says c.args.model.now means c.in-Ok.entry c.args.n c.args.state (Some c.in-Err-check_at.fault)) c.deref.ensures.value
+    (says_at m c.deref.result.now c.in-Ok.entry c.args.n c.args.plane.now.present c.args.vertex c.args.state (Some c.in-Err-check_at.fault) c.requires.vertex c.requires.place c.in-Err-check_at.ensures.value) in
     told_map _ c.args.name.now (λ bytes. HasRead digest c.args.self.now.reader bytes → GivesEntry digest (reader_state c.args.self.now.reader) bytes (Ok c.in-Ok.entry)) _
     (λ bytes gives within.
-    unsound_answered m digest c.args.self.now c.args.n c.args.state bytes c.in-Ok.entry c.in-Err-check_by_means.fault c.requires.check c.requires.n c.requires.state within (gives within.accepted.stands) says)
+    unsound_answered m digest c.args.self.now c.args.n c.args.state bytes c.in-Ok.entry c.in-Err-check_at.fault c.requires.check c.requires.n c.requires.state within (gives within.accepted.stands) says)
     (c.in-Ok.ensures.given digest)

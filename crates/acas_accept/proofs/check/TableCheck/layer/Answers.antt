@@ -1,25 +1,27 @@
 use Rattle.std.proofs.Common.{◌≡◌, ◌∙◌, ap, arith}
 use Rattle.std.proofs.lemmas.Result.{err_from_is_err_and}
-use Rattle.acas_spec.specs.Model.{states}
+use Rattle.acas_spec.specs.Model.{GridData, states}
+use Rattle.acas_grid.specs.Grid.{state_number}
 use Rattle.acas_accept.specs.Checking.{IsBeforeLayer, IsInLayer}
+use Rattle.acas_accept.proofs.Planes.{last_plane}
 use Rattle.acas_accept.proofs.Steps.{before_next_layer}
 use Rattle.acas_accept.proofs.Told.{told_all, told_at, told_then}
 use Rattle.acas_accept.proofs.check.TableCheck.layer.Goals as goal
 
-pub returns-in_err-entry-clause-given : goal.returns-in_err-entry-clause-given
-returns-in_err-entry-clause-given g c =
+pub returns-in_err-plane-clause-given : goal.returns-in_err-plane-clause-given
+returns-in_err-plane-clause-given g c =
     let p = err_from_is_err_and c.from_residual.result c.from_residual.ensures.1 in
     rw (p.1, p.2) (λ digest.
-    told_then _ c.args.name.now (λ bytes. IsBeforeLayer c.args.model.now digest c.args.self.now c.args.n bytes) (λ bytes. IsInLayer c.args.model.now digest c.loop-state.self c.args.n c.loop-state.state bytes) _
-    (c.loop-state.invariant.given digest) (told_at _ _ c.args.name.now _ c.loop-state.invariant.frame.holds (c.in_err-entry.ensures.given digest)))
+    told_then _ c.args.name.now (λ bytes. IsBeforeLayer c.args.model.now digest c.args.self.now c.args.n bytes) (λ bytes. IsInLayer c.args.model.now digest c.loop-present.self c.args.n (state_number c.args.model.now.grid c.loop-present.present 0) bytes) _
+    (c.loop-present.invariant.given digest) (told_at _ _ c.args.name.now _ c.loop-present.invariant.frame.holds (c.in_err-plane.ensures.given digest)))
 
-pub loop-state-preserved : goal.loop-state-preserved
-loop-state-preserved g c = record {
-  check = c.in_ok-entry.ensures.check;
+pub loop-present-preserved : goal.loop-present-preserved
+loop-present-preserved g c = record {
+  check = c.in_ok-plane.ensures.check;
   given = λ digest.
-      told_then _ c.args.name.now (λ bytes. IsBeforeLayer c.args.model.now digest c.args.self.now c.args.n bytes) (λ bytes. IsInLayer c.args.model.now digest c.loop-state.self c.args.n c.loop-state.state bytes) _
-      (c.loop-state.invariant.given digest) (told_at _ _ c.args.name.now _ c.loop-state.invariant.frame.holds (c.in_ok-entry.ensures.given digest));
-  shape = c.entry.ensures.shape ∙ c.loop-state.invariant.shape;
+      told_then _ c.args.name.now (λ bytes. IsBeforeLayer c.args.model.now digest c.args.self.now c.args.n bytes) (λ bytes. IsInLayer c.args.model.now digest c.loop-present.self c.args.n (state_number c.args.model.now.grid c.loop-present.present 0) bytes) _
+      (c.loop-present.invariant.given digest) (told_at _ _ c.args.name.now _ c.loop-present.invariant.frame.holds (c.in_ok-plane.ensures.given digest));
+  shape = c.plane.ensures.shape ∙ c.loop-present.invariant.shape;
   taken = grind arith;
   frame = grind arith;
 }
@@ -27,7 +29,8 @@ loop-state-preserved g c = record {
 pub returns-clause-given : goal.returns-clause-given
 returns-clause-given g c = λ digest.
     let m = c.args.model.now in
-    let end : c.loop-state.state ≡ c.states-state-end.result = omega arith in
-    let all : c.loop-state.state ≡ states c.args.model.now.grid = end ∙ c.states-state-end.ensures.value ∙ ap states c.grid.ensures.value in
-    told_then _ c.args.name.now (λ bytes. IsBeforeLayer c.args.model.now digest c.args.self.now c.args.n bytes) (λ bytes. IsInLayer c.args.model.now digest c.loop-state.self c.args.n c.loop-state.state bytes) _
-    (c.loop-state.invariant.given digest) (told_all _ c.args.name.now _ (λ bytes within. before_next_layer m digest c.loop-state.self c.args.n c.loop-state.state bytes all within))
+    let end : c.loop-present.present ≡ c.args.model.now.grid.advisories = omega (arith, ap (λ (g : GridData). g.advisories) c.grid.ensures.value, ap (λ (g : GridData). g.advisories) c.behind-model.view_is) in
+    let all : state_number c.args.model.now.grid c.loop-present.present 0 ≡ states c.args.model.now.grid = last_plane m.grid c.loop-present.present end in
+    told_then _ c.args.name.now (λ bytes. IsBeforeLayer c.args.model.now digest c.args.self.now c.args.n bytes) (λ bytes. IsInLayer c.args.model.now digest c.loop-present.self c.args.n (state_number c.args.model.now.grid c.loop-present.present 0) bytes) _
+    (c.loop-present.invariant.given digest)
+    (told_all _ c.args.name.now _ (λ bytes within. before_next_layer m digest c.loop-present.self c.args.n (state_number c.args.model.now.grid c.loop-present.present 0) bytes all within))

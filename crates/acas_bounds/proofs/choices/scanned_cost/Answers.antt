@@ -1,6 +1,6 @@
 use Rattle.std.proofs.Common.{sym, arith}
 use Rattle.acas_bounds.proofs.Allowed.{allowed_cost-none}
-use Rattle.acas_bounds.proofs.choices.cost_if_allowed.Goals as goal
+use Rattle.acas_bounds.proofs.choices.scanned_cost.Goals as goal
 
 pub returns-clause-value : goal.returns-clause-value
 returns-clause-value c =
