@@ -1,5 +1,5 @@
 //! The advices of an accepted table. What is refused of a table, and why, are cases of `acas_cases`.
-ghost use Rattle.std.specs.Prelude.{◌≡◌, ◌<◌};
+ghost use Rattle.std.specs.Prelude.{◌<◌};
 ghost use Rattle.acas_base.specs.Advices.{AreAdvicesOf};
 
 use crate::layers::{Layers, MODEL, folder_failing, table_of};

@@ -1,7 +1,8 @@
 //! Entries that are held against the layer below, by its values and by its means. More of them are cases of `acas_cases`.
 use self::Wanted::{Allows, Needs, NotAllowed, Sound};
 use crate::models::{COSTLY, NOISY, model_of};
-use acas_bounds::{BoundFault, check_by_means, check_entry, fill_means};
+use acas_bounds::{BoundFault, Plane, check_at, check_by_means, check_entry, fill_means};
+use acas_grid::state_present;
 use acas_units::{Entry, Pair};
 use std::alloc::Global;
 
@@ -44,7 +45,7 @@ impl Wanted {
     }
 }
 
-// What both checks answer of an entry over a layer below, or None where they differ.
+// What all three checks answer of an entry over a layer below, or None where they differ.
 fn answer_of(
     alloc: Global,
     text: &str,
@@ -62,7 +63,10 @@ fn answer_of(
     fill_means(&model, below, &mut means);
     let by_values = check_entry(&model, n, state, &entry, below);
     let by_means = check_by_means(&model, n, state, &entry, &means);
-    if by_values == by_means {
+    let plane = Plane::new(&model, state_present(model.grid(), state));
+    let vertex = state % model.grid().vertices();
+    let at_vertex = check_at(&model, n, &plane, vertex, &entry, &means);
+    if by_values == by_means && by_means == at_vertex {
         Some(by_values)
     } else {
         None

@@ -1,4 +1,7 @@
 //! One second of small models.
+ghost use Rattle.std.specs.Prelude.{◌≡◌, ◌<◌, length};
+ghost use Rattle.acas_spec.specs.Model.{states};
+ghost use Rattle.acas_step.specs.Columns.{columns};
 ghost use Rattle.acas_step.specs.Stencils.{AreStencilsOf};
 
 use crate::models::{FOUR, NOISY, WIDE, model_of};
@@ -6,10 +9,10 @@ use acas_base::{Choice, Model};
 use acas_frac::{Down, Up};
 use acas_grid::{Point, state_present, state_vertex};
 use acas_step::{
-    Backups, Corner, CornerSet, Side, Stencils, backup, corners, mean, means_at, means_with, moved,
-    reach_of, terminal,
+    Backups, ColumnMeans, Corner, CornerSet, Side, Stencils, backup, column_count, corners,
+    fill_column, mean, means_at, moved, reach_of, terminal, vertex_in_column,
 };
-use acas_units::Pair;
+use acas_units::{GREATEST_ADVISORIES, GREATEST_VERTICES, Pair};
 use std::alloc::{AllocError, Global};
 use std::test::Fail;
 
@@ -206,7 +209,21 @@ fn same_corners(model: &Model, stencils: &Stencils) -> bool
     same
 }
 
-// Whether the means by the stencils of a model are the plain ones at each vertex, and there is a second to go.
+// Whether the means at the vertices of a column are the plain ones.
+fn are_plain(model: &Model, column: u32, means: &ColumnMeans, below: &[Pair]) -> bool
+    requires column { column < columns model.now.grid }
+    requires below { length below.now ≡ states model.now.grid }
+{
+    let grid = model.grid();
+    let mut same = true;
+    for i in 0..grid.h.len() {
+        let plain = means_at(model, vertex_in_column(grid, column, i), below);
+        same = same && means[i as usize] == plain;
+    }
+    same
+}
+
+// Whether the means by the stencils of a model are the plain ones in each column, and there is a second to go.
 fn same_means(model: &Model, stencils: &Stencils, below: &[Pair]) -> bool
     requires { AreStencilsOf model.now stencils.now }
 {
@@ -215,10 +232,12 @@ fn same_means(model: &Model, stencils: &Stencils, below: &[Pair]) -> bool
         return false;
     }
     let reach = reach_of(model, below);
+    let none = [Pair { upper: 0, lower: 0 }; GREATEST_ADVISORIES as usize];
+    let mut means = [none; GREATEST_VERTICES as usize];
     let mut same = true;
-    for vertex in 0..grid.vertices() {
-        let plain = means_at(model, vertex, below);
-        same = same && means_with(model, stencils, reach, vertex, below) == plain;
+    for column in 0..column_count(grid) {
+        fill_column(model, stencils, reach, column, below, &mut means);
+        same = same && are_plain(model, column, &means, below);
     }
     same
 }
