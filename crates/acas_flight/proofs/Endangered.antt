@@ -20,7 +20,7 @@ IsInside-finer q m s n i = (
   rw (mul_pos_mul_ℤ s.greatest q m) (scaled_le n (s.greatest *ℤ pos q) m i.1),
 )
 
-IsDuring-finer : (q m : ℕ) (w : Times) (t : ℕ) → IsDuring q w t → IsDuring (q * m) w (t * m)
+pub IsDuring-finer : (q m : ℕ) (w : Times) (t : ℕ) → IsDuring q w t → IsDuring (q * m) w (t * m)
 IsDuring-finer q m w t d = (
   rw (mul_pos_mul_ℤ w.from.num q m, moved t w.from.den m) (scaled_le (w.from.num *ℤ pos q) (pos (t * w.from.den)) m d.0),
   rw (mul_pos_mul_ℤ w.to.num q m, moved t w.to.den m) (scaled_le (pos (t * w.to.den)) (w.to.num *ℤ pos q) m d.1),

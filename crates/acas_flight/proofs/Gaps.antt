@@ -1,8 +1,9 @@
 -- Gaps from whole numbers; the borders of a box; clear boxes by their extremes.
 use Rattle.std.proofs.Common.{◌≡◌, ℕ, ◌*◌, ◌<◌, ⊎_elim, refl, sym, ap, ap₂, ◌∙◌, arith, Bool, true, false, cond, [], ◌∷◌, ℤ, pos, neg_ℤ, ◌+ℤ◌, ◌-ℤ◌, ◌*ℤ◌, ◌≤ℤ◌, ◌<ℤ◌, int_lt, mul-pos}
 use Rattle.std.proofs.lemmas.Int.{ints}
+use Rattle.std.proofs.Math.Nat.{mul-lt-mul_of_pos_right}
 use lib.IntN.{*ℤ_comm}
-use Rattle.acas_frac.proofs.SignedProducts.{mul-le_ℤ, mul-lt_ℤ, neg-mul_ℤ}
+use Rattle.acas_frac.proofs.SignedProducts.{mul-le_ℤ, mul-lt_ℤ, neg-mul_ℤ, le-from_mul_ℤ, lt-from_mul_ℤ}
 use Rattle.acas_flight.proofs.IntRing.{at, num, ◌⊕◌, ◌⊖◌, ◌⊗◌, ring, mul_swapped_ℤ, sub-mul_ℤ, zero-sub_ℤ}
 use Rattle.acas_flight.proofs.Orders.{cases_lt_ℤ, neg-lt_ℤ}
 use Rattle.acas_flight.proofs.Scales.{cancel_left, pos_inj}
@@ -12,12 +13,12 @@ use Rattle.acas_flight.proofs.Mirror.{turned_held}
 use Rattle.acas_flight.specs.Response.{Demand, scaled}
 use Rattle.acas_flight.specs.Contact.{vertical_separation}
 use Rattle.acas_flight.specs.Curves.{held, low_pull, low_hold, high_pull, high_hold}
-use Rattle.acas_flight.specs.Window.{Times}
+use Rattle.acas_flight.specs.Window.{Times, IsDuring}
 use Rattle.acas_flight.specs.Clear.{Area, low_pull_of, high_pull_of, least_gap, greatest_gap}
-use Rattle.acas_flight.specs.Values.{negated}
+use Rattle.acas_flight.specs.Values.{negated, IsOver}
 use Rattle.acas_flight.specs.Border.{Border, border_gap, IsGapAt, IsLeastGap, low_border_of, high_border_of, gap_number}
-use Rattle.acas_flight.specs.Extremes.{IsLowExtreme, IsHighExtreme}
-use Rattle.acas_frac.specs.Fraction.{Fraction}
+use Rattle.acas_flight.specs.Extremes.{IsLowExtreme, IsHighExtreme, IsLowGapAt, IsHighGapAt}
+use Rattle.acas_frac.specs.Fraction.{Fraction, IsReduced}
 
 module _ (s : Border) (d n q t : ℕ) (e : t * d ≡ n * q) where
   climbs : held (s.start *ℤ pos (q * q)) (s.aim *ℤ pos (q * q)) (s.pull * q) (s.hold * q) t *ℤ pos ((d * d) * (d * d))
@@ -138,33 +139,55 @@ module _ (a : Demand) (box : Area) (q : ℕ) (p : 0 < q) where
           (ap₂ (λ (v k : ℤ). held v k b g t) (neg-mul_ℤ box.own.greatest (pos (q * q))) (neg-mul_ℤ a.hi (pos (q * q))) ∙ turned_held (box.own.greatest *ℤ pos (q * q)) (a.hi *ℤ pos (q * q)) b g t)
           (opposite b box.altitude.least box.intruder.least)
 
--- The extremes of a box are those of its borders.
-pub low_extreme_of : (a : Demand) (box : Area) (w : Times) (time y : Fraction) → IsLeastGap (low_border_of a box) w time y → IsLowExtreme a box w time y
-low_extreme_of a box w time y l = record {
+-- ---- the extremes of a box are those of its borders
+
+-- a time over q that is earlier
+earlier : (q s t d : ℕ) (n : ℤ) → 0 < d → pos s *ℤ pos d ≡ n *ℤ pos q → t < s → pos (t * d) <ℤ (n *ℤ pos q)
+earlier q s t d n p e h = let l : t * d < s * d = mul-lt-mul_of_pos_right h p in omega (arith, ints)
+
+module _ (s : Border) (w : Times) (time y : Fraction) (l : IsLeastGap s w time y) (p : 0 < y.den) where
+  -- no gap of the window is less than that at the time
+  least_border : (q k t : ℕ) → 0 < q → IsOver q (pos k) time → IsDuring q w t → border_gap s q k ≤ℤ border_gap s q t
+  least_border q k t some i j = le-from_mul_ℤ y.den (border_gap s q k) (border_gap s q t) p
+      (rw (*ℤ_comm (pos y.den) (border_gap s q k), *ℤ_comm (pos y.den) (border_gap s q t), ← l.value.over q k some i) (l.least q t some j))
+
+  -- a gap before it is greater
+  earliest_border : (q k t : ℕ) → 0 < time.den → 0 < q → IsOver q (pos k) time → IsDuring q w t → t < k → border_gap s q k <ℤ border_gap s q t
+  earliest_border q k t d some i j h = lt-from_mul_ℤ y.den (border_gap s q k) (border_gap s q t)
+      (rw (*ℤ_comm (pos y.den) (border_gap s q k), *ℤ_comm (pos y.den) (border_gap s q t), ← l.value.over q k some i) (l.earliest q t some j (earlier q k t time.den time.num d i h)))
+
+pub low_extreme_of : (a : Demand) (box : Area) (w : Times) (time y : Fraction) → 0 < y.den → IsReduced time → pos 0 ≤ℤ time.num → IsLeastGap (low_border_of a box) w time y → IsLowExtreme a box w time
+low_extreme_of a box w time y p reduced ahead l = record {
+  reduced = reduced;
+  ahead = ahead;
   after = l.after;
   before = l.before;
-  value = λ q t p i. rw (least_gap-border a box q p t, low_pull-border a box q p) (l.value.over q t p i);
-  least = λ q t p i. rw (least_gap-border a box q p t, low_pull-border a box q p) (l.least q t p i);
-  earliest = λ q t p i j. rw (least_gap-border a box q p t, low_pull-border a box q p) (l.earliest q t p i j);
+  least = λ q s t some i j. rw (least_gap-border a box q some s, least_gap-border a box q some t) (least_border (low_border_of a box) w time y l p q s t some i j);
+  earliest = λ q s t some i j h. rw (least_gap-border a box q some s, least_gap-border a box q some t) (earliest_border (low_border_of a box) w time y l p q s t reduced.some some i j h);
 }
+
+pub neg-le_ℤ : (a b : ℤ) → a ≤ℤ b → neg_ℤ b ≤ℤ neg_ℤ a
+neg-le_ℤ a b h = omega (arith, ints)
+
+pub high_extreme_of : (a : Demand) (box : Area) (w : Times) (time y : Fraction) → 0 < y.den → IsReduced time → pos 0 ≤ℤ time.num → IsLeastGap (high_border_of a box) w time y → IsHighExtreme a box w time
+high_extreme_of a box w time y p reduced ahead l = record {
+  reduced = reduced;
+  ahead = ahead;
+  after = l.after;
+  before = l.before;
+  greatest = λ q s t some i j. rw (greatest_gap-border a box q some s, greatest_gap-border a box q some t) (neg-le_ℤ _ _ (least_border (high_border_of a box) w time y l p q s t some i j));
+  earliest = λ q s t some i j h. rw (greatest_gap-border a box q some s, greatest_gap-border a box q some t) (neg-lt_ℤ _ _ (earliest_border (high_border_of a box) w time y l p q s t reduced.some some i j h));
+}
+
+-- the gaps at a time
+
+pub low_gap_of : (a : Demand) (box : Area) (time y : Fraction) → IsGapAt (low_border_of a box) time y → IsLowGapAt a box time y
+low_gap_of a box time y g = record { over = λ q t p i. rw (least_gap-border a box q p t, low_pull-border a box q p) (g.over q t p i) }
 
 neg_value : (y g : ℤ) (c d : ℕ) → y *ℤ pos c ≡ g *ℤ pos d → neg_ℤ y *ℤ pos c ≡ neg_ℤ g *ℤ pos d
 neg_value y g c d e = neg-mul_ℤ y (pos c) ∙ ap neg_ℤ e ∙ sym (neg-mul_ℤ g (pos d))
 
-neg_le : (y g : ℤ) (c d : ℕ) → (y *ℤ pos c) ≤ℤ (g *ℤ pos d) → (neg_ℤ g *ℤ pos d) ≤ℤ (neg_ℤ y *ℤ pos c)
-neg_le y g c d h = rw (neg-mul_ℤ y (pos c), neg-mul_ℤ g (pos d)) (line (y *ℤ pos c) (g *ℤ pos d) h)
-  where
-    line : (a b : ℤ) → a ≤ℤ b → neg_ℤ b ≤ℤ neg_ℤ a
-    line a b h = omega (arith, ints)
-
-neg_lt : (y g : ℤ) (c d : ℕ) → (y *ℤ pos c) <ℤ (g *ℤ pos d) → (neg_ℤ g *ℤ pos d) <ℤ (neg_ℤ y *ℤ pos c)
-neg_lt y g c d h = rw (neg-mul_ℤ y (pos c), neg-mul_ℤ g (pos d)) (neg-lt_ℤ (y *ℤ pos c) (g *ℤ pos d) h)
-
-pub high_extreme_of : (a : Demand) (box : Area) (w : Times) (time y : Fraction) → IsLeastGap (high_border_of a box) w time y → IsHighExtreme a box w time (negated y)
-high_extreme_of a box w time y l = record {
-  after = l.after;
-  before = l.before;
-  value = λ q t p i. rw (greatest_gap-border a box q p t, high_pull-border a box q p) (neg_value y.num (border_gap (high_border_of a box) q t) (q * q * q * (high_pull a box.own.greatest * q)) y.den (l.value.over q t p i));
-  greatest = λ q t p i. rw (greatest_gap-border a box q p t, high_pull-border a box q p) (neg_le y.num (border_gap (high_border_of a box) q t) (q * q * q * (high_pull a box.own.greatest * q)) y.den (l.least q t p i));
-  earliest = λ q t p i j. rw (greatest_gap-border a box q p t, high_pull-border a box q p) (neg_lt y.num (border_gap (high_border_of a box) q t) (q * q * q * (high_pull a box.own.greatest * q)) y.den (l.earliest q t p i j));
+pub high_gap_of : (a : Demand) (box : Area) (time y : Fraction) → IsGapAt (high_border_of a box) time y → IsHighGapAt a box time (negated y)
+high_gap_of a box time y g = record {
+  over = λ q t p i. rw (greatest_gap-border a box q p t, high_pull-border a box q p) (neg_value y.num (border_gap (high_border_of a box) q t) (q * q * q * (high_pull a box.own.greatest * q)) y.den (g.over q t p i));
 }

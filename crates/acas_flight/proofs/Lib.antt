@@ -17,10 +17,12 @@ pub mod Borders
 pub mod BestTimes
 pub mod EndTimes
 pub mod Gaps
+pub mod GapScales
 pub mod Cuts
 pub mod Finer
 pub mod Models
 pub mod Endangered
+pub mod Extremes
 pub mod Longer
 pub mod Dangers
 pub mod Responses

@@ -1,5 +1,6 @@
 //! The laws of flights under an advisory. The functions do nothing: each clause is a law.
 ghost use Rattle.std.specs.Prelude.{◌≡◌, ℕ, ◌+◌, ◌-◌, ◌*◌, ◌<◌, ◌≤◌, ◌⊎◌, ◌↔◌, ℤ, pos, neg_ℤ, ◌+ℤ◌, ◌-ℤ◌, ◌*ℤ◌, ◌<ℤ◌, ◌≤ℤ◌, unsigned_abs, List, [], ◌∷◌, length};
+ghost use Rattle.acas_frac.specs.Fraction.{Fraction};
 ghost use Rattle.acas_spec.specs.Axis.{place_value};
 ghost use Rattle.acas_spec.specs.Limits.{IsModel};
 ghost use Rattle.acas_spec.specs.Model.{ModelData, advisory_at};
@@ -8,8 +9,9 @@ ghost use Rattle.acas_flight.specs.State.{Box, Interval, IsInBox, IsInCell, IsIn
 ghost use Rattle.acas_flight.specs.Contact.{IsEndangeredBox, IsEndangeredCell, IsInContact};
 ghost use Rattle.acas_flight.specs.Parts.{CanBeMet, finer, until};
 ghost use Rattle.acas_flight.specs.Curves.{approach, held, high_pull, highest, low_pull, lowest};
-ghost use Rattle.acas_flight.specs.Window.{IsContactTimeOfBox, IsContactTimeOfCell, IsWindowOfBox, IsWindowOfCell, Times};
+ghost use Rattle.acas_flight.specs.Window.{IsContactTimeOfBox, IsContactTimeOfCell, IsDuring, IsWindowOfBox, IsWindowOfCell, Times};
 ghost use Rattle.acas_flight.specs.Clear.{Area, IsClear, IsEndangeredDuring, area_of_box, area_of_cell};
+ghost use Rattle.acas_flight.specs.Extremes.{IsHighExtreme, IsLowExtreme};
 
 /// A response lasts as long as its segments do, and climbs what they do, one after another. A segment flies its mean rate: a tick is
 /// 1/120 ft, so it climbs as many ticks in a second as the rates at its start and its end sum to in ft/min.
@@ -230,4 +232,14 @@ pub fn clear_areas_are_safe()
     ensures boxes { (m : ModelData) (box : Box) (advisory : ℕ) (w : Times) → IsModel m → advisory < m.grid.advisories →
         IsWindowOfBox m box.range box.closing w →
         IsClear m.half (demand_of m advisory) (area_of_box box) w → ¬ IsEndangeredBox m box advisory }
+{}
+
+/// There is at most one earliest time of the least gap, and one of the greatest, and no other numbers say it. They depend on the times
+/// of a window, not on how its ends are written.
+pub fn extremes_are_one()
+    ensures low { (a : Demand) (area : Area) (w : Times) (s t : Fraction) → IsLowExtreme a area w s → IsLowExtreme a area w t → s ≡ t }
+    ensures high { (a : Demand) (area : Area) (w : Times) (s t : Fraction) → IsHighExtreme a area w s → IsHighExtreme a area w t → s ≡ t }
+    ensures windows { (a : Demand) (area : Area) (v w : Times) (time : Fraction) →
+        ((q t : ℕ) → 0 < q → IsDuring q v t ↔ IsDuring q w t) →
+        (IsLowExtreme a area v time → IsLowExtreme a area w time) × (IsHighExtreme a area v time → IsHighExtreme a area w time) }
 {}

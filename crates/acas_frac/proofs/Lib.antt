@@ -1,4 +1,5 @@
 pub mod SignedProducts
 pub mod RoundingLaws
 pub mod Lowest
+pub mod Reduced
 pub mod Bounds

@@ -6,7 +6,7 @@ use Rattle.std.proofs.lemmas.Nat.Gcd.{IsGcd-from_zero, same_from_IsGcd, dvd_anti
 use Rattle.std.proofs.Math.Nat.{div-mul_cancel, mul-dvd-mul_right, dvd_of_mul-dvd-mul_right, eq-zero_of_zero-dvd, dvd-mul_left, dvd-mod_iff, dvd-sub, dvd-mul_left_of_dvd, dvd-mul_right, eq_of_mul-eq-mul_right}
 use Rattle.std.proofs.lemmas.Bool.{cases_lt}
 use Rattle.acas_frac.proofs.SignedProducts.{le-from_mul_ℤ, mul_comm_ℤ, neg-mul_ℤ}
-use Rattle.acas_frac.specs.Fraction.{Fraction, IsFrac, ReducesWithinBounds, Same, signed}
+use Rattle.acas_frac.specs.Fraction.{Fraction, IsFrac, IsReduced, ReducesWithinBounds, Same, signed}
 
 -- a divisor of a number above 0 is above 0
 pub divisor_positive : (g n : ℕ) → 0 < n → g ∣ n → 0 < g
@@ -35,7 +35,7 @@ IsGcd-parts a b g n d h p e f = (every n, every d, λ k i j. last k i j)
         let whole : (k * g) ∣ (1 * g) = subst (λ (m : ℕ). (k * g) ∣ m) (sym (one-mul g)) (h.2 (k * g) left right) in
         dvd_of_mul-dvd-mul_right k p whole
 
-across : (n d g num den : ℕ) → n * g ≡ num → d * g ≡ den → n * den ≡ num * d
+pub across : (n d g num den : ℕ) → n * g ≡ num → d * g ≡ den → n * den ≡ num * d
 across n d g num den e f = rw (← e, ← f) (omega arith)
 
 -- A numerator and a denominator, divided by their greatest common divisor.
@@ -68,11 +68,11 @@ module _ (num den g : ℕ) (h : IsGcd num den g) (some : 0 < den) (within : Redu
   pub cross : num / g * den ≡ num * (den / g)
   cross = across (num / g) (den / g) g num den num_whole den_whole
 
-abs_signed : (negative : Bool) (n : ℕ) → unsigned_abs (signed negative n) ≡ n
+pub abs_signed : (negative : Bool) (n : ℕ) → unsigned_abs (signed negative n) ≡ n
 abs_signed true n = omega (arith, ints)
 abs_signed false n = refl
 
-cross_signed : (negative : Bool) (m n a b : ℕ) → m * a ≡ n * b → signed negative m *ℤ pos a ≡ signed negative n *ℤ pos b
+pub cross_signed : (negative : Bool) (m n a b : ℕ) → m * a ≡ n * b → signed negative m *ℤ pos a ≡ signed negative n *ℤ pos b
 cross_signed true m n a b e = neg-mul_ℤ (pos m) (pos a) ∙ ap (λ k. neg_ℤ (pos k)) e ∙ sym (neg-mul_ℤ (pos n) (pos b))
 cross_signed false m n a b e = ap pos e
 
@@ -171,20 +171,29 @@ same_lowest n d k m p q h i e =
 same_fraction : (n k : ℤ) (d m : ℕ) → n ≡ k → d ≡ m → ◌≡◌ {A = Fraction} (record { num = n; den = d }) (record { num = k; den = m })
 same_fraction n k d m p q = rw (p, q) refl
 
-cancelled_den : (d : ℕ) (n k : ℤ) → 0 < d → n *ℤ pos d ≡ k *ℤ pos d → n ≡ k
+pub cancelled_den : (d : ℕ) (n k : ℤ) → 0 < d → n *ℤ pos d ≡ k *ℤ pos d → n ≡ k
 cancelled_den d n k p e =
     let least = le-from_mul_ℤ d n k p (omega (arith, ints, mul_comm_ℤ n (pos d), mul_comm_ℤ k (pos d), e)) in
     let most = le-from_mul_ℤ d k n p (omega (arith, ints, mul_comm_ℤ n (pos d), mul_comm_ℤ k (pos d), e)) in
     omega (arith, ints)
 
-pub lowest-same : (f g : Fraction) → IsFrac f → IsFrac g → Same f g → f ≡ g
-lowest-same f g h k e =
+pub IsFrac-IsReduced : (f : Fraction) → IsFrac f → IsReduced f
+IsFrac-IsReduced f h = record { some = h.some; lowest = h.lowest }
+
+pub IsReduced-same : (f g : Fraction) → IsReduced f → IsReduced g → Same f g → f ≡ g
+IsReduced-same f g h k e =
     let sizes = sym (unsigned_abs-mul f.num (pos g.den)) ∙ ap unsigned_abs e ∙ unsigned_abs-mul g.num (pos f.den) in
     let parts = same_lowest (unsigned_abs f.num) f.den (unsigned_abs g.num) g.den h.some k.some h.lowest k.lowest sizes in
     let one_den : f.num *ℤ pos f.den ≡ g.num *ℤ pos f.den = ap (λ (d : ℕ). f.num *ℤ pos d) parts.1 ∙ e in
     same_fraction f.num g.num f.den g.den (cancelled_den f.den f.num g.num h.some one_den) parts.1
 
+pub lowest-same : (f g : Fraction) → IsFrac f → IsFrac g → Same f g → f ≡ g
+lowest-same f g h k e = IsReduced-same f g (IsFrac-IsReduced f h) (IsFrac-IsReduced g k) e
+
 -- a fraction in lowest terms that is n over d has a denominator of at most d
-pub den_at_most : (f : Fraction) (n : ℤ) (d : ℕ) → IsFrac f → 0 < d → f.num *ℤ pos d ≡ n *ℤ pos f.den → f.den ≤ d
-den_at_most f n d h p e =
+pub IsReduced-den_at_most : (f : Fraction) (n : ℤ) (d : ℕ) → IsReduced f → 0 < d → f.num *ℤ pos d ≡ n *ℤ pos f.den → f.den ≤ d
+IsReduced-den_at_most f n d h p e =
     (within_parts (unsigned_abs f.num) f.den 1 (unsigned_abs n) d h.some p (sym (unsigned_abs-mul f.num (pos d)) ∙ ap unsigned_abs e ∙ unsigned_abs-mul n (pos f.den)) h.lowest).1
+
+pub den_at_most : (f : Fraction) (n : ℤ) (d : ℕ) → IsFrac f → 0 < d → f.num *ℤ pos d ≡ n *ℤ pos f.den → f.den ≤ d
+den_at_most f n d h p e = IsReduced-den_at_most f n d (IsFrac-IsReduced f h) p e

@@ -18,6 +18,11 @@ Same f g = f.num *ℤ pos g.den ≡ g.num *ℤ pos f.den
 abbrev pub IsLowest : Fraction → Type 0
 IsLowest f = IsGcd (unsigned_abs f.num) f.den 1
 
+-- a fraction in lowest terms, with a denominator above 0: the one that is printed
+pub record IsReduced (f : Fraction) : Type 0 where
+  pub some : 0 < f.den
+  pub lowest : IsLowest f
+
 -- a fraction in lowest terms with a numerator of at most 10^24 and a denominator from 1 to 10^13
 pub record IsFrac (f : Fraction) : Type 0 where
   pub some : 0 < f.den

@@ -8,12 +8,12 @@ use Rattle.acas_flight.specs.Response.{Demand}
 use Rattle.acas_flight.specs.Window.{Times}
 use Rattle.acas_flight.specs.Clear.{Area}
 use Rattle.acas_flight.specs.Border.{high_border_of, border_of, IsNearestTime, IsGapAt, IsLeastGap}
-use Rattle.acas_flight.specs.Extremes.{IsHighExtreme}
+use Rattle.acas_flight.specs.Extremes.{IsHighGapAt}
 use Rattle.acas_flight.proofs.Orders.{by_above}
 use Rattle.acas_flight.proofs.Scales.{cancel_left}
 use Rattle.acas_flight.proofs.BestTimes.{best_least}
 use Rattle.acas_flight.proofs.EndTimes.{first_least, last_least}
-use Rattle.acas_flight.proofs.Gaps.{high_extreme_of}
+use Rattle.acas_flight.proofs.Gaps.{high_gap_of}
 use Rattle.acas_region.specs.Limits.{AreEnds}
 
 pub test_true : (a b : ℤ) → int_le a b ≡ true → a ≤ℤ b
@@ -62,5 +62,5 @@ opposite_reduces y f = let size : unsigned_abs (neg_ℤ y.num) ≡ unsigned_abs 
 abbrev the_fraction : ℤ → ℕ → Fraction
 the_fraction n d = record { num = n; den = d }
 
-pub high_of : (a : Demand) (box : Area) (w : Times) (time y r : Fraction) → IsLeastGap (high_border_of a box) w time y → (r.num ≡ neg_ℤ y.num) × (r.den ≡ y.den) → IsHighExtreme a box w time r
-high_of a box w time y r l e = subst (λ (f : Fraction). IsHighExtreme a box w time f) (ap₂ (λ (n : ℤ) (d : ℕ). the_fraction n d) (sym e.0) (sym e.1)) (high_extreme_of a box w time y l)
+pub high_gap : (a : Demand) (box : Area) (time y r : Fraction) → IsGapAt (high_border_of a box) time y → (r.num ≡ neg_ℤ y.num) × (r.den ≡ y.den) → IsHighGapAt a box time r
+high_gap a box time y r g e = subst (λ (f : Fraction). IsHighGapAt a box time f) (ap₂ (λ (n : ℤ) (d : ℕ). the_fraction n d) (sym e.0) (sym e.1)) (high_gap_of a box time y g)

@@ -1,6 +1,6 @@
 //! How far a curve is over an intruder that flies at a steady rate: in whole numbers, over those of a time.
 ghost use Rattle.std.specs.Prelude.{◌≡◌, ℕ, ◌*◌, ◌^◌, ◌≤◌, pos, ◌+ℤ◌, ◌-ℤ◌, ◌*ℤ◌, unsigned_abs};
-ghost use Rattle.acas_frac.specs.Fraction.{Fraction};
+ghost use Rattle.acas_frac.specs.Fraction.{Fraction, IsReduced};
 ghost use Rattle.acas_flight.specs.Curves.{held};
 ghost use Rattle.acas_flight.specs.Border.{gap_number};
 ghost use Rattle.acas_region.specs.Limits.{IsEnd};
@@ -12,11 +12,12 @@ use crate::parts::{Chase, Moment};
 use acas_frac::Frac;
 use acas_units::{GREATEST_CLOSING, GREATEST_LIMIT, GREATEST_RATE, WINDOW_SECONDS};
 
-/// The numbers of a window's end, or of another time over as little.
+/// The numbers of a window's end, or of another time over as little, which are in lowest terms.
 pub(crate) fn moment_of(time: &Frac) -> Moment
     requires { IsEnd time.now }
     ensures num { Fraction.num time.now ≡ pos result.num }
     ensures den { Fraction.den time.now ≡ result.den }
+    ensures reduced { IsReduced time.now }
 {
     Moment {
         num: time.num() as u64,

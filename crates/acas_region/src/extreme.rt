@@ -2,7 +2,7 @@
 ghost use Rattle.std.specs.Prelude.{◌<◌};
 ghost use Rattle.acas_frac.specs.Fraction.{IsFrac};
 ghost use Rattle.acas_flight.specs.Response.{demand_of};
-ghost use Rattle.acas_flight.specs.Extremes.{IsHighExtreme, IsLowExtreme};
+ghost use Rattle.acas_flight.specs.Extremes.{IsHighExtreme, IsHighGapAt, IsLowExtreme, IsLowGapAt};
 ghost use Rattle.acas_region.specs.Limits.{IsEnd};
 ghost use Rattle.acas_region.specs.View.{area_of, demand_in, times_of};
 
@@ -15,7 +15,8 @@ use acas_base::Model;
 
 // The least gap under what an advisory asks.
 fn low_of(asked: &Asked, area: &BoxState, window: &Window) -> Extreme
-    ensures least { IsLowExtreme (demand_in asked.now) (area_of area.now) (times_of window.now) result.time result.value }
+    ensures least { IsLowExtreme (demand_in asked.now) (area_of area.now) (times_of window.now) result.time }
+    ensures value { IsLowGapAt (demand_in asked.now) (area_of area.now) result.time result.value }
     ensures end { IsEnd result.time }
     ensures lowest { IsFrac result.value }
 {
@@ -26,7 +27,8 @@ fn low_of(asked: &Asked, area: &BoxState, window: &Window) -> Extreme
 /// its earliest time.
 pub fn low_extreme(model: &Model, area: &BoxState, window: &Window, advisory: u8) -> Extreme
     requires { advisory < model.now.grid.advisories }
-    ensures least { IsLowExtreme (demand_of model.now advisory) (area_of area.now) (times_of window.now) result.time result.value }
+    ensures least { IsLowExtreme (demand_of model.now advisory) (area_of area.now) (times_of window.now) result.time }
+    ensures value { IsLowGapAt (demand_of model.now advisory) (area_of area.now) result.time result.value }
     ensures end { IsEnd result.time }
     ensures lowest { IsFrac result.value }
 {
@@ -35,7 +37,8 @@ pub fn low_extreme(model: &Model, area: &BoxState, window: &Window, advisory: u8
 
 // The greatest gap under it.
 fn high_of(asked: &Asked, area: &BoxState, window: &Window) -> Extreme
-    ensures greatest { IsHighExtreme (demand_in asked.now) (area_of area.now) (times_of window.now) result.time result.value }
+    ensures greatest { IsHighExtreme (demand_in asked.now) (area_of area.now) (times_of window.now) result.time }
+    ensures value { IsHighGapAt (demand_in asked.now) (area_of area.now) result.time result.value }
     ensures end { IsEnd result.time }
     ensures lowest { IsFrac result.value }
 {
@@ -50,7 +53,8 @@ fn high_of(asked: &Asked, area: &BoxState, window: &Window) -> Extreme
 /// at its earliest time.
 pub fn high_extreme(model: &Model, area: &BoxState, window: &Window, advisory: u8) -> Extreme
     requires { advisory < model.now.grid.advisories }
-    ensures greatest { IsHighExtreme (demand_of model.now advisory) (area_of area.now) (times_of window.now) result.time result.value }
+    ensures greatest { IsHighExtreme (demand_of model.now advisory) (area_of area.now) (times_of window.now) result.time }
+    ensures value { IsHighGapAt (demand_of model.now advisory) (area_of area.now) result.time result.value }
     ensures end { IsEnd result.time }
     ensures lowest { IsFrac result.value }
 {

@@ -1,6 +1,6 @@
 //! The least gap between a curve and an intruder that flies at a steady rate, as an exact fraction.
 ghost use Rattle.std.specs.Prelude.{◌≡◌, ◌^◌, ◌<◌, ◌≤◌, pos, ◌*◌, ◌*ℤ◌, ◌<ℤ◌, ◌≤ℤ◌, unsigned_abs};
-ghost use Rattle.acas_frac.specs.Fraction.{Fraction, IsFrac};
+ghost use Rattle.acas_frac.specs.Fraction.{Fraction, IsFrac, IsReduced};
 ghost use Rattle.acas_flight.specs.Border.{IsGapAt, IsLeastGap};
 ghost use Rattle.acas_region.specs.Limits.{IsEnd};
 ghost use Rattle.acas_region.specs.View.{border_in, times_of};
@@ -30,6 +30,7 @@ fn gap(chase: &Chase, time: &Frac) -> Frac
     requires { IsEnd time.now }
     ensures value { IsGapAt (border_in chase.now) time.now result }
     ensures lowest { IsFrac result }
+    ensures reduced { IsReduced time.now }
 {
     let at = moment_of(time);
     quotient(gap_number(chase, &at), scale(chase, &at))
@@ -40,6 +41,7 @@ fn at_ends(chase: &Chase, window: &Window) -> Extreme
     requires { chase.now.aim ≤ℤ chase.now.start }
     ensures least { IsLeastGap (border_in chase.now) (times_of window.now) result.time result.value }
     ensures end { IsEnd result.time }
+    ensures reduced { IsReduced result.time }
     ensures lowest { IsFrac result.value }
 {
     let first = gap(chase, &window.from);
@@ -62,6 +64,7 @@ fn at_nearest(chase: &Chase, window: &Window) -> Extreme
     requires { chase.now.start <ℤ chase.now.aim }
     ensures least { IsLeastGap (border_in chase.now) (times_of window.now) result.time result.value }
     ensures end { IsEnd result.time }
+    ensures reduced { IsReduced result.time }
     ensures lowest { IsFrac result.value }
 {
     let at = nearest(chase, window);
@@ -76,6 +79,7 @@ fn at_nearest(chase: &Chase, window: &Window) -> Extreme
 pub(crate) fn least(chase: &Chase, window: &Window) -> Extreme
     ensures least { IsLeastGap (border_in chase.now) (times_of window.now) result.time result.value }
     ensures end { IsEnd result.time }
+    ensures reduced { IsReduced result.time }
     ensures lowest { IsFrac result.value }
 {
     if chase.start < chase.aim {
