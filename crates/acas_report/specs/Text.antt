@@ -1,10 +1,10 @@
 -- The lines of a report.
-use Rattle.std.specs.Prelude.{ℕ, List, [], ◌∷◌, ◌++◌, codes, pos, Option, None, Some, Bool, true, false}
+use Rattle.std.specs.Prelude.{ℕ, List, [], ◌∷◌, ◌++◌, codes, Bool, true, false}
 use Rattle.std.specs.Fmt.{decimal, signed_decimal}
 use Rattle.std.specs.List.{flat_map}
 use Rattle.acas_spec.specs.Model.{ModelData, advisory_at}
-use Rattle.acas_frac.specs.Fraction.{Fraction, fraction_text, whole_of}
-use Rattle.acas_witness.specs.declared.flight.Flight.{Flight}
+use Rattle.acas_frac.specs.Fraction.{fraction_text}
+use Rattle.acas_witness.specs.Printed.{segments_of}
 use Rattle.acas_witness.specs.declared.flight.Segment.{Segment}
 use Rattle.acas_witness.specs.declared.flight.Witness.{Witness}
 use Rattle.acas_cell.specs.declared.name.CellName.{CellName}
@@ -25,24 +25,6 @@ labelled word text = field word ++ field text
 -- a segment: its duration, `@` and its acceleration
 unfoldable pub segment_text : Segment → List ℕ
 segment_text s = fraction_text s.duration ++ 64 ∷ fraction_text s.acceleration
-
--- a hold is a segment of acceleration 0
-abbrev pub level : Fraction → Segment
-level duration = record { duration = duration; acceleration = whole_of (pos 0) }
-
--- the segment of a hold, if there is one
-abbrev pub hold_part : Option Fraction → List Segment
-hold_part None = []
-hold_part (Some duration) = level duration ∷ []
-
--- a segment, if there is one
-abbrev pub part : Option Segment → List Segment
-part None = []
-part (Some s) = s ∷ []
-
--- the segments of a response: the hold, and then the others
-abbrev pub segments_of : Flight → List Segment
-segments_of f = hold_part f.hold ++ (part f.first ++ part f.second)
 
 -- segments, each behind a space
 abbrev pub parts_text : List Segment → List ℕ

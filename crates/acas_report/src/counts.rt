@@ -5,6 +5,7 @@ ghost use Rattle.acas_report.specs.Report.{is_left_out};
 ghost use Rattle.acas_report.specs.Text.{is_certified};
 
 use acas_cell::Ruling;
+use thiserror::Error;
 
 /// How many lines there are of each kind, those that are left out included, and how many clear cells.
 #[derive(Clone, Copy, Debug, PartialEq, Eq)]
@@ -24,11 +25,13 @@ pub enum Which {
 }
 
 /// Why a report was not written whole.
-#[derive(Clone, Copy, Debug, PartialEq, Eq)]
+#[derive(Clone, Copy, Debug, PartialEq, Eq, Error)]
 pub enum ReportFault {
     /// The sink failed.
+    #[error("the sink failed")]
     Sink = 1,
     /// There was no memory for the line and the buffer.
+    #[error("out of memory")]
     Memory = 2,
 }
 

@@ -2,7 +2,8 @@
 ghost use Rattle.std.specs.Prelude.{◌≡◌, ◌+◌, ◌*◌, ◌≤◌, ◌++◌, length, codes};
 ghost use Rattle.std.specs.Fmt.{signed_decimal};
 ghost use Rattle.acas_frac.specs.Fraction.{fraction_text};
-ghost use Rattle.acas_report.specs.Text.{labelled, part, parts_text, response_text, segment_text, segments_of, witness_text};
+ghost use Rattle.acas_witness.specs.Printed.{segments_of, some_part};
+ghost use Rattle.acas_report.specs.Text.{labelled, parts_text, response_text, segment_text, witness_text};
 
 use crate::fields::{FRAC_BYTES, line_frac};
 use acas_frac::Frac;
@@ -89,7 +90,7 @@ fn line_response(line: &mut Line, flight: &Flight)
 // Appends up to two segments, or `none`.
 fn line_segments(line: &mut Line, first: &Option<Segment>, second: &Option<Segment>)
     requires { length line.old + 2 * SEGMENT_BYTES + 1 ≤ LINE_BYTES }
-    ensures value { line.new ≡ line.old ++ response_text (part first.now ++ part second.now) }
+    ensures value { line.new ≡ line.old ++ response_text (some_part first.now ++ some_part second.now) }
     ensures room { length line.new ≤ length line.old + 2 * SEGMENT_BYTES + 1 }
 {
     match first {
@@ -104,7 +105,7 @@ fn line_segments(line: &mut Line, first: &Option<Segment>, second: &Option<Segme
 // Appends a segment, or `none`.
 fn line_only(line: &mut Line, segment: &Option<Segment>)
     requires { length line.old + SEGMENT_BYTES ≤ LINE_BYTES }
-    ensures value { line.new ≡ line.old ++ response_text (part segment.now) }
+    ensures value { line.new ≡ line.old ++ response_text (some_part segment.now) }
     ensures room { length line.new ≤ length line.old + SEGMENT_BYTES }
 {
     match segment {
@@ -117,7 +118,7 @@ fn line_only(line: &mut Line, segment: &Option<Segment>)
 #[tactic(auto, unfolding(crate::specs::Text::field))]
 fn line_next(line: &mut Line, segment: &Option<Segment>)
     requires { length line.old + 1 + SEGMENT_BYTES ≤ LINE_BYTES }
-    ensures value { line.new ≡ line.old ++ parts_text (part segment.now) }
+    ensures value { line.new ≡ line.old ++ parts_text (some_part segment.now) }
     ensures room { length line.new ≤ length line.old + 1 + SEGMENT_BYTES }
 {
     match segment {

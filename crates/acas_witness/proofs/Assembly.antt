@@ -1,15 +1,17 @@
 -- A response from its parts.
-use Rattle.std.proofs.Common.{◌≡◌, ◌≢◌, ℕ, ◌-◌, ◌*◌, ◌<◌, ◌≤◌, ap, ◌∙◌, arith, Some, None, [], ◌∷◌, ℤ, pos, neg_ℤ, ◌-ℤ◌, ◌*ℤ◌, ◌≤ℤ◌, unsigned_abs, int_le, cond, mul-pos, of_z}
+use Rattle.std.proofs.Common.{◌≡◌, ◌≢◌, refl, sym, ℕ, ◌-◌, ◌*◌, ◌<◌, ◌≤◌, ap, ◌∙◌, arith, Option, Some, None, List, [], ◌∷◌, ◌++◌, ℤ, pos, neg_ℤ, ◌-ℤ◌, ◌*ℤ◌, ◌≤ℤ◌, unsigned_abs, int_le, cond, mul-pos, of_z}
 use Rattle.std.specs.Int.{w128}
 use Rattle.std.proofs.lemmas.Int.{ints}
+use Rattle.std.proofs.lemmas.Option.{none-some}
 use Rattle.acas_flight.proofs.Rising.{scaled_le}
 use Rattle.acas_frac.specs.Fraction.{Fraction, IsFrac, whole_of}
+use Rattle.acas_flight.specs.Response as response
 use Rattle.acas_flight.specs.Values.{IsAtMost, IsOver}
 use Rattle.acas_frac.proofs.Lowest.{den_at_most}
 use Rattle.acas_region.specs.Limits.{IsRate, IsPull}
 use Rattle.acas_passes.specs.Responses.{segment, not_held, held_for, at_once, at_aim, before, past}
 use Rattle.acas_witness.specs.Bends.{IsBend, IsDifference}
-use Rattle.acas_witness.specs.Printed.{IsHeldPart, no_hold, a_hold, AreSegments, no_parts, one_part, two_parts}
+use Rattle.acas_witness.specs.Printed.{IsPart, AreParts, IsHeldPart, AreSegments, no_parts, a_part, level}
 use Rattle.acas_witness.specs.declared.flight.Segment.{Segment}
 use Rattle.acas_witness.proofs.Lattices.{at_least, at_most}
 use Rattle.acas_witness.proofs.Portions.{some_of, none_over}
@@ -20,15 +22,27 @@ not_zero z n d f = λ e. d (ap (λ x. of_z w128 x) (f ∙ e))
 abbrev part : Fraction → Fraction → Segment
 part d a = record { duration = d; acceleration = a }
 
+one_part : (n : ℕ) (s : response.Segment) (f : Segment) → IsPart n s f → AreParts n (s ∷ []) (f ∷ [])
+one_part n s f is = a_part s f [] [] is no_parts
+
+pub AreParts-append : (n : ℕ) (xs ys : List response.Segment) (fs gs : List Segment) → AreParts n xs fs → AreParts n ys gs → AreParts n (xs ++ ys) (fs ++ gs)
+AreParts-append n _ ys _ gs no_parts more = more
+AreParts-append n _ ys _ gs (a_part s f rest others is parts) more = a_part s f (rest ++ ys) (others ++ gs) is (AreParts-append n rest ys others gs parts more)
+
+-- an option that is not left out
+some_first : {X : Type 0} (x : X) (o : Option X) → Some x ≡ None → o ≡ None
+some_first x o e = absurd (none-some x (sym e))
+
 pub without : (q : ℕ) (v k : ℤ) (b t : ℕ) → t ≡ 0 → AreSegments q v k b t None None
-without q v k b t e = rw e (record { segments = []; approached = at_once; parts = no_parts })
+without q v k b t e = rw e (record { segments = []; approached = at_once; parts = no_parts; in_order = λ n. refl })
 
 pub level_only : (q : ℕ) (v k : ℤ) (b t : ℕ) (time none : Fraction) → 0 < t → unsigned_abs (k -ℤ v) * q ≡ 0 → IsOver (q * (q * b)) (pos t) time → none ≡ whole_of (pos 0) →
     AreSegments q v k b t (Some (part time none)) None
 level_only q v k b t time none p e o z = record {
   segments = segment t (pos 0) ∷ [];
   approached = at_aim t p e;
-  parts = one_part (segment t (pos 0)) (part time none) (record { duration = o; acceleration = none_over (q * (q * b)) none z });
+  parts = one_part (q * (q * b)) (segment t (pos 0)) (part time none) (record { duration = o; acceleration = none_over (q * (q * b)) none z });
+  in_order = λ n. refl;
 }
 
 abbrev toward_is : ℕ → ℤ → ℤ → ℕ → ℤ
@@ -39,7 +53,8 @@ pub before_bend : (q : ℕ) (v k : ℤ) (b t : ℕ) (time a : Fraction) → 0 < 
 before_bend q v k b t time a p s h o oa = record {
   segments = segment t (toward_is q v k b) ∷ [];
   approached = before t p s h;
-  parts = one_part (segment t (toward_is q v k b)) (part time a) (record { duration = o; acceleration = oa });
+  parts = one_part (q * (q * b)) (segment t (toward_is q v k b)) (part time a) (record { duration = o; acceleration = oa });
+  in_order = λ n. refl;
 }
 
 pub past_bend : (q : ℕ) (v k : ℤ) (b t : ℕ) (bend a rest none : Fraction) → 0 < unsigned_abs (k -ℤ v) * q → unsigned_abs (k -ℤ v) * q < t → IsOver (q * (q * b)) (pos (unsigned_abs (k -ℤ v) * q)) bend → IsOver (q * (q * b)) (cond (int_le v k) (pos (b * (q * b))) (neg_ℤ (pos (b * (q * b))))) a →
@@ -47,15 +62,16 @@ pub past_bend : (q : ℕ) (v k : ℤ) (b t : ℕ) (bend a rest none : Fraction) 
 past_bend q v k b t bend a rest none s h ob oa or z = record {
   segments = segment (unsigned_abs (k -ℤ v) * q) (toward_is q v k b) ∷ segment (t - unsigned_abs (k -ℤ v) * q) (pos 0) ∷ [];
   approached = past t s h;
-  parts = two_parts (segment (unsigned_abs (k -ℤ v) * q) (toward_is q v k b)) (segment (t - unsigned_abs (k -ℤ v) * q) (pos 0)) (part bend a) (part rest none)
-      (record { duration = ob; acceleration = oa }) (record { duration = or; acceleration = none_over (q * (q * b)) none z });
+  parts = a_part (segment (unsigned_abs (k -ℤ v) * q) (toward_is q v k b)) (part bend a) _ _ (record { duration = ob; acceleration = oa })
+      (one_part (q * (q * b)) (segment (t - unsigned_abs (k -ℤ v) * q) (pos 0)) (part rest none) (record { duration = or; acceleration = none_over (q * (q * b)) none z }));
+  in_order = some_first (part bend a) (Some (part rest none));
 }
 
 pub hold_none : (n t : ℕ) → t ≡ 0 → IsHeldPart n t None
-hold_none n t e = rw e (record { segments = []; held = not_held; part = no_hold })
+hold_none n t e = rw e (record { segments = []; held = not_held; part = no_parts })
 
 pub hold_some : (n t : ℕ) (f : Fraction) → 0 < t → IsOver n (pos t) f → IsHeldPart n t (Some f)
-hold_some n t f p o = record { segments = segment t (pos 0) ∷ []; held = held_for t p; part = a_hold (segment t (pos 0)) f o }
+hold_some n t f p o = record { segments = segment t (pos 0) ∷ []; held = held_for t p; part = one_part n (segment t (pos 0)) (level f) (record { duration = o; acceleration = none_over n (whole_of (pos 0)) refl }) }
 
 -- ---- the bend's fraction
 

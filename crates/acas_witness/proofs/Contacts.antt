@@ -1,8 +1,9 @@
 -- The printed flight ends in contact.
-use Rattle.std.proofs.Common.{◌≡◌, ℕ, ◌*◌, ◌<◌, ◌≤◌, ⊎_elim, refl, ap, sym, ◌∙◌, arith, [], ◌∷◌, pos, ◌*ℤ◌, ◌≤ℤ◌, unsigned_abs, mul-pos, mul-le-mul}
+use Rattle.std.proofs.Common.{◌≡◌, ℕ, ◌*◌, ◌<◌, ◌≤◌, ⊎_elim, refl, ap, sym, ◌∙◌, arith, [], ◌∷◌, ◌++◌, pos, ◌*ℤ◌, ◌≤ℤ◌, unsigned_abs, mul-pos, mul-le-mul}
+use Rattle.std.specs.List.{All}
 use Rattle.std.proofs.lemmas.Int.{ints}
 use Rattle.acas_frac.proofs.SignedProducts.{le-from_mul_ℤ}
-use Rattle.acas_frac.specs.Fraction.{Fraction}
+use Rattle.acas_frac.specs.Fraction.{Fraction, IsReduced}
 use Rattle.acas_flight.specs.Response.{Demand}
 use Rattle.acas_flight.specs.Clear.{Area}
 use Rattle.acas_flight.specs.Window.{Times, IsDuring}
@@ -19,7 +20,8 @@ use Rattle.acas_passes.proofs.Touching.{lasts}
 use Rattle.acas_witness.specs.declared.plan.Plan.{Plan}
 use Rattle.acas_witness.specs.declared.flight.Flight as printed
 use Rattle.acas_witness.specs.Witness.{search_between, IsPlanIn, IsFlightInContact}
-use Rattle.acas_witness.specs.Printed.{Prints}
+use Rattle.acas_witness.specs.Printed.{Prints, hold_part, some_part, flight_fractions}
+use Rattle.acas_witness.proofs.Assembly.{AreParts-append}
 use Rattle.acas_witness.proofs.Portions.{finer}
 
 pub unit_positive : (a : Demand) (area : Area) (low high : Fraction) → IsEnd low → IsEnd high → 0 < unit (search_between a area low high)
@@ -55,28 +57,28 @@ along q b = omega arith
 response_of : (q : ℕ) (c : Flight) (f : printed.Flight) (fl : Prints q c f) → IsResponse q c fl.hold.segments fl.segments.segments
 response_of q c f fl = record { held = fl.hold.held; approached = fl.segments.approached }
 
-pub contact_at : (half : ℕ) (s : Search) (w : Times) (c : Flight) (f : printed.Flight) → thinnest ≤ 2 * half → IsSearch s → IsTimed s w → CanMeet half s → IsFound half s c → Prints (unit s) c f → IsFlightInContact half s.demand s.area w f
-contact_at half s w c f thick is timed can found fl = record {
+pub contact_at : (half : ℕ) (s : Search) (w : Times) (c : Flight) (f : printed.Flight) → thinnest ≤ 2 * half → IsSearch s → IsTimed s w → CanMeet half s → IsFound half s c → Prints (unit s) c f → All IsReduced (flight_fractions f) →
+    IsFlightInContact half s.demand s.area w f
+contact_at half s w c f thick is timed can found fl lowest = record {
   q = fine (unit s) c;
   altitude = c.altitude *ℤ pos (fine (unit s) c);
   own = c.own *ℤ pos c.pull;
   intruder = c.intruder *ℤ pos c.pull;
-  hold = fl.hold.segments;
-  rest = fl.segments.segments;
+  response = fl.hold.segments ++ fl.segments.segments;
   time_over = rw (lasts (unit s) c fl.hold.segments fl.segments.segments (response_of (unit s) c f fl)) (finer f.time (unit s) (unit s * c.pull) (pos c.time) fl.time);
   altitude_over = ap (λ z. z *ℤ pos (fine (unit s) c)) (sym fl.altitude);
   own_over = rw (along (unit s) c.pull) (finer f.v0 (unit s * unit s) c.pull c.own fl.own);
   intruder_over = rw (along (unit s) c.pull) (finer f.v1 (unit s * unit s) c.pull c.intruder fl.intruder);
-  held = fl.hold.part;
-  parts = fl.segments.parts;
+  flown = AreParts-append (fine (unit s) c) fl.hold.segments fl.segments.segments (hold_part f.hold) (some_part f.first ++ some_part f.second) fl.hold.part fl.segments.parts;
   contact = found-contact half s w c fl.hold.segments fl.segments.segments thick is timed can found (response_of (unit s) c f fl);
+  reduced = lowest;
 }
 
 pub contact_of : (half : ℕ) (a : Demand) (area : Area) (w : Times) (p : Plan) (f : printed.Flight) (n : IsPlanIn half a area w p) →
-    Prints (unit (search_between a area n.low n.high)) n.found.flight f → IsFlightInContact half a area w f
-contact_of half a area w p f n fl =
+    Prints (unit (search_between a area n.low n.high)) n.found.flight f → All IsReduced (flight_fractions f) → IsFlightInContact half a area w f
+contact_of half a area w p f n fl lowest =
     contact_at half (search_between a area n.low n.high) w n.found.flight f n.thick n.fine
-    (record { low_after = n.at_low.after; low_before = n.at_low.before; high_after = n.at_high.after; high_before = n.at_high.before }) n.can n.found.found fl
+    (record { low_after = n.at_low.after; low_before = n.at_low.before; high_after = n.at_high.after; high_before = n.at_high.before }) n.can n.found.found fl lowest
 
 -- the flight's time is one of the window
 pub during_of : (w : Times) (f : Fraction) (q t : ℕ) → 0 < q → pos 0 ≤ℤ f.num → IsOver q (pos t) f → IsDuring q w t → IsDuring f.den w (unsigned_abs f.num)

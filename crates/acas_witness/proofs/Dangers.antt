@@ -27,7 +27,7 @@ not_clear half a area w thick f ends search not =
     let h = high_reached a area w f ends in
     endangers half (search_between a area l.time h.time) w thick (search l.time h.time l.moment h.moment)
     (record { low_after = l.extreme.after; low_before = l.extreme.before; high_after = h.extreme.after; high_before = h.extreme.before })
-    (can_meet half a area w l.time h.time l.gap h.gap f l.extreme h.extreme l.moment.some h.moment.some l.moment.least h.moment.least l.some h.some not)
+    (can_meet half a area w l.time h.time l.extreme h.extreme not)
 
 -- the same of an area within the limits, under an advisory of a model
 pub not_clear_in : (m : ModelData) (advisory : ℕ) (area : BoxState) (window : Window) → IsModel m → advisory < m.grid.advisories →

@@ -1,20 +1,24 @@
 -- The least gap of an area, and the greatest, are reached at some time of the window.
-use Rattle.std.proofs.Common.{◌≡◌, ℕ, ◌*◌, ◌<◌, ◌≤◌, inl, inr, refl, ap, arith, ℤ, pos, neg_ℤ, ◌+ℤ◌, ◌-ℤ◌, ◌*ℤ◌, ◌≤ℤ◌, ◌<ℤ◌, cond, mul-pos}
+use Rattle.std.proofs.Common.{◌≡◌, ℕ, ◌*◌, ◌<◌, ◌≤◌, inl, inr, refl, ap, ◌∙◌, arith, [], ◌∷◌, ℤ, pos, neg_ℤ, ◌+ℤ◌, ◌-ℤ◌, ◌*ℤ◌, ◌≤ℤ◌, ◌<ℤ◌, cond, mul-pos}
 use Rattle.std.proofs.lemmas.Int.{ints}
 use Rattle.std.specs.Int.Signed.{≤ℤ_refl}
 use lib.IntN.{*ℤ_comm}
 use Rattle.acas_units.specs.declared.limits.TheConstants.{WINDOW_SECONDS}
-use Rattle.acas_frac.specs.Fraction.{Fraction}
+use Rattle.acas_frac.specs.Fraction.{Fraction, IsReduced, Same}
+use Rattle.acas_frac.proofs.Reduced.{some_reduced, num_ahead}
+use Rattle.acas_frac.proofs.SignedProducts.{mul-le_ℤ, mul-lt_ℤ, le-from_mul_ℤ, lt-from_mul_ℤ}
 use Rattle.acas_flight.specs.Response.{Demand}
 use Rattle.acas_flight.specs.Parts.{CanBeMet}
 use Rattle.acas_flight.specs.Curves.{low_pull, low_hold, high_pull, high_hold}
 use Rattle.acas_flight.specs.Window.{Times}
 use Rattle.acas_flight.specs.Clear.{Area}
-use Rattle.acas_flight.specs.Border.{Border, border_of, gap_number, turn, IsGapAt, IsLeastGap, IsNearestTime, IsOnTheWay}
+use Rattle.acas_flight.specs.Border.{Border, border_of, gap_number, turn, IsGapAt, IsLeastGap, IsNearestTime, IsOnTheWay, low_border_of, high_border_of}
 use Rattle.acas_flight.specs.Extremes.{IsLowExtreme, IsHighExtreme}
-use Rattle.acas_flight.specs.Values.{negated}
+use Rattle.acas_flight.specs.Values.{IsOver}
 use Rattle.acas_flight.proofs.Between.{test_ge}
+use Rattle.acas_flight.proofs.IntRing.{at, ◌⊗◌, ring}
 use Rattle.acas_flight.proofs.Orders.{cases_lt_ℤ}
+use Rattle.acas_flight.proofs.Scales.{cancel_left}
 use Rattle.acas_flight.proofs.EndTimes.{first_least, last_least}
 use Rattle.acas_flight.proofs.Gaps.{IsGapAt-of, low_extreme_of, high_extreme_of}
 use Rattle.acas_flight.proofs.Safe.{low_pull-some, high_pull-some}
@@ -153,35 +157,81 @@ reached v k b g h x w sb e at_once = elim (cases_lt_ℤ v k) [
   | inr o ↦ rw (at_once o) (falling v k b h x w sb e o)
 ]
 
+-- ---- a least gap is one at the same time in other numbers
+
+IsLeastGap-Same : (s : Border) (w : Times) (f g y : Fraction) → 0 < f.den → 0 < g.den → Same g f → IsLeastGap s w f y → IsLeastGap s w g y
+IsLeastGap-Same s w f g y pf pg e l = record {
+  after = le-from_mul_ℤ f.den (w.from.num *ℤ pos g.den) (g.num *ℤ pos w.from.den) pf (rw (first w.from.num f.den g.den, value w.from.den) (mul-le_ℤ g.den (w.from.num *ℤ pos f.den) (f.num *ℤ pos w.from.den) l.after));
+  before = le-from_mul_ℤ f.den (g.num *ℤ pos w.to.den) (w.to.num *ℤ pos g.den) pf (rw (first w.to.num f.den g.den, value w.to.den) (mul-le_ℤ g.den (f.num *ℤ pos w.to.den) (w.to.num *ℤ pos f.den) l.before));
+  value = record { over = λ q t p i. l.value.over q t p (over q t i) };
+  least = l.least;
+  earliest = λ q t p i h. l.earliest q t p i (lt-from_mul_ℤ g.den (pos (t * f.den)) (f.num *ℤ pos q) (rw (first (pos t) g.den f.den, ← value q) (mul-lt_ℤ f.den (pos (t * g.den)) (g.num *ℤ pos q) pf h)));
+}
+  where
+    first : (z : ℤ) (m n : ℕ) → pos m *ℤ (z *ℤ pos n) ≡ pos n *ℤ (z *ℤ pos m)
+    first z m n = ring (z ∷ pos m ∷ pos n ∷ []) (at 1 ⊗ (at 0 ⊗ at 2)) (at 2 ⊗ (at 0 ⊗ at 1)) refl
+
+    value : (n : ℕ) → pos f.den *ℤ (g.num *ℤ pos n) ≡ pos g.den *ℤ (f.num *ℤ pos n)
+    value n = ring (g.num ∷ pos f.den ∷ pos n ∷ []) (at 1 ⊗ (at 0 ⊗ at 2)) ((at 0 ⊗ at 1) ⊗ at 2) refl ∙ ap (λ z. z *ℤ pos n) e
+        ∙ ring (f.num ∷ pos g.den ∷ pos n ∷ []) ((at 0 ⊗ at 1) ⊗ at 2) (at 1 ⊗ (at 0 ⊗ at 2)) refl
+
+    over : (q t : ℕ) → IsOver q (pos t) g → IsOver q (pos t) f
+    over q t i = cancel_left g.den (pos t *ℤ pos f.den) (f.num *ℤ pos q) pg (first (pos t) g.den f.den ∙ ap (λ z. pos f.den *ℤ z) i ∙ value q)
+
 -- ---- the two gaps of an area
+
+-- a moment in lowest terms, which is the time of the least gap
+record IsReachedLowest (s : Border) (w : Times) : Type 0 where
+  pub time : Fraction
+  pub gap : Fraction
+  pub moment : IsMoment time
+  pub reduced : IsReduced time
+  pub some : 0 < gap.den
+  pub least : IsLeastGap s w time gap
+
+in_lowest_terms : (s : Border) (w : Times) → IsReached s w → IsReachedLowest s w
+in_lowest_terms s w r =
+    let m = r.moment in
+    let f = some_reduced r.time.num r.time.den m.some in
+    record {
+      time = f.fraction;
+      gap = r.gap;
+      moment = record { some = f.reduced.some; least = num_ahead f.fraction r.time.num r.time.den m.some f.same m.least; most = most f.fraction m.some f.same m.most };
+      reduced = f.reduced;
+      some = r.some;
+      least = IsLeastGap-Same s w r.time f.fraction r.gap m.some f.reduced.some f.same r.least;
+    }
+  where
+    turned : (n a b : ℕ) → pos a *ℤ pos (n * b) ≡ pos b *ℤ pos (n * a)
+    turned n a b = ring (pos n ∷ pos a ∷ pos b ∷ []) (at 1 ⊗ (at 0 ⊗ at 2)) (at 2 ⊗ (at 0 ⊗ at 1)) refl
+
+    most : (f : Fraction) → 0 < r.time.den → Same f r.time → r.time.num ≤ℤ pos (WINDOW_SECONDS * r.time.den) → f.num ≤ℤ pos (WINDOW_SECONDS * f.den)
+    most f p e h = le-from_mul_ℤ r.time.den f.num (pos (WINDOW_SECONDS * f.den)) p
+        (rw (*ℤ_comm (pos r.time.den) f.num, e, *ℤ_comm r.time.num (pos f.den), turned WINDOW_SECONDS r.time.den f.den) (mul-le_ℤ f.den r.time.num (pos (WINDOW_SECONDS * r.time.den)) h))
 
 pub record HasLowExtreme (a : Demand) (area : Area) (w : Times) : Type 0 where
   pub time : Fraction
-  pub gap : Fraction
   pub moment : IsMoment time
-  pub some : 0 < gap.den
-  pub extreme : IsLowExtreme a area w time gap
+  pub extreme : IsLowExtreme a area w time
 
 pub record HasHighExtreme (a : Demand) (area : Area) (w : Times) : Type 0 where
   pub time : Fraction
-  pub gap : Fraction
   pub moment : IsMoment time
-  pub some : 0 < gap.den
-  pub extreme : IsHighExtreme a area w time gap
+  pub extreme : IsHighExtreme a area w time
 
 pub low_reached : (a : Demand) (area : Area) (w : Times) → CanBeMet a → AreEnds w → HasLowExtreme a area w
 low_reached a area w f e =
     let v = area.own.least in
-    let r = reached v a.lo (low_pull a v) (low_hold a v) area.altitude.greatest area.intruder.greatest w (low_pull-some a v f) e
-    (λ h. ap (λ t. cond t a.delay 0) (test_ge v a.lo h)) in
-    record { time = r.time; gap = r.gap; moment = r.moment; some = r.some; extreme = low_extreme_of a area w r.time r.gap r.least }
+    let r = in_lowest_terms (low_border_of a area) w (reached v a.lo (low_pull a v) (low_hold a v) area.altitude.greatest area.intruder.greatest w (low_pull-some a v f) e
+    (λ h. ap (λ t. cond t a.delay 0) (test_ge v a.lo h))) in
+    record { time = r.time; moment = r.moment; extreme = low_extreme_of a area w r.time r.gap r.some r.reduced r.moment.least r.least }
 
 pub high_reached : (a : Demand) (area : Area) (w : Times) → CanBeMet a → AreEnds w → HasHighExtreme a area w
 high_reached a area w f e =
     let v = area.own.greatest in
-    let r = reached (neg_ℤ v) (neg_ℤ a.hi) (high_pull a v) (high_hold a v) (neg_ℤ area.altitude.least) (neg_ℤ area.intruder.least) w (high_pull-some a v f) e
-    (λ h. ap (λ t. cond t a.delay 0) (test_ge a.hi v (turned_le v a.hi h))) in
-    record { time = r.time; gap = negated r.gap; moment = r.moment; some = r.some; extreme = high_extreme_of a area w r.time r.gap r.least }
+    let r = in_lowest_terms (high_border_of a area) w (reached (neg_ℤ v) (neg_ℤ a.hi) (high_pull a v) (high_hold a v) (neg_ℤ area.altitude.least) (neg_ℤ area.intruder.least) w (high_pull-some a v f) e
+    (λ h. ap (λ t. cond t a.delay 0) (test_ge a.hi v (turned_le v a.hi h)))) in
+    record { time = r.time; moment = r.moment; extreme = high_extreme_of a area w r.time r.gap r.some r.reduced r.moment.least r.least }
   where
     turned_le : (y z : ℤ) → neg_ℤ z ≤ℤ neg_ℤ y → y ≤ℤ z
     turned_le y z h = omega (arith, ints)

@@ -12,3 +12,4 @@ pub mod CellRanges
 pub mod BoxRanges
 pub mod Extremes
 pub mod Dangers
+pub mod LowestTerms

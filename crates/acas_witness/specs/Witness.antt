@@ -1,7 +1,8 @@
 -- The witness: which flight into the puck is printed for an area that is not clear, and that it is one.
-use Rattle.std.specs.Prelude.{◌≡◌, ℕ, ◌*◌, ◌≤◌, unsigned_abs, List, ◌++◌, ℤ, pos, ◌*ℤ◌}
+use Rattle.std.specs.Prelude.{◌≡◌, ℕ, ◌*◌, ◌≤◌, unsigned_abs, List, ℤ, pos, ◌*ℤ◌}
+use Rattle.std.specs.List.{All}
 use Rattle.acas_spec.specs.Model.{ModelData}
-use Rattle.acas_frac.specs.Fraction.{Fraction}
+use Rattle.acas_frac.specs.Fraction.{Fraction, IsReduced}
 use Rattle.acas_flight.specs.Response.{Segment, Demand, demand_of, lasting}
 use Rattle.acas_flight.specs.Window.{Times, IsDuring}
 use Rattle.acas_flight.specs.Clear.{Area, EndsInVerticalContact, IsClear, IsEndangeredDuring}
@@ -17,7 +18,7 @@ use Rattle.acas_region.specs.declared.parts.Window.{Window}
 use Rattle.acas_witness.specs.declared.flight.Flight as printed
 use Rattle.acas_witness.specs.declared.plan.Plan.{Plan}
 use Rattle.acas_witness.specs.Plans.{IsPlanOf}
-use Rattle.acas_witness.specs.Printed.{Prints, IsHoldPart, AreParts}
+use Rattle.acas_witness.specs.Printed.{Prints, AreParts, segments_of, flight_fractions}
 
 -- the search of an area under a demand from one time to another
 abbrev pub search_between : Demand → Area → Fraction → Fraction → Search
@@ -28,32 +29,27 @@ search_between a area low high = record { demand = a; area = area; low = low; hi
 pub record IsWitnessOf (half : ℕ) (a : Demand) (area : Area) (w : Times) (f : printed.Flight) : Type 0 where
   pub low : Fraction
   pub high : Fraction
-  pub least : Fraction
-  pub greatest : Fraction
-  pub at_low : IsLowExtreme a area w low least
-  pub at_high : IsHighExtreme a area w high greatest
-  pub low_end : IsEnd low
-  pub high_end : IsEnd high
+  pub at_low : IsLowExtreme a area w low
+  pub at_high : IsHighExtreme a area w high
   pub flight : Flight
   pub found : IsFound half (search_between a area low high) flight
   pub prints : Prints (unit (search_between a area low high)) flight f
 
--- Over some q the printed flight has a state of the area, and its response meets the demand, lasts its time, which is one of the
--- window, and ends within the half height.
+-- Over some q the printed flight has a state of the area, and the printed response meets the demand, lasts its time, which is one of
+-- the window, and ends within the half height; and each printed fraction is in lowest terms.
 pub record IsFlightInContact (half : ℕ) (a : Demand) (area : Area) (w : Times) (f : printed.Flight) : Type 0 where
   pub q : ℕ
   pub altitude : ℤ
   pub own : ℤ
   pub intruder : ℤ
-  pub hold : List Segment
-  pub rest : List Segment
-  pub time_over : IsOver q (pos (lasting (hold ++ rest))) f.time
+  pub response : List Segment
+  pub time_over : IsOver q (pos (lasting response)) f.time
   pub altitude_over : altitude ≡ f.h *ℤ pos q
   pub own_over : IsOver q own f.v0
   pub intruder_over : IsOver q intruder f.v1
-  pub held : IsHoldPart q hold f.hold
-  pub parts : AreParts q rest f.first f.second
-  pub contact : EndsInVerticalContact half a area w q altitude own intruder (hold ++ rest)
+  pub flown : AreParts q response (segments_of f)
+  pub contact : EndsInVerticalContact half a area w q altitude own intruder response
+  pub reduced : All IsReduced (flight_fractions f)
 
 -- ---- the same of a window of an area, under an advisory of a model
 
@@ -85,10 +81,8 @@ pub record IsFoundPlan (half : ℕ) (s : Search) (p : Plan) : Type 0 where
 pub record IsPlanIn (half : ℕ) (a : Demand) (area : Area) (w : Times) (p : Plan) : Type 0 where
   pub low : Fraction
   pub high : Fraction
-  pub least : Fraction
-  pub greatest : Fraction
-  pub at_low : IsLowExtreme a area w low least
-  pub at_high : IsHighExtreme a area w high greatest
+  pub at_low : IsLowExtreme a area w low
+  pub at_high : IsHighExtreme a area w high
   pub low_end : IsEnd low
   pub high_end : IsEnd high
   pub thick : thinnest ≤ 2 * half

@@ -1,11 +1,13 @@
 //! The search of a flight in contact.
 ghost use Rattle.std.specs.Prelude.{◌≡◌, ◌<◌};
+ghost use Rattle.std.specs.List.{All};
+ghost use Rattle.acas_frac.specs.Fraction.{IsReduced};
 ghost use Rattle.acas_flight.specs.Response.{demand_of};
 ghost use Rattle.acas_region.specs.Limits.{IsEnd, IsTime};
 ghost use Rattle.acas_region.specs.View.{area_of};
 ghost use Rattle.acas_passes.specs.Search.{CanMeet, high_flight, low_flight, unit};
 ghost use Rattle.acas_witness.specs.Plans.{CanBeFlown, IsOutcomeOf};
-ghost use Rattle.acas_witness.specs.Printed.{PrintsPlan};
+ghost use Rattle.acas_witness.specs.Printed.{PrintsPlan, flight_fractions};
 ghost use Rattle.acas_witness.specs.Surveys.{search_of};
 ghost use Rattle.acas_witness.specs.Witness.{IsClearIn, IsEndangeredIn, IsFoundPlan, IsInContactIn, IsPlanFor, IsTimeOf, IsWitnessIn, search_between};
 
@@ -13,6 +15,7 @@ use crate::flight::Flight;
 use crate::numbers::natural;
 use crate::plan::{Outcome, Plan, fly, is_in_contact};
 use crate::points::rate_steps;
+use crate::reduced::open_flight;
 use crate::response::{held_part, segments_of};
 use crate::search::through;
 use crate::survey::Survey;
@@ -92,10 +95,11 @@ fn flight_of(plan: &Plan) -> Flight
     requires { CanBeFlown plan.now }
     ensures prints { PrintsPlan plan.now result }
     ensures time { result.time ≡ plan.now.time }
+    ensures reduced { All IsReduced (flight_fractions result) }
 {
     let (hold, rest) = held_part(&plan.time, &plan.hold);
     let (first, second) = segments_of(&plan.own, &plan.aim, &plan.pull, &rest);
-    Flight {
+    let flight = Flight {
         time: plan.time,
         h: plan.altitude,
         v0: plan.own,
@@ -103,7 +107,9 @@ fn flight_of(plan: &Plan) -> Flight
         hold,
         first,
         second,
-    }
+    };
+    open_flight(&flight);
+    flight
 }
 
 /// The flight into the puck of an area that is not clear in the window. It starts in the area, its response meets the advisory and

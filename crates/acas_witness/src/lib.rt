@@ -13,6 +13,7 @@ mod plans;
 mod points;
 mod quantity;
 mod ranges;
+mod reduced;
 mod response;
 mod search;
 mod survey;

@@ -1,4 +1,3 @@
-use Rattle.std.proofs.Common.{◌++◌}
 use Rattle.acas_flight.specs.Response.{demand_of, lasting}
 use Rattle.acas_region.specs.View.{area_of, times_of}
 use Rattle.acas_passes.specs.Search.{unit}
@@ -14,12 +13,8 @@ returns-clause-rule c =
     record {
       low = n.low;
       high = n.high;
-      least = n.least;
-      greatest = n.greatest;
       at_low = n.at_low;
       at_high = n.at_high;
-      low_end = n.low_end;
-      high_end = n.high_end;
       flight = n.found.flight;
       found = n.found.found;
       prints = c.flight_of.ensures.prints.over (unit (search_between a b n.low n.high)) n.found.flight (unit_positive a b n.low n.high n.low_end n.high_end) n.found.point;
@@ -31,7 +26,7 @@ returns-clause-contact c =
     let b = area_of c.args.area.now in
     let n = c.plan_in-plan.ensures.plan in
     contact_of c.args.model.now.half a b (times_of c.args.window.now) c.plan_in-plan.result c.flight_of.result n
-    (c.flight_of.ensures.prints.over (unit (search_between a b n.low n.high)) n.found.flight (unit_positive a b n.low n.high n.low_end n.high_end) n.found.point)
+    (c.flight_of.ensures.prints.over (unit (search_between a b n.low n.high)) n.found.flight (unit_positive a b n.low n.high n.low_end n.high_end) n.found.point) c.flight_of.ensures.reduced
 
 pub returns-clause-endangered : goal.returns-clause-endangered
 returns-clause-endangered c =
@@ -39,8 +34,8 @@ returns-clause-endangered c =
     let b = area_of c.args.area.now in
     let n = c.plan_in-plan.ensures.plan in
     let t = contact_of c.args.model.now.half a b (times_of c.args.window.now) c.plan_in-plan.result c.flight_of.result n
-    (c.flight_of.ensures.prints.over (unit (search_between a b n.low n.high)) n.found.flight (unit_positive a b n.low n.high n.low_end n.high_end) n.found.point) in
-    (t.q, t.altitude, t.own, t.intruder, t.hold ++ t.rest, t.contact)
+    (c.flight_of.ensures.prints.over (unit (search_between a b n.low n.high)) n.found.flight (unit_positive a b n.low n.high n.low_end n.high_end) n.found.point) c.flight_of.ensures.reduced in
+    (t.q, t.altitude, t.own, t.intruder, t.response, t.contact)
 
 pub returns-clause-time : goal.returns-clause-time
 returns-clause-time c = rw c.flight_of.ensures.time c.plan_in-plan.ensures.flown.limits.curve.time
@@ -51,5 +46,5 @@ returns-clause-during c =
     let b = area_of c.args.area.now in
     let n = c.plan_in-plan.ensures.plan in
     let t = contact_of c.args.model.now.half a b (times_of c.args.window.now) c.plan_in-plan.result c.flight_of.result n
-    (c.flight_of.ensures.prints.over (unit (search_between a b n.low n.high)) n.found.flight (unit_positive a b n.low n.high n.low_end n.high_end) n.found.point) in
-    during_of (times_of c.args.window.now) c.flight_of.result.time t.q (lasting (t.hold ++ t.rest)) t.contact.some (rw c.flight_of.ensures.time c.plan_in-plan.ensures.flown.limits.curve.time.least) t.time_over t.contact.time
+    (c.flight_of.ensures.prints.over (unit (search_between a b n.low n.high)) n.found.flight (unit_positive a b n.low n.high n.low_end n.high_end) n.found.point) c.flight_of.ensures.reduced in
+    during_of (times_of c.args.window.now) c.flight_of.result.time t.q (lasting t.response) t.contact.some (rw c.flight_of.ensures.time c.plan_in-plan.ensures.flown.limits.curve.time.least) t.time_over t.contact.time

@@ -15,10 +15,9 @@ meet-requires c =
     let l = c.low_extreme-low in
     let h = c.high_extreme-high in
     let s = search_between (demand_of m c.args.advisory) (area_of c.args.area.now) l.result.time h.result.time in
-    let fine = renamed (λ n x. IsSearch x) m.half c.survey_of.result.half (search_of c.survey_of.result) s c.survey_of.ensures.half c.survey_of.ensures.search (search_fine c.survey_of.result) in
     renamed CanMeet c.survey_of.result.half m.half s (search_of c.survey_of.result) (sym c.survey_of.ensures.half) (sym c.survey_of.ensures.search)
-    (can_meet m.half (demand_of m c.args.advisory) (area_of c.args.area.now) (times_of c.args.window.now) l.result.time h.result.time l.result.value h.result.value fine.demand
-    l.ensures.least h.ensures.greatest l.ensures.end.some h.ensures.end.some l.ensures.end.least h.ensures.end.least l.ensures.lowest.some h.ensures.lowest.some c.requires.not_clear)
+    (can_meet m.half (demand_of m c.args.advisory) (area_of c.args.area.now) (times_of c.args.window.now) l.result.time h.result.time
+    l.ensures.least h.ensures.greatest c.requires.not_clear)
 
 pub returns-clause-plan : goal.returns-clause-plan
 returns-clause-plan c =
@@ -30,16 +29,14 @@ returns-clause-plan c =
     record {
       low = l.result.time;
       high = h.result.time;
-      least = l.result.value;
-      greatest = h.result.value;
       at_low = l.ensures.least;
       at_high = h.ensures.greatest;
       low_end = l.ensures.end;
       high_end = h.ensures.end;
       thick = renamed (λ n x. thinnest ≤ 2 * n) m.half c.survey_of.result.half (search_of c.survey_of.result) s c.survey_of.ensures.half c.survey_of.ensures.search c.survey_of.result.thick;
       fine = fine;
-      can = can_meet m.half (demand_of m c.args.advisory) (area_of c.args.area.now) (times_of c.args.window.now) l.result.time h.result.time l.result.value h.result.value fine.demand
-          l.ensures.least h.ensures.greatest l.ensures.end.some h.ensures.end.some l.ensures.end.least h.ensures.end.least l.ensures.lowest.some h.ensures.lowest.some c.requires.not_clear;
+      can = can_meet m.half (demand_of m c.args.advisory) (area_of c.args.area.now) (times_of c.args.window.now) l.result.time h.result.time
+          l.ensures.least h.ensures.greatest c.requires.not_clear;
       found = renamed (λ n x. IsFoundPlan n x c.meet.result) m.half c.survey_of.result.half (search_of c.survey_of.result) s c.survey_of.ensures.half c.survey_of.ensures.search c.meet.ensures.found;
     }
 
