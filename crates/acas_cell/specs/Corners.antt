@@ -15,18 +15,13 @@ vertex_at i j k = record { i = i; j = j; k = k }
 abbrev pub advice_at_vertex : ModelData → AdvicesData → ℕ → ℕ → Vertex → ℕ
 advice_at_vertex m a n present y = advice_at a (n + 1) (state_number m.grid present (vertex_number m.grid y))
 
+-- a place of an axis and the next
+abbrev pub both : ℕ → List ℕ
+both place = place ∷ (place + 1) ∷ []
+
 -- the eight corners of a cell whose lower corner has the places i, j, k
 abbrev pub corners : ℕ → ℕ → ℕ → List Vertex
-corners i j k =
-    vertex_at i j k
-    ∷ vertex_at i j (k + 1)
-    ∷ vertex_at i (j + 1) k
-    ∷ vertex_at i (j + 1) (k + 1)
-    ∷ vertex_at (i + 1) j k
-    ∷ vertex_at (i + 1) j (k + 1)
-    ∷ vertex_at (i + 1) (j + 1) k
-    ∷ vertex_at (i + 1) (j + 1) (k + 1)
-    ∷ []
+corners i j k = flat_map (λ x. flat_map (λ y. map (λ z. vertex_at x y z) (both k)) (both j)) (both i)
 
 -- the advices at them
 abbrev pub corner_advices : ModelData → AdvicesData → Cell → List ℕ

@@ -1,13 +1,15 @@
 -- What a ruling says of a cell or a box under an advisory.
-use Rattle.std.specs.Prelude.{◌≡◌, ℕ, List, ◌++◌, pos, ◌*ℤ◌}
+use Rattle.std.specs.Prelude.{◌≡◌, ℕ, List, pos, ◌*ℤ◌}
+use Rattle.std.specs.List.{All}
 use Rattle.acas_spec.specs.Model.{ModelData}
+use Rattle.acas_frac.specs.Fraction.{IsReduced}
 use Rattle.acas_flight.specs.Response.{Segment, demand_of, lasting}
 use Rattle.acas_flight.specs.State.{State, IsInBox, IsInCell}
 use Rattle.acas_flight.specs.Contact.{EndsInContact, IsEndangered}
 use Rattle.acas_flight.specs.Window.{IsWindowOfBox, IsWindowOfCell, Times}
 use Rattle.acas_flight.specs.Clear.{area_of_box, area_of_cell}
 use Rattle.acas_flight.specs.Values.{IsOver}
-use Rattle.acas_witness.specs.Printed.{AreParts, IsHoldPart}
+use Rattle.acas_witness.specs.Printed.{AreParts, fractions_of, segments_of}
 use Rattle.acas_witness.specs.Ranges.{IsBoxesRange, IsCellsRange}
 use Rattle.acas_witness.specs.Witness.{IsWitnessOf}
 use Rattle.acas_witness.specs.declared.flight.Witness.{Witness}
@@ -16,22 +18,21 @@ use Rattle.acas_cell.specs.declared.name.CellName.{CellName}
 use Rattle.acas_cell.specs.declared.ruling.Ruling.{Ruling}
 use Rattle.acas_cell.specs.declared.ruling.Ruling.TheVariants.{Certified, Reported}
 
--- Over some q the fractions of the witness are a state of the set, and a response that lasts the printed time, meets the advisory and
--- ends in contact from there.
+-- Over some q the fractions of the witness are a state of the set, and its printed response lasts the printed time, meets the advisory
+-- and ends in contact from there; and each printed fraction is in lowest terms.
 pub record ShowsDanger (m : ModelData) (advisory : ℕ) (IsIn : ℕ → State → Type 0) (w : Witness) : Type 0 where
   pub q : ℕ
   pub state : State
-  pub hold : List Segment
-  pub rest : List Segment
+  pub response : List Segment
   pub range : IsOver q state.range w.range
   pub closing : IsOver q state.closing w.speed
   pub altitude : state.altitude ≡ w.flight.h *ℤ pos q
   pub own : IsOver q state.own w.flight.v0
   pub intruder : IsOver q state.intruder w.flight.v1
-  pub time : IsOver q (pos (lasting (hold ++ rest))) w.flight.time
-  pub held : IsHoldPart q hold w.flight.hold
-  pub parts : AreParts q rest w.flight.first w.flight.second
-  pub contact : EndsInContact m advisory IsIn q state (hold ++ rest)
+  pub time : IsOver q (pos (lasting response)) w.flight.time
+  pub flown : AreParts q response (segments_of w.flight)
+  pub contact : EndsInContact m advisory IsIn q state response
+  pub reduced : All IsReduced (fractions_of w)
 
 -- the witness of a cell under an advice, by the rule: that of its area in its window, with the range and the speed of the cell
 pub record IsWitnessOfCell (m : ModelData) (name : CellName) (w : Witness) : Type 0 where

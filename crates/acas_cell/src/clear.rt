@@ -4,7 +4,7 @@ ghost use Rattle.acas_cell.specs.Blocks.{IsBlockOf, IsEndangeredBlock};
 
 use crate::areas::area_of_block;
 use crate::block::Block;
-use crate::decisions::Decisions;
+use crate::decisions::{Decisions, count_one};
 use acas_base::Model;
 use acas_region::{is_clear, window_of_cell};
 
@@ -19,7 +19,7 @@ pub fn block_clear(model: &Model, n: u32, advice: u8, block: &Block, count: &mut
     ensures danger { result ≡ false → IsEndangeredBlock model.now n advice block.now }
     ensures count { count.new ≡ count.old + 1 }
 {
-    count.add_one();
+    count_one(count);
     let area = area_of_block(model, block);
     let window = window_of_cell(model, n);
     is_clear(model, &area, &window, advice)

@@ -1,40 +1,21 @@
 //! How many blocks were decided.
 ghost use Rattle.std.specs.Prelude.{◌≡◌, ◌+◌, ◌<◌, ◌^◌};
 
-/// Counts the decisions of blocks. It starts at 0, contracts see it as its count, and only the call that decides a block raises it.
+use acas_count::Counter;
+
+/// Work that only the call here does that decides a block: one decision.
 #[derive(Debug, Drop)]
-pub struct Decisions {
-    count: u64,
+pub struct DecidedBlock {
+    decided: (),
 }
 
-impl std::marker::Model for Decisions {
-    ghost use Rattle.std.specs.Prelude.{ℕ};
+/// Counts the decisions of blocks. It starts at 0, contracts see it as its count, and only the call that decides a block raises it.
+pub type Decisions = Counter<DecidedBlock>;
 
-    ghost Value = { ℕ };
-
-    ghost view = { λ d. d.count };
-}
-
-impl Decisions {
-    /// A counter at 0.
-    pub fn new() -> Decisions
-        ensures { result ≡ 0 }
-    {
-        Decisions { count: 0 }
-    }
-
-    /// How many decisions were counted.
-    pub fn count(&self) -> u64
-        ensures { result ≡ self.now }
-    {
-        self.count
-    }
-
-    // Counts one decision.
-    pub(crate) fn add_one(&mut self)
-        requires { self.old + 1 < 2 ^ 64 }
-        ensures { self.new ≡ self.old + 1 }
-    {
-        self.count += 1;
-    }
+// Counts one decision.
+pub(crate) fn count_one(count: &mut Decisions)
+    requires { count.old + 1 < 2 ^ 64 }
+    ensures { count.new ≡ count.old + 1 }
+{
+    count.raise(1, &DecidedBlock { decided: () });
 }

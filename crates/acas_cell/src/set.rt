@@ -39,12 +39,12 @@ impl AdviceSet {
         }
     }
 
-    /// Whether an advice is in the set.
+    /// Whether an advice is in the set. A number of no advisory is in none.
     pub fn has(&self, advice: u8) -> bool
-        requires { advice < GREATEST_ADVISORIES }
         ensures { result ≡ holds self.now advice }
     {
-        (self.bits >> advice) & 1 == 1
+        let bits = self.bits;
+        u32::from(advice) < u16::BITS && (bits >> advice) & 1 == 1
     }
 
     /// Whether no advice is in the set but clear of conflict.

@@ -1,6 +1,6 @@
 //! Verdicts on cells and boxes.
 ghost use Rattle.std.specs.Prelude.{◌≡◌, ◌<◌};
-ghost use Rattle.acas_frac.specs.Fraction.{Fraction};
+ghost use Rattle.acas_frac.specs.Fraction.{IsReduced};
 ghost use Rattle.acas_flight.specs.Clear.{area_of_cell};
 ghost use Rattle.acas_flight.specs.Contact.{IsEndangeredCell};
 ghost use Rattle.acas_flight.specs.Window.{IsWindowOfCell};
@@ -19,11 +19,11 @@ use acas_base::Model;
 use acas_region::{BoxState, Window, is_clear, window_of_box, window_of_cell};
 use acas_witness::{Witness, contact_in, find, of_box, of_cell};
 
-/// The same witness. It opens the range and the speed: their denominators are above 0.
+/// The same witness. It opens the range and the speed: they are in lowest terms.
 fn opened(witness: Witness) -> Witness
     ensures same { result ≡ witness }
-    ensures range { 0 < Fraction.den witness.range }
-    ensures speed { 0 < Fraction.den witness.speed }
+    ensures range { IsReduced witness.range }
+    ensures speed { IsReduced witness.speed }
 {
     let _ = witness.range.den();
     let _ = witness.speed.den();

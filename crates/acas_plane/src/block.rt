@@ -4,7 +4,7 @@ ghost use Rattle.std.specs.Bool.{OnFalse, OnTrue};
 ghost use Rattle.acas_plane.specs.Plane.{IsFree, IsWritten, fresh, missing_in, with_pair};
 
 use crate::places::{Places, Right};
-use crate::turned::Turned;
+use crate::turned::{Turned, TurnedPair};
 use acas_units::Pair;
 use std::alloc::{AllocError, Global};
 use std::marker::Model;
@@ -101,7 +101,7 @@ impl PlaneBlock {
         self.count = self.states;
         self.marks.fill(false);
         self.missing = self.states;
-        turned.add(self.states);
+        turned.raise(u64::from(self.states), &TurnedPair { by_a_turn: () });
     }
 
     /// The pair of the finished plane at a place.

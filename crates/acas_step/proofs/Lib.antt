@@ -23,3 +23,6 @@ pub mod RaisedSums
 pub mod RaisedMeans
 pub mod UnitLaws
 pub mod ColumnPoints
+mod BestFrom
+pub mod BestEntries
+mod OneCornerSet

@@ -1,5 +1,5 @@
 -- The choices under a present advisory.
-use Rattle.std.specs.Prelude.{ℕ, ℤ, pos, ◌+ℤ◌, get_or}
+use Rattle.std.specs.Prelude.{ℕ, ℤ, pos, ◌+ℤ◌, length, get_or, sum_by}
 use Rattle.acas_spec.specs.Model.{ModelData, choices_at}
 use Rattle.acas_spec.specs.declared.parts.Choice.{Choice}
 use Rattle.acas_process.specs.Bounds.{millionths}
@@ -16,3 +16,7 @@ listed_choice m p place = get_or (choices_at m p) place no_choice
 -- the value of choosing the advisory a where p is present, by the mean under each advisory
 abbrev pub value_by_mean : ModelData → ℕ → (ℕ → ℤ) → ℕ → ℤ
 value_by_mean m p mean a = mean a +ℤ millionths (cost_of m p a)
+
+-- how many choices there are under all present advisories
+abbrev pub choice_count : ModelData → ℕ
+choice_count m = sum_by (λ choices. length choices) m.choices

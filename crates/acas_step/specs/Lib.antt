@@ -14,3 +14,4 @@ pub mod Reach
 pub mod Raised
 pub mod Narrow
 pub mod Columns
+pub mod Best

@@ -14,65 +14,45 @@ use crate::layer::Side;
 use crate::stencils::Stencils;
 use crate::values::{mean, mean_with};
 use acas_base::Model;
+use acas_count::Counter;
 use acas_frac::Rounding;
 use acas_spec::Choice;
 use acas_units::{GREATEST_COST, LEAST_COST, Pair};
 
-/// Counts the backups of upper values. It starts at 0, contracts see it as its count, and only the call that forms the upper value
-/// of a choice raises it.
+/// Work that only the calls here do: the upper value of a choice, formed of its mean.
 #[derive(Debug, Drop)]
-pub struct Backups {
-    count: u64,
+pub struct FormedValue {
+    formed: (),
 }
 
-impl std::marker::Model for Backups {
-    ghost use Rattle.std.specs.Prelude.{ℕ};
+/// Counts the backups of upper values. It starts at 0, contracts see it as its count, and only the calls that form the upper values of
+/// choices raise it.
+pub type Backups = Counter<FormedValue>;
 
-    ghost Value = { ℕ };
-
-    ghost view = { λ b. b.count };
+// Counts one backup.
+fn count_one(count: &mut Backups)
+    requires { count.old + 1 < 2 ^ 64 }
+    ensures { count.new ≡ count.old + 1 }
+{
+    count.raise(1, &FormedValue { formed: () });
 }
 
-impl Backups {
-    /// A counter at 0.
-    pub fn new() -> Backups
-        ensures { result ≡ 0 }
-    {
-        Backups { count: 0 }
-    }
-
-    /// How many backups were counted.
-    pub fn count(&self) -> u64
-        ensures { result ≡ self.now }
-    {
-        self.count
-    }
-
-    // Counts one backup.
-    fn add_one(&mut self)
-        requires { self.old + 1 < 2 ^ 64 }
-        ensures { self.new ≡ self.old + 1 }
-    {
-        self.count += 1;
-    }
-}
-
-/// The value of a choice by the mean under its advisory, in millionths: its action value. It counts one backup for the upper side
-/// and none for the lower.
-pub fn value_of_choice(mean: i64, choice: &Choice, side: Side, count: &mut Backups) -> i128
+// The value of a choice by the mean under its advisory, in millionths: its action value. It counts one backup for the upper side and
+// none for the lower.
+fn value_of_choice(mean: i64, choice: &Choice, side: Side, count: &mut Backups) -> i128
     requires { count.old + counted side < 2 ^ 64 }
     ensures value { result ≡ mean +ℤ millionths choice.now.cost }
     ensures count { count.new ≡ count.old + counted side }
 {
     if side == Side::Upper {
-        count.add_one();
+        count_one(count);
     }
     with_cost(mean, choice.cost)
 }
 
 /// Both values of a choice by the means under its advisory, in millionths, where they have 64 bits: those of `value_of_choice`. It
 /// counts one backup, for the upper side.
-pub fn values_of_choice(means: Pair, choice: &Choice, count: &mut Backups) -> Pair
+pub(crate) fn values_of_choice(means: Pair, choice: &Choice, count: &mut Backups) -> Pair
     requires upper { unsigned_abs means.upper ≤ 2 ^ 62 }
     requires lower { unsigned_abs means.lower ≤ 2 ^ 62 }
     requires cost { IsBetween LEAST_COST GREATEST_COST choice.now.cost }
@@ -81,7 +61,7 @@ pub fn values_of_choice(means: Pair, choice: &Choice, count: &mut Backups) -> Pa
     ensures lower { result.lower ≡ means.lower +ℤ millionths choice.now.cost }
     ensures count { count.new ≡ count.old + 1 }
 {
-    count.add_one();
+    count_one(count);
     let cost = 1_000_000 * choice.cost;
     Pair {
         upper: means.upper + cost,

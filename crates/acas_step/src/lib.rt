@@ -3,12 +3,14 @@
 #![tactic(auto)]
 
 mod backups;
+mod best;
 mod cell;
 mod choices;
 mod column_sums;
 mod columns;
 mod divisor;
 mod ending;
+mod entries;
 mod grid_columns;
 mod laws;
 mod layer;
@@ -24,13 +26,14 @@ mod units;
 mod values;
 mod vertex_cells;
 
-pub use backups::{Backups, backup, backup_with, value_of_choice, values_of_choice};
+pub use backups::{Backups, backup, backup_with};
 pub use cell::{Corner, CornerSet, corners};
 pub use choices::{choice_among, choice_at, choice_count, with_cost};
 pub use columns::{ColumnMeans, fill_column};
 pub use ending::terminal;
+pub use entries::{ColumnEntries, VertexEntries, entries_at, fill_entries};
 pub use grid_columns::{column_count, vertex_in_column};
-pub use laws::choices_have_their_values;
+pub use laws::{choices_have_their_values, corners_are_one};
 pub use layer::Side;
 pub use means::{VertexMeans, fill_means, means_at};
 pub use reach::{Reach, reach_of};

@@ -1,4 +1,3 @@
-mod BestFrom
 mod Below
 mod Over
 mod Written

@@ -1,17 +1,15 @@
 -- What the inner functions say of the entries of a table, which stand one after the other, layer by layer.
 use Rattle.std.specs.Prelude.{◌≡◌, ◌≢◌, ℕ, ◌+◌, ◌*◌, ◌%◌, ◌<◌, unsigned_abs, List, length, get_or}
 use Rattle.acas_units.specs.declared.limits.TheConstants.{GREATEST_COST, GREATEST_HORIZON}
-use Rattle.acas_spec.specs.Model.{GridData, ModelData, choices_at, states, vertices}
-use Rattle.acas_spec.specs.declared.place.Vertex.{Vertex}
-use Rattle.acas_frac.specs.Rounding.{down, up}
+use Rattle.acas_spec.specs.Model.{GridData, ModelData, states, vertices}
+use Rattle.acas_grid.specs.Grid.{state_number}
 use Rattle.acas_grid.specs.States.{state_present, state_vertex}
 use Rattle.acas_units.specs.declared.pair.Entry.{Entry}
 use Rattle.acas_units.specs.declared.pair.Pair.{Pair}
-use Rattle.acas_process.specs.Bounds.{choice_value}
-use Rattle.acas_process.specs.Compiled.{compiled, first_least, least}
-use Rattle.acas_step.specs.Columns.{AreAllWithin}
+use Rattle.acas_process.specs.Compiled.{compiled}
+use Rattle.acas_step.specs.Best.{IsOver, entry_at}
 use Rattle.acas_step.specs.Entries.{IsStateEntry}
-use Rattle.acas_step.specs.Layer.{AreWithin, layer_values, pair_at}
+use Rattle.acas_step.specs.Layer.{AreWithin, pair_at}
 use Rattle.acas_step.specs.declared.layer.Side.TheVariants.{Upper, Lower}
 use Rattle.acas_sweep.specs.Turns.{turn}
 
@@ -33,22 +31,10 @@ pub record AreSmall (pairs : List Pair) : Type 0 where
   pub upper : AreWithin greatest_value Upper pairs
   pub lower : AreWithin greatest_value Lower pairs
 
--- no value in any of these lists is larger
-pub record AreAllSmall (lists : List (List Pair)) : Type 0 where
-  pub upper : AreAllWithin greatest_value Upper lists
-  pub lower : AreAllWithin greatest_value Lower lists
-
 -- a layer has such a pair for each state
 pub record IsWhole (m : ModelData) (below : List Pair) : Type 0 where
   pub count : length below ≡ states m.grid
   pub small : AreSmall below
-
--- an entry has the least values of the choices over the layer below, and the first choice that has the least upper value
-pub record IsOver (m : ModelData) (below : List Pair) (p : ℕ) (x : Vertex) (e : Entry) : Type 0 where
-  pub upper : e.pair.upper ≡ least (choice_value up m (layer_values Upper m.grid below) p x) (choices_at m p)
-  pub lower : e.pair.lower ≡ least (choice_value down m (layer_values Lower m.grid below) p x) (choices_at m p)
-  pub advice : e.advice
-      ≡ first_least (choice_value up m (layer_values Upper m.grid below) p x) (choices_at m p)
 
 -- the entries of all states at the vertices whose turn is below a number are over the layer below
 pub record AreOver (m : ModelData) (below : List Pair) (count : ℕ) (pairs : List Pair) (advice : List ℕ)
@@ -60,3 +46,8 @@ pub record AreOver (m : ModelData) (below : List Pair) (count : ℕ) (pairs : Li
 pub record SameElsewhere (g : GridData) (vertex : ℕ) (pairs : List Pair) (advice : List ℕ) (pairs' : List Pair)
     (advice' : List ℕ) : Type 0 where
   pub entry : (s : ℕ) → s % vertices g ≢ vertex → listed_entry pairs' advice' s ≡ listed_entry pairs advice s
+
+-- the first of a vertex's entries, by the number of a present advisory, stand at the states there
+pub record AreWritten (g : GridData) (vertex count : ℕ) (entries : List Entry) (pairs : List Pair) (advice : List ℕ)
+    : Type 0 where
+  pub entry : (p : ℕ) → p < count → listed_entry pairs advice (state_number g p vertex) ≡ entry_at entries p

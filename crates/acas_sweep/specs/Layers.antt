@@ -1,8 +1,9 @@
 -- All layers of a compiled table, and how many backups they take.
-use Rattle.std.specs.Prelude.{◌≡◌, ◌≢◌, ℕ, ◌+◌, ◌*◌, ◌<◌, ◌≤◌, List, length, get_or, slice_range, sum_by}
+use Rattle.std.specs.Prelude.{◌≡◌, ◌≢◌, ℕ, ◌+◌, ◌*◌, ◌<◌, ◌≤◌, List, get_or, slice_range}
 use Rattle.acas_spec.specs.Model.{GridData, ModelData, states, vertices}
 use Rattle.acas_units.specs.declared.pair.Pair.{Pair}
 use Rattle.acas_process.specs.Compiled.{compiled}
+use Rattle.acas_step.specs.Choices.{choice_count}
 use Rattle.acas_step.specs.Layer.{IsLayer}
 
 -- all layers of a table, from no second to go up to the horizon, one after the other, each with so many states
@@ -28,10 +29,6 @@ pub record AreLayers (m : ModelData) (layers : LayersData) : Type 0 where
 -- above layer 0, each advice of a layer is an advisory
 pub record IsAdvised (g : GridData) (n : ℕ) (advice : List ℕ) : Type 0 where
   pub known : (s : ℕ) → s < states g → n ≢ 0 → get_or advice s 0 < g.advisories
-
--- how many choices there are under all present advisories
-abbrev pub choice_count : ModelData → ℕ
-choice_count m = sum_by (λ choices. length choices) m.choices
 
 -- a layer above layer 0 takes a backup for each vertex and choice
 abbrev pub layer_backups : ModelData → ℕ

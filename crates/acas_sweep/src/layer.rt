@@ -10,7 +10,7 @@ ghost use Rattle.acas_sweep.specs.Layers.{layer_backups};
 use crate::order::vertex_after;
 use crate::vertex::fill_vertex;
 use acas_base::Model;
-use acas_step::{Backups, means_at, terminal};
+use acas_step::{Backups, entries_at, terminal};
 use acas_units::{Entry, Pair};
 
 /// The entry of a vertex with no second to go, under each present advisory: the cost at the end, and no advice, which is written 255.
@@ -58,7 +58,7 @@ pub(crate) fn fill_over(
 {
     for written in 0..model.grid().vertices() {
         let vertex = vertex_after(model.grid(), written);
-        let vertex_means = means_at(model, vertex, below);
-        fill_vertex(model, vertex, &vertex_means, pairs, advice, count);
+        let entries = entries_at(model, vertex, below, count);
+        fill_vertex(model, vertex, &entries, pairs, advice);
     }
 }

@@ -3,7 +3,6 @@
 //! from both sides.
 #![tactic(auto)]
 
-mod best;
 mod laws;
 mod layer;
 mod layers;

@@ -3,25 +3,23 @@
 ghost use Rattle.std.specs.Prelude.{◌≡◌, ℕ, ◌+◌, ◌*◌, ◌<◌, ◌≤◌, ◌^◌, length};
 ghost use Rattle.acas_spec.specs.Model.{states, vertices};
 ghost use Rattle.acas_process.specs.Compiled.{compiled};
-ghost use Rattle.acas_step.specs.Columns.{AreColumnMeans, columns};
+ghost use Rattle.acas_step.specs.Best.{AreColumnEntries};
+ghost use Rattle.acas_step.specs.Columns.{columns};
 ghost use Rattle.acas_step.specs.Entries.{IsStateEntry};
 ghost use Rattle.acas_step.specs.Stencils.{AreStencilsOf};
-ghost use Rattle.acas_sweep.specs.Best.{AreBest};
-ghost use Rattle.acas_sweep.specs.Entries.{AreAllSmall, AreOver, AreSmall, IsWhole, SameElsewhere, listed_entry};
+ghost use Rattle.acas_sweep.specs.Entries.{AreOver, AreWritten, IsWhole, SameElsewhere, listed_entry};
 ghost use Rattle.acas_sweep.specs.Filled.{AreEndings, IsFilledTo, pairs_in};
-ghost use Rattle.acas_sweep.specs.Layers.{choice_count, layer_backups};
+ghost use Rattle.acas_sweep.specs.Layers.{layer_backups};
 ghost use Rattle.acas_sweep.specs.Turns.{turn};
 
-use crate::best::best_choice;
 use crate::layer::terminal_entry;
 use crate::order::vertex_after;
 use acas_base::Model;
 use acas_plane::PlaneBlock;
 use acas_step::{
-    Backups, ColumnMeans, Stencils, VertexMeans, column_count, fill_column, reach_of,
-    vertex_in_column,
+    Backups, ColumnEntries, ColumnMeans, Stencils, VertexEntries, column_count, fill_entries,
+    reach_of, vertex_in_column,
 };
-use acas_units::{GREATEST_ADVISORIES, GREATEST_VERTICES, Pair};
 
 // Writes the entries of a vertex with no second to go, under all present advisories.
 fn put_endings(model: &Model, vertex: u32, block: &mut PlaneBlock, advice: &mut [u8])
@@ -54,72 +52,66 @@ pub(crate) fn put_first(model: &Model, block: &mut PlaneBlock, advice: &mut [u8]
     }
 }
 
-// Writes the entries of a vertex under all present advisories, by the means there.
+// Writes the entries of a vertex under all present advisories.
 fn put_vertex(
     model: &Model,
     vertex: u32,
-    vertex_means: &VertexMeans,
+    entries: &VertexEntries,
     block: &mut PlaneBlock,
     advice: &mut [u8],
-    count: &mut Backups,
 )
     requires vertex { vertex < vertices model.now.grid }
-    requires means { AreSmall vertex_means.now }
     requires filled { IsFilledTo model.now.grid (turn model.now.grid vertex) 0 block.old }
     requires advice { states model.now.grid ≤ length advice.old }
-    requires count { count.old + choice_count model.now < 2 ^ 64 }
-    ensures best { AreBest model.now vertex_means.now vertex model.now.grid.advisories
+    ensures written { AreWritten model.now.grid vertex model.now.grid.advisories entries.now
         (pairs_in block.new.work) advice.new }
     ensures others { SameElsewhere model.now.grid vertex (pairs_in block.old.work) advice.old
         (pairs_in block.new.work) advice.new }
     ensures filled { IsFilledTo model.now.grid (turn model.now.grid vertex + 1) 0 block.new }
     ensures finished { block.new.finished ≡ block.old.finished }
-    ensures count { count.new ≡ count.old + choice_count model.now }
 {
     for present in 0..model.grid().advisories as u8 {
-        let best = best_choice(model, present, vertex_means, count);
+        let best = entries[usize::from(present)];
         let state = model.grid().state_number(present, vertex);
         block.put(state, best.pair);
         advice[state as usize] = best.advice;
     }
 }
 
-// Writes the entries of the vertices of a column under all present advisories, by the means there.
+// Writes the entries of the vertices of a column under all present advisories.
 fn put_column(
     model: &Model,
     column: u32,
-    means: &ColumnMeans,
+    entries: &ColumnEntries,
     block: &mut PlaneBlock,
     advice: &mut [u8],
-    count: &mut Backups,
 )
     requires column { column < columns model.now.grid }
-    requires means { AreColumnMeans model.now block.old.finished column means.now }
-    requires small { AreAllSmall means.now }
+    requires entries { AreColumnEntries model.now block.old.finished column entries.now }
     requires over { AreOver model.now block.old.finished (column * length model.now.grid.h)
         (pairs_in block.old.work) advice.old }
     requires filled { IsFilledTo model.now.grid (column * length model.now.grid.h) 0 block.old }
     requires advice { states model.now.grid ≤ length advice.old }
-    requires count { count.old + length model.now.grid.h * choice_count model.now < 2 ^ 64 }
     ensures over { AreOver model.now block.old.finished ((column + 1) * length model.now.grid.h)
         (pairs_in block.new.work) advice.new }
     ensures filled { IsFilledTo model.now.grid ((column + 1) * length model.now.grid.h) 0 block.new }
     ensures finished { block.new.finished ≡ block.old.finished }
-    ensures count { count.new ≡ count.old + length model.now.grid.h * choice_count model.now }
 {
     let grid = model.grid();
     for i in 0..grid.h.len() {
         let vertex = vertex_in_column(grid, column, i);
-        put_vertex(model, vertex, &means[i as usize], block, advice, count);
+        put_vertex(model, vertex, &entries[i as usize], block, advice);
     }
 }
 
-/// Writes a layer over the finished one. It takes no memory.
+/// Writes a layer over the finished one, by room for the means and the entries of a column. It takes no memory.
 pub(crate) fn put_over(
     model: &Model,
     stencils: &Stencils,
     block: &mut PlaneBlock,
     advice: &mut [u8],
+    means: &mut ColumnMeans,
+    entries: &mut ColumnEntries,
     count: &mut Backups,
 )
     requires stencils { AreStencilsOf model.now stencils.now }
@@ -133,10 +125,17 @@ pub(crate) fn put_over(
     ensures count { count.new ≡ count.old + layer_backups model.now }
 {
     let reach = reach_of(model, block.finished());
-    let none = Pair { upper: 0, lower: 0 };
-    let mut means: ColumnMeans = [[none; GREATEST_ADVISORIES as usize]; GREATEST_VERTICES as usize];
     for column in 0..column_count(model.grid()) {
-        fill_column(model, stencils, reach, column, block.finished(), &mut means);
-        put_column(model, column, &means, block, advice, count);
+        fill_entries(
+            model,
+            stencils,
+            reach,
+            column,
+            block.finished(),
+            means,
+            entries,
+            count,
+        );
+        put_column(model, column, entries, block, advice);
     }
 }

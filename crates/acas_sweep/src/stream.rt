@@ -12,7 +12,8 @@ use crate::plane::{put_first, put_over};
 use crate::sink::{LayerFailed, LayerSink};
 use acas_base::Model;
 use acas_plane::{PlaneBlock, Turned};
-use acas_step::{Backups, Stencils};
+use acas_step::{Backups, ColumnEntries, ColumnMeans, Stencils};
+use acas_units::{Entry, GREATEST_ADVISORIES, GREATEST_VERTICES, Pair};
 
 /// Why a sweep ended before its last layer.
 #[derive(Clone, Copy, Debug, PartialEq, Eq)]
@@ -80,13 +81,29 @@ pub fn sweep<S: LayerSink>(
     ensures rising { count.old ≤ count.new }
     ensures rising_turned { turned.old ≤ turned.new }
 {
+    let none = Pair { upper: 0, lower: 0 };
+    let no_entry = Entry {
+        pair: none,
+        advice: 0,
+    };
+    let mut means: ColumnMeans = [[none; GREATEST_ADVISORIES as usize]; GREATEST_VERTICES as usize];
+    let mut entries: ColumnEntries =
+        [[no_entry; GREATEST_ADVISORIES as usize]; GREATEST_VERTICES as usize];
     put_first(model, block, advice);
     match hand_on(0, block, advice, rows, turned) {
         Ok(()) => {}
         Err(LayerFailed) => return Err(SweepFault::Rows),
     }
     for n in 0..model.grid().horizon {
-        put_over(model, stencils, block, advice, count);
+        put_over(
+            model,
+            stencils,
+            block,
+            advice,
+            &mut means,
+            &mut entries,
+            count,
+        );
         match hand_on(n + 1, block, advice, rows, turned) {
             Ok(()) => {}
             Err(LayerFailed) => return Err(SweepFault::Rows),

@@ -1,6 +1,6 @@
 use Rattle.std.proofs.Common.{◌≡◌, ◌+◌, ◌*◌}
+use Rattle.acas_step.specs.Choices.{choice_count}
 use Rattle.acas_sweep.specs.Entries.{AreOver}
-use Rattle.acas_sweep.specs.Layers.{choice_count}
 use Rattle.acas_sweep.proofs.layer.fill_over.Given as goal
 
 abbrev pub invariant-loop-written : goal.invariant-loop-written

@@ -1,12 +1,10 @@
-use Rattle.std.proofs.Common.{◌≡◌, ℕ, ◌+◌, ◌*◌, ◌<◌, ◌≤◌, length, ap, subst, sym, ◌∙◌, arith}
-use Rattle.std.proofs.Math.Nat.{mul-le-mul_right}
+use Rattle.std.proofs.Common.{◌≡◌, ℕ, ◌+◌, ◌*◌, ◌<◌, length, ap, subst, sym, ◌∙◌, arith}
 use Rattle.acas_spec.specs.Model.{GridData}
 use Rattle.acas_grid.specs.States.{vertex_at}
-use Rattle.acas_step.specs.Columns.{pairs_at, vertex_in}
-use Rattle.acas_step.specs.Means.{AreVertexMeans}
+use Rattle.acas_step.specs.Best.{AreVertexEntries, entries_in}
+use Rattle.acas_step.specs.Columns.{vertex_in}
 use Rattle.acas_sweep.specs.Entries.{AreOver}
 use Rattle.acas_sweep.specs.Filled.{IsFilledTo, pairs_in}
-use Rattle.acas_sweep.specs.Layers.{choice_count}
 use Rattle.acas_sweep.specs.Turns.{turn}
 use Rattle.acas_sweep.proofs.Over.{over_next}
 use Rattle.acas_sweep.proofs.Turns.{turn-vertex_in}
@@ -18,11 +16,6 @@ put_vertex-requires-clause-filled c =
     let vertex : c.vertex_in_column-vertex.result ≡ vertex_in g c.args.column c.loop-i.i = rw c.grid-grid.ensures.value at c.vertex_in_column-vertex.ensures.value in
     subst (λ (t : ℕ). IsFilledTo g t 0 c.loop-i.block) (sym (ap (turn g) vertex ∙ turn-vertex_in g c.args.column c.loop-i.i c.requires.column)) c.loop-i.invariant.filled
 
-pub put_vertex-requires-clause-count : goal.put_vertex-requires-clause-count
-put_vertex-requires-clause-count c =
-    let here : c.loop-i.i + 1 ≤ length c.args.model.now.grid.h = omega (arith, c.loop-i-test.true, c.len-i-end.ensures.value, ap (λ (g : GridData). length g.h) (c.grid.view_is ∙ c.grid-grid.ensures.value)) in
-    omega (arith, c.loop-i.invariant.counted, c.requires.count, mul-le-mul_right (choice_count c.args.model.now) here)
-
 pub loop-i-preserved : goal.loop-i-preserved
 loop-i-preserved c =
     let m = c.args.model.now in
@@ -32,13 +25,12 @@ loop-i-preserved c =
     let here : i < length m.grid.h = omega (arith, c.loop-i-test.true, c.len-i-end.ensures.value, ap (λ (g : GridData). length g.h) (c.grid.view_is ∙ c.grid-grid.ensures.value)) in
     let vertex : v ≡ vertex_in m.grid c.args.column i = rw c.grid-grid.ensures.value at c.vertex_in_column-vertex.ensures.value in
     let turn_is : turn m.grid v ≡ c.args.column * length m.grid.h + i = ap (turn m.grid) vertex ∙ turn-vertex_in m.grid c.args.column i c.requires.column in
-    let are : AreVertexMeans m c.args.block.now.finished (vertex_at m.grid v) (pairs_at c.args.means.now i) =
-    subst (λ (w : ℕ). AreVertexMeans m c.args.block.now.finished (vertex_at m.grid w) (pairs_at c.args.means.now i)) (sym vertex) (c.requires.means.each i here) in
+    let are : AreVertexEntries m c.args.block.now.finished (vertex_at m.grid v) (entries_in c.args.entries.now i) =
+    subst (λ (w : ℕ). AreVertexEntries m c.args.block.now.finished (vertex_at m.grid w) (entries_in c.args.entries.now i)) (sym vertex) (c.requires.entries.each i here) in
     let next : c.args.column * length m.grid.h + i + 1 ≡ c.args.column * length m.grid.h + (i + 1) = omega arith in
     record {
-      over = subst (λ (t : ℕ). AreOver m c.args.block.now.finished t (pairs_in c.put_vertex.new.block.work) c.put_vertex.new.advice) next (over_next m c.args.block.now.finished (pairs_at c.args.means.now i) v (c.args.column * length m.grid.h + i) (pairs_in c.loop-i.block.work) c.loop-i.advice (pairs_in c.put_vertex.new.block.work) c.put_vertex.new.advice
-          c.grid-grid.ensures.valid (rw c.grid-grid.ensures.value at c.vertex_in_column-vertex.ensures.below) turn_is are so_far.over c.put_vertex.ensures.best c.put_vertex.ensures.others);
+      over = subst (λ (t : ℕ). AreOver m c.args.block.now.finished t (pairs_in c.put_vertex.new.block.work) c.put_vertex.new.advice) next (over_next m c.args.block.now.finished (entries_in c.args.entries.now i) v (c.args.column * length m.grid.h + i) (pairs_in c.loop-i.block.work) c.loop-i.advice (pairs_in c.put_vertex.new.block.work) c.put_vertex.new.advice
+          (rw c.grid-grid.ensures.value at c.vertex_in_column-vertex.ensures.below) turn_is are so_far.over c.put_vertex.ensures.written c.put_vertex.ensures.others);
       filled = subst (λ (t : ℕ). IsFilledTo m.grid t 0 c.put_vertex.new.block) (ap (λ (t : ℕ). t + 1) turn_is ∙ next) c.put_vertex.ensures.filled;
       finished = c.put_vertex.ensures.finished ∙ so_far.finished;
-      counted = omega (arith, so_far.counted, c.put_vertex.ensures.count);
     }

@@ -2,28 +2,31 @@ use Rattle.std.proofs.Common.{◌≡◌, ℕ, ◌+◌, ◌*◌, ◌≤◌, List,
 use Rattle.std.proofs.Math.Nat.{mul-le-mul_right}
 use Rattle.acas_spec.specs.Model.{GridData, vertices}
 use Rattle.acas_units.specs.declared.pair.Pair.{Pair}
+use Rattle.acas_step.specs.Choices.{choice_count}
 use Rattle.acas_step.specs.Columns.{columns}
 use Rattle.acas_step.proofs.ColumnLaws.{all_columns}
-use Rattle.acas_step.specs.declared.layer.Side.TheVariants.{Lower, Upper}
-use Rattle.acas_sweep.specs.Entries.{AreOver, AreSmall, greatest_value}
+use Rattle.acas_sweep.specs.Entries.{AreOver, AreSmall}
 use Rattle.acas_sweep.specs.Filled.{IsFilledTo, pairs_in}
-use Rattle.acas_sweep.specs.Layers.{choice_count}
-use Rattle.acas_sweep.proofs.Over.{none_small}
+use Rattle.acas_sweep.proofs.Over.{small_within}
 use Rattle.acas_sweep.proofs.plane.put_over.Goals as goal
 
 pub loop-column-init : goal.loop-column-init
 loop-column-init c =
     let start : 0 ≡ 0 * length c.args.model.now.grid.h = omega arith in
     record {
-      small = none_small 129 16;
       over = record { entry = λ s inside before. absurd (omega (arith, before)) };
       filled = subst (λ (t : ℕ). IsFilledTo c.args.model.now.grid t 0 c.args.block.now) start c.requires.filled;
       finished = refl;
       counted = omega arith;
     }
 
-pub put_column-requires-clause-count : goal.put_column-requires-clause-count
-put_column-requires-clause-count c =
+pub fill_entries-requires-clause-small : goal.fill_entries-requires-clause-small
+fill_entries-requires-clause-small c =
+    let below : c.finished-in-loop-column.result.now ≡ c.args.block.now.finished = c.finished-in-loop-column.ensures ∙ c.loop-column.invariant.finished in
+    small_within c.finished-in-loop-column.result.now (subst (λ (l : List Pair). AreSmall l) (sym below) c.requires.below.small)
+
+pub fill_entries-requires-clause-count : goal.fill_entries-requires-clause-count
+fill_entries-requires-clause-count c =
     let m = c.args.model.now in
     let here : c.loop-column.column + 1 ≤ columns m.grid = omega (arith, c.loop-column-test.true, c.column_count-column-end.ensures, ap (λ (g : GridData). columns g) c.grid.ensures.value) in
     let turns : (c.loop-column.column + 1) * length m.grid.h ≤ vertices m.grid = omega (arith, all_columns m.grid, mul-le-mul_right (length m.grid.h) here) in
@@ -33,13 +36,9 @@ pub loop-column-preserved : goal.loop-column-preserved
 loop-column-preserved c =
     let m = c.args.model.now in
     let so_far = c.loop-column.invariant in
-    let below : c.finished-in-loop-column.result.now ≡ c.args.block.now.finished = c.finished-in-loop-column.ensures ∙ so_far.finished in
-    let small : AreSmall c.finished-in-loop-column.result.now = subst (λ (l : List Pair). AreSmall l) (sym below) c.requires.below.small in
-    let bounded = c.fill_column.ensures.bounded greatest_value in
     record {
-      small = record { upper = bounded Upper small.upper so_far.small.upper; lower = bounded Lower small.lower so_far.small.lower };
       over = subst (λ (l : List Pair). AreOver m l ((c.loop-column.column + 1) * length m.grid.h) (pairs_in c.put_column.new.block.work) c.put_column.new.advice) so_far.finished c.put_column.ensures.over;
       filled = c.put_column.ensures.filled;
       finished = c.put_column.ensures.finished ∙ so_far.finished;
-      counted = omega (arith, so_far.counted, c.put_column.ensures.count);
+      counted = omega (arith, so_far.counted, c.fill_entries.ensures.count);
     }

@@ -1,11 +1,12 @@
-use Rattle.std.proofs.Common.{◌≡◌, ℕ, ◌<◌, [], length, set, ap, ◌∙◌, arith}
-use Rattle.std.proofs.lemmas.List.Sums.{sum_by_more}
+use Rattle.std.proofs.Common.{◌≡◌, ℕ, ◌<◌, length, set, ap, ◌∙◌, arith}
 use Rattle.acas_spec.specs.Model.{GridData, states}
 use Rattle.acas_grid.specs.Grid.{state_number}
-use Rattle.acas_plane.specs.Plane.{Plane}
+use Rattle.acas_units.specs.declared.pair.Entry.{Entry}
+use Rattle.acas_plane.specs.Plane.{Plane, with_pair}
+use Rattle.acas_step.specs.Best.{entry_at}
 use Rattle.acas_sweep.specs.Filled.{pairs_in}
 use Rattle.acas_sweep.proofs.Filled.{filled_next, length-pairs_in, next_free, pairs_in-set}
-use Rattle.acas_sweep.proofs.Over.{best_next, elsewhere_next}
+use Rattle.acas_sweep.proofs.Over.{elsewhere_next, written_next}
 use Rattle.acas_sweep.proofs.plane.put_vertex.Goals as goal
 
 pub put-requires-clause-in_range : goal.put-requires-clause-in_range
@@ -24,20 +25,18 @@ loop-present-preserved c =
     let v = c.args.vertex in
     let present = c.loop-present.present in
     let so_far = c.loop-present.invariant in
-    let best = c.best_choice-best in
-    let e = best.result in
+    let e : Entry = entry_at c.args.entries.now present in
     let state : c.state_number-state.result ≡ state_number m.grid present v = c.state_number-state.ensures.value ∙ ap (λ (g : GridData). state_number g present v) c.grid-in-loop-present.ensures.value in
     let below : state_number m.grid present v < states m.grid = rw (← state, ← c.grid-in-loop-present.ensures.value) c.state_number-state.ensures.below in
     let end : c.behind-model.inside.advisories ≡ m.grid.advisories = ap (λ (g : GridData). g.advisories) (c.behind-model.view_is ∙ c.grid.ensures.value) in
-    let known : present < length m.choices = omega (arith, end, c.grid.ensures.valid.choice_count) in
     let pairs = pairs_in c.loop-present.block.work in
+    let put : c.put.new.self ≡ with_pair c.loop-present.block c.state_number-state.result e.pair = c.put.ensures ∙ ap (λ (k : ℕ). with_pair c.loop-present.block c.state_number-state.result (entry_at c.args.entries.now k).pair) c.from.ensures in
     let shown : pairs_in c.put.new.self.work ≡ set pairs (state_number m.grid present v) e.pair =
-    ap (λ (b : Plane). pairs_in b.work) c.put.ensures ∙ pairs_in-set c.loop-present.block.work c.state_number-state.result e.pair ∙ ap (λ (i : ℕ). set pairs i e.pair) state in
+    ap (λ (b : Plane). pairs_in b.work) put ∙ pairs_in-set c.loop-present.block.work c.state_number-state.result e.pair ∙ ap (λ (i : ℕ). set pairs i e.pair) state in
     let long : state_number m.grid present v < length pairs = omega (arith, below, length-pairs_in c.loop-present.block.work, so_far.filled.place_count) in
     record {
-      best = rw (shown, state) (best_next m c.args.vertex_means.now v present pairs c.loop-present.advice e c.requires.vertex long (omega arith) so_far.best best.ensures.best);
-      others = rw (shown, state) (elsewhere_next m.grid v present (pairs_in c.args.block.now.work) c.args.advice.now pairs c.loop-present.advice e c.requires.vertex so_far.others);
-      filled = rw (c.put.ensures, state) (filled_next m.grid v present c.loop-present.block e.pair c.requires.vertex (omega (arith, end)) so_far.filled);
+      written = rw (shown, state, c.from.ensures) (written_next m.grid c.args.entries.now v present pairs c.loop-present.advice c.requires.vertex long (omega arith) so_far.written);
+      others = rw (shown, state, c.from.ensures) (elsewhere_next m.grid v present (pairs_in c.args.block.now.work) c.args.advice.now pairs c.loop-present.advice e c.requires.vertex so_far.others);
+      filled = rw (put, state) (filled_next m.grid v present c.loop-present.block e.pair c.requires.vertex (omega (arith, end)) so_far.filled);
       finished = ap (λ (b : Plane). b.finished) c.put.ensures ∙ so_far.finished;
-      counted = best.ensures.count ∙ omega (arith, so_far.counted, sum_by_more (λ choices. length choices) m.choices present [] known);
     }

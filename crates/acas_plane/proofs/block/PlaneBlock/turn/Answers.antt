@@ -9,21 +9,21 @@ use Rattle.acas_plane.proofs.Masks.{map-is_some-none, masked-none, masked-whole,
 use Rattle.acas_plane.proofs.block.PlaneBlock.turn.Goals as goal
 
 -- every place of the written plane was written
-none_missing : (c : goal.After-add) → missing_in (work_places c.self.inside) ≡ 0
+none_missing : (c : goal.After-raise) → missing_in (work_places c.self.inside) ≡ 0
 none_missing c = ap (λ (p : Plane). missing_in p.work) c.self.view_is ∙ c.requires.full
 
 -- so its marks hide nothing
-whole : (c : goal.After-add) → take c.self.inside.states (drop c.self.inside.work_from c.self.inside.places.slots) ≡ work_places c.self.inside
+whole : (c : goal.After-raise) → take c.self.inside.states (drop c.self.inside.work_from c.self.inside.places.slots) ≡ work_places c.self.inside
 whole c =
     let b = c.self.inside in
     ap (λ (k : ℕ). take k (drop b.work_from b.places.slots)) (sym c.self.invariant.marks) ∙ masked-whole b.marks.items (drop b.work_from b.places.slots) (none_missing c)
 
 -- no mark is set any more
-unset : (c : goal.After-add) → c.fill.new.self.items ≡ replicate c.self.inside.states false
+unset : (c : goal.After-raise) → c.fill.new.self.items ≡ replicate c.self.inside.states false
 unset c = c.fill.ensures.items (λ y e. e) ∙ ap (λ (k : ℕ). replicate k false) (c.self.inside.marks.ok.0 ∙ c.self.invariant.marks)
 
 -- so the other plane shows nothing
-shown : (c : goal.After-add) → masked c.fill.new.self.items (drop c.self.inside.finished_from c.self.inside.places.slots) ≡ replicate c.self.inside.states None
+shown : (c : goal.After-raise) → masked c.fill.new.self.items (drop c.self.inside.finished_from c.self.inside.places.slots) ≡ replicate c.self.inside.states None
 shown c =
     let b = c.self.inside in ap (λ l. masked l (drop b.finished_from b.places.slots)) (unset c) ∙ masked-none b.states (drop b.finished_from b.places.slots)
 
