@@ -1,0 +1,10 @@
+pub mod Separators
+pub mod Numerals
+pub mod Fields
+pub mod Names
+pub mod Lines
+pub mod Told
+pub mod Danger
+pub mod One
+pub mod Honest
+pub mod Reports

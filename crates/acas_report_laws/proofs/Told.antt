@@ -1,0 +1,68 @@
+-- From equal texts to equal numbers.
+use Rattle.std.proofs.Common.{◌≡◌, List, [], ◌∷◌, map, All, Some, refl, ap}
+use Rattle.std.proofs.lemmas.List.Elements.{All-head, All-tail, recursion_from_All}
+use Rattle.std.specs.List.{AllByRecursion, AllZip, flat_map}
+use Rattle.acas_frac.specs.Fraction.{Fraction, fraction_text}
+use Rattle.acas_witness.specs.declared.flight.Segment.{Segment}
+use Rattle.acas_witness.specs.declared.flight.Witness.{Witness}
+use Rattle.acas_cell.specs.declared.ruling.Ruling.{Ruling}
+use Rattle.acas_cell.specs.declared.ruling.Ruling.TheVariants.{Certified, Reported}
+use Rattle.acas_witness.specs.Printed.{fractions_of, segments_of}
+use Rattle.acas_report.specs.Report.{Ruled}
+use Rattle.acas_report_laws.specs.Told.{IsShort, IsShortRuling, IsShortWitness, told, told_of, told_witness}
+use Rattle.acas_report_laws.proofs.Numerals.{fraction_gives, signed_gives}
+use Rattle.acas_report_laws.proofs.Fields.{Same, SameSegment, SameTexts}
+use Rattle.acas_report_laws.proofs.Lines.{SaysSame}
+
+same_fraction : (f g : Fraction) → IsShort f → fraction_text f ≡ fraction_text g → f ≡ g
+same_fraction f g short e = fraction_gives f g short.num short.den e
+
+-- the fractions of segments
+abbrev fractions_in : List Segment → List Fraction
+fractions_in parts = flat_map (λ s. s.duration ∷ s.acceleration ∷ []) parts
+
+same_segments : (ps qs : List Segment) → AllByRecursion IsShort (fractions_in ps) → AllZip SameSegment ps qs → ps ≡ qs
+same_segments [] [] short same = refl
+same_segments [] (q ∷ qs) short same = absurd same
+same_segments (p ∷ ps) [] short same = absurd same
+same_segments (p ∷ ps) (q ∷ qs) short same =
+    let duration = same_fraction p.duration q.duration short.0 same.0.duration in
+    let acceleration = same_fraction p.acceleration q.acceleration short.1.0 same.0.acceleration in
+    let rest = same_segments ps qs short.1.1 same.1 in
+    λ i. record { duration = duration i; acceleration = acceleration i } ∷ rest i
+
+pub same_witness : (w v : Witness) → IsShortWitness w → SameTexts w v → told_witness w ≡ told_witness v
+same_witness w v short same =
+    let all = recursion_from_All IsShort (fractions_of w) short.fractions in
+    let range = same_fraction w.range v.range all.0 same.range in
+    let speed = same_fraction w.speed v.speed all.1.0 same.speed in
+    let time = same_fraction w.flight.time v.flight.time all.1.1.0 same.time in
+    let altitude = signed_gives w.flight.h v.flight.h short.altitude same.altitude in
+    let own = same_fraction w.flight.v0 v.flight.v0 all.1.1.1.0 same.own in
+    let intruder = same_fraction w.flight.v1 v.flight.v1 all.1.1.1.1.0 same.intruder in
+    let response = same_segments (segments_of w.flight) (segments_of v.flight) all.1.1.1.1.1 same.response in
+    λ i. record {
+      time = time i;
+      range = range i;
+      speed = speed i;
+      altitude = altitude i;
+      own = own i;
+      intruder = intruder i;
+      response = response i;
+    }
+
+same_told : (r q : Ruling) → IsShortRuling r → Same r q → told_of r ≡ told_of q
+same_told Certified Certified short same = refl
+same_told Certified (Reported v) short same = absurd same
+same_told (Reported w) Certified short same = absurd same
+same_told (Reported w) (Reported v) short same = ap Some (same_witness w v short same)
+
+pub told_all : {N : Type 0} (ruled other : List (Ruled N)) → All (λ r. IsShortRuling r.ruling) ruled → AllZip SaysSame ruled other → map told ruled ≡ map told other
+told_all [] [] short same = refl
+told_all [] (o ∷ os) short same = absurd same
+told_all (r ∷ rs) [] short same = absurd same
+told_all {N} (r ∷ rs) (o ∷ os) short same =
+    let name = same.0.name in
+    let ruling = same_told r.ruling o.ruling (All-head (λ (r : Ruled N). IsShortRuling r.ruling) r rs short) same.0.ruling in
+    let rest = told_all rs os (All-tail (λ (r : Ruled N). IsShortRuling r.ruling) r rs short) same.1 in
+    λ i. record { name = name i; ruling = ruling i } ∷ rest i

@@ -1,0 +1,26 @@
+-- That what a line says is so.
+use Rattle.std.specs.Prelude.{ℕ, List}
+use Rattle.acas_spec.specs.Model.{ModelData}
+use Rattle.acas_flight.specs.State.{State, IsInBox, IsInCell}
+use Rattle.acas_flight.specs.Contact.{IsEndangered}
+use Rattle.acas_cell.specs.Boxes.{AuditedBox, box_at}
+use Rattle.acas_cell.specs.Rulings.{ShowsDanger}
+use Rattle.acas_cell.specs.declared.name.CellName.{CellName}
+use Rattle.acas_cell.specs.declared.ruling.Ruling.{Ruling}
+use Rattle.acas_cell.specs.declared.ruling.Ruling.TheVariants.{Certified, Reported}
+use Rattle.acas_report.specs.Report.{Ruled}
+use Rattle.acas_report_laws.specs.Told.{IsShortWitness}
+
+-- certified: the set of states is not endangered; reported: it is, and the witness shows it, where no number of it has more than 63
+-- digits
+abbrev pub Holds : ModelData → ℕ → (ℕ → State → Type 0) → Ruling → Type 0
+Holds m advisory IsIn Certified = ¬ IsEndangered m advisory IsIn
+Holds m advisory IsIn (Reported w) = IsEndangered m advisory IsIn × (IsShortWitness w → ShowsDanger m advisory IsIn w)
+
+-- what is said of a cell under an advice
+abbrev pub HoldsOfCell : ModelData → Ruled CellName → Type 0
+HoldsOfCell m r = Holds m r.name.advice (IsInCell m r.name.n r.name.i r.name.j r.name.k) r.ruling
+
+-- what is said of a box, by its place
+abbrev pub HoldsOfBox : ModelData → List AuditedBox → Ruled ℕ → Type 0
+HoldsOfBox m boxes r = Holds m (box_at boxes r.name).advisory (IsInBox (box_at boxes r.name).states) r.ruling

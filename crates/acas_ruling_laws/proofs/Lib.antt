@@ -1,0 +1,12 @@
+pub mod Parts
+pub mod Prints
+pub mod Pulls
+pub mod Ones
+pub mod RangeOnes
+pub mod RulingOnes
+pub mod Printed
+pub mod Windows
+pub mod Areas
+pub mod Somes
+pub mod Ranges
+pub mod RulingSomes
