@@ -32,7 +32,7 @@ use Rattle.acas_command.proofs.Reports.{IsPrinted, report-may_print, report-prin
 use Rattle.acas_command.proofs.Says.{file-says, read-model, says-model}
 use Rattle.acas_table_file.proofs.Files.{read-table, rejects-table, tells-advices}
 use Rattle.acas_audit_commands.specs.Calls.{CallsForAudit, CallsForRegions, IsAuditBegun, IsAuditText, IsRegionsBegun, IsRegionsText, audit_looks_at, regions_looks_at}
-use Rattle.acas_audit_commands.proofs.Verdicts.{any_witness, report-of, verdicts}
+use Rattle.acas_audit_commands.proofs.Verdicts.{report-of, verdict, verdicts}
 use Rattle.acas_audit_commands.specs.Worth.{AuditIsWorth, IsVerdictOnBox, PrintsAudit, PrintsRegions, RegionsIsWorth, RejectsBoxes}
 
 -- a command whose cause may print was completed
@@ -100,7 +100,7 @@ prints-regions model boxes files cause before after p =
       counts = p.report.counts;
       text = p.text;
       report = report-of (IsRulingAt m p.report.said) (IsVerdictOnBox m p.report.said) (places p.report.said) 0 regions_text p.report.counts p.text
-          (λ place ruling. any_witness m (box_at p.report.said place).advisory (IsInBox (box_at p.report.said place).states) (IsWitnessOfBox m (box_at p.report.said place)) ruling) p.report.report;
+          (λ place ruling. verdict m (box_at p.report.said place).advisory (IsInBox (box_at p.report.said place).states) (IsWitnessOfBox m (box_at p.report.said place)) ruling) p.report.report;
       printed = p.printed;
       kept = p.kept;
       reported = p.ends ∙ ap report_cause p.report.count;

@@ -1,3 +1,4 @@
 mod KnownForms
 mod OtherWords
 mod TwoRuns
+mod NeverWords

@@ -1,5 +1,6 @@
 -- What a form of words calls for, by the files of the folder, and what is answered.
-use Rattle.std.specs.Prelude.{◌≡◌, Option, Some, None}
+use Rattle.std.specs.Prelude.{◌≡◌, ℕ, Option, Some, None}
+use Rattle.acas_outside.specs.Files.{Files}
 use Rattle.acas_outside.specs.Outside.{Outside}
 use Rattle.acas_command.specs.Answers.{Answers}
 use Rattle.acas_command.specs.Called.{Called}
@@ -21,7 +22,22 @@ CallsFor (Regions model boxes) = CallsForRegions model boxes
 CallsFor (Replay model table encounter) = CallsForReplay model table encounter
 CallsFor (Drill number) = CallsForDrill number
 
+-- a drill leaves the folder as it was, and is answered so whatever files the folder holds, told or not
+pub record AnswersDrill (number : ℕ) (cause : Cause) (before after : Outside) : Type 0 where
+  pub alone : after ≡ record before { written = after.written; output_faults = after.output_faults }
+  pub answered : (holds : Option Files) → Answers (CallsForDrill number) cause (record before { holds = holds }) (record after { holds = holds })
+
+-- the answer to a form
+abbrev pub AnswersCall : Form → Cause → Outside → Outside → Type 0
+AnswersCall (Values model) cause before after = Answers (CallsForValues model) cause before after
+AnswersCall (Compile model table) cause before after = Answers (CallsForCompile model table) cause before after
+AnswersCall (Check model table) cause before after = Answers (CallsForCheck model table) cause before after
+AnswersCall (Audit model table which) cause before after = Answers (CallsForAudit model table which) cause before after
+AnswersCall (Regions model boxes) cause before after = Answers (CallsForRegions model boxes) cause before after
+AnswersCall (Replay model table encounter) cause before after = Answers (CallsForReplay model table encounter) cause before after
+AnswersCall (Drill number) cause before after = AnswersDrill number cause before after
+
 -- the answer to words of a form, or to other words
 abbrev pub AnswersForm : Option Form → Cause → Outside → Outside → Type 0
 AnswersForm None cause before after = (cause ≡ Words) × (after ≡ before)
-AnswersForm (Some form) cause before after = Answers (CallsFor form) cause before after
+AnswersForm (Some form) cause before after = AnswersCall form cause before after

@@ -1,6 +1,7 @@
 //! The top call: everything that the program `acas` does, over any folder and any two outputs.
 #![tactic(auto)]
 
+mod drill_call;
 mod laws;
 mod top_call;
 mod words;
@@ -8,6 +9,7 @@ mod work;
 
 pub use acas_accept::{AcceptFault, accept};
 pub use acas_command::{Cause, FileRole, Status, TableRefusal};
+pub use drill_call::drill;
 pub use laws::{accepted_tables_are_audited, stored_tables_are_accepted};
 pub use top_call::run;
 pub use words::{Command, command_of};

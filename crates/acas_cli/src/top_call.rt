@@ -2,20 +2,19 @@
 ghost use Rattle.std.specs.Prelude.{◌≡◌, ◌↔◌, ◌≤◌, IsTrue, IfSome, All, None, map, string_bytes};
 ghost use Rattle.acas_outside.specs.Frame.{ReadsAndWrites};
 ghost use Rattle.acas_outside.specs.Outside.{outside};
-ghost use Rattle.acas_command.specs.Answers.{Answers};
 ghost use Rattle.acas_command.specs.Codes.{code_of};
 ghost use Rattle.acas_command.specs.ErrorLine.{Reports};
-ghost use Rattle.acas_cli.specs.Calls.{AnswersForm, CallsFor};
+ghost use Rattle.acas_cli.specs.Calls.{AnswersCall, AnswersForm};
 ghost use Rattle.acas_cli.specs.Forms.{HasNumber, form_of_command};
 ghost use Rattle.acas_cli.specs.Headline.{Headline, IsWorth};
 ghost use Rattle.acas_cli.specs.Words.{form_of, names_of};
 ghost use Rattle.acas_cli.specs.Work.{CountsFor, CountsForm, HasRoom, NoneFell};
 
+use crate::drill_call::drill;
 use crate::words::{Command, command_of};
 use crate::work::Work;
 use acas_audit_commands::{audit, regions};
 use acas_command::{Cause, Status, cause_of, cause_of_report, report, report_memory, report_words};
-use acas_drill::drill;
 use acas_encounter_commands::replay;
 use acas_outside::{Folder, Sink};
 use acas_table_commands::{check, compile, values};
@@ -118,7 +117,7 @@ fn answer<F: Folder, O: Sink>(
     requires served { All (λ name. IsTrue (F.serves folder.old name)) (names_of (form_of_command command.now)) }
     requires number { HasNumber (form_of_command command.now) }
     requires counts { HasRoom work.old }
-    ensures answers { Answers (CallsFor (form_of_command command.now)) result
+    ensures answers { AnswersCall (form_of_command command.now) result
         (outside F.Folder O.Sink folder.old out.old) (outside F.Folder O.Sink folder.new out.new) }
     ensures headline { IfSome (F.holds folder.old) (λ files. IsWorth (form_of_command command.now) files result
         (outside F.Folder O.Sink folder.old out.old) (outside F.Folder O.Sink folder.new out.new)) }
@@ -151,6 +150,6 @@ fn answer<F: Folder, O: Sink>(
             table,
             encounter,
         } => cause_of(replay(alloc, model, table, encounter, folder, out)),
-        Command::Drill { number } => cause_of_report(drill(alloc, *number, out)),
+        Command::Drill { number } => drill(alloc, *number, out).cause,
     }
 }

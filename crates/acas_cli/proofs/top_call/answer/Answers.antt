@@ -1,7 +1,7 @@
+use Rattle.std.proofs.Common.{refl}
 use Rattle.acas_outside.specs.Outside.{Outside, outside}
 use Rattle.acas_command.specs.Answers.{ended, report_ended}
 use Rattle.acas_audit_commands.proofs.Worth.{audit-worth, regions-worth}
-use Rattle.acas_drill.proofs.Worth.{drill-worth}
 use Rattle.acas_encounter_commands.proofs.Worth.{replay-worth}
 use Rattle.acas_table_commands.proofs.Worth.{check-worth, compile-worth, values-worth}
 use Rattle.acas_cli.proofs.top_call.answer.Goals as goal
@@ -50,11 +50,10 @@ returns-in-Replay-clause-headline g c =
 pub returns-in-Drill-clause-headline : goal.returns-in-Drill-clause-headline
 returns-in-Drill-clause-headline g c =
     let before : Outside = outside g.F.Folder g.O.Sink c.args.folder.now c.args.out.now in
-    let after : Outside = outside g.F.Folder g.O.Sink c.args.folder.now c.drill.new.out in
-    rw (c.in-Drill.is, c.cause_of_report-in-Drill.ensures)
-    (drill-worth c.in-Drill.number (report_ended c.drill.result) before after c.drill.ensures.ends (c.drill.ensures.answers before))
+    rw c.in-Drill.is (c.drill.ensures.headline before)
 
 pub returns-in-Drill-clause-answers : goal.returns-in-Drill-clause-answers
 returns-in-Drill-clause-answers g c =
     let before : Outside = outside g.F.Folder g.O.Sink c.args.folder.now c.args.out.now in
-    rw (c.in-Drill.is, c.cause_of_report-in-Drill.ensures) (c.drill.ensures.answers before)
+    let after : Outside = outside g.F.Folder g.O.Sink c.args.folder.now c.drill.new.out in
+    rw c.in-Drill.is (record { alone = refl {a = after}; answered = λ holds. c.drill.ensures.answers (record before { holds = holds }) })

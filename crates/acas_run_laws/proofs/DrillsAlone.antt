@@ -1,0 +1,34 @@
+-- Drills over every folder.
+use Rattle.std.proofs.Common.{ℕ, [], Some}
+use Rattle.std.specs.FinMap.{empty}
+use Rattle.acas_outside.specs.Files.{Files}
+use Rattle.acas_outside.specs.Outside.{Outside}
+use Rattle.acas_command.specs.Answers.{Agrees}
+use Rattle.acas_command.specs.Called.{MayPrint}
+use Rattle.acas_command.specs.Outcome.{prints}
+use Rattle.acas_command.specs.declared.status.Cause.{Cause}
+use Rattle.acas_command.specs.declared.status.Cause.TheVariants.{Output}
+use Rattle.acas_command.proofs.Reports.{IsPrinted, report-printed}
+use Rattle.acas_audit_commands.proofs.Worth.{completed}
+use Rattle.acas_drill.specs.Calls.{CallsForDrill, IsDrillBegun, IsDrillText}
+use Rattle.acas_cli.specs.Calls.{AnswersDrill}
+
+abbrev pub no_files : Files
+no_files = empty
+
+-- the same moment, beside a folder that holds nothing
+abbrev pub beside_none : Outside → Outside
+beside_none o = record o { holds = Some no_files }
+
+agrees-alone : (number : ℕ) (cause : Cause) (before after : Outside) → AnswersDrill number cause before after
+    → Agrees (CallsForDrill number) no_files cause (beside_none before) (beside_none after)
+agrees-alone number cause before after a = (a.answered (Some no_files)).told
+
+pub drill-printed : (number : ℕ) (cause : Cause) (before after : Outside) → MayPrint cause → AnswersDrill number cause before after
+    → IsPrinted (IsDrillText number) no_files cause (beside_none before) (beside_none after)
+drill-printed number cause before after may a =
+    report-printed (λ files. prints []) (λ files. IsDrillText number) (λ files. IsDrillBegun number) no_files cause (beside_none before) (beside_none after) may
+    (completed (CallsForDrill number) no_files cause (beside_none before) (beside_none after) may (agrees-alone number cause before after a))
+
+pub drill-begun : (number : ℕ) (before after : Outside) → AnswersDrill number Output before after → IsDrillBegun number before.written after.written
+drill-begun number before after a = (agrees-alone number Output before after a).begun

@@ -1,0 +1,16 @@
+pub mod Causes
+pub mod Kept
+pub mod CompiledFiles
+pub mod NotRefused
+pub mod Refusing
+pub mod NamedFiles
+pub mod TableLengths
+pub mod MissingPlaces
+pub mod PartsOfFiles
+pub mod OneFiles
+pub mod OneReport
+pub mod OneOutcome
+pub mod AdvicesMade
+pub mod SomeOutcome
+pub mod EndedRuns
+pub mod DrillsAlone

@@ -1,0 +1,4 @@
+pub mod Forms
+pub mod Ends
+pub mod Refusals
+pub mod Outcomes
