@@ -1,0 +1,4 @@
+pub mod Decided
+pub mod Nearest
+pub mod Shown
+pub mod Issued

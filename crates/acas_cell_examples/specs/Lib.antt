@@ -1,0 +1,3 @@
+pub mod Tabled
+pub mod Encounters
+pub mod Witnesses
