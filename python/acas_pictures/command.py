@@ -1,8 +1,7 @@
-"""The command `acas_plot`."""
+"""The command `acas_plot`, once its words are found to be such."""
 import argparse
 import sys
 from pathlib import Path
-from typing import NoReturn, Sequence
 
 from matplotlib.figure import Figure
 
@@ -19,31 +18,6 @@ from acas_table.flight import check_flight
 from acas_table.report import check_line
 
 WORDS = argparse.Namespace
-
-
-class Parser(argparse.ArgumentParser):
-    """Refuses wrong words by one line and the exit code 1."""
-
-    def error(self, message: str) -> NoReturn:
-        self.exit(1, f"acas_plot: words: {message}; acas_plot --help says more\n")
-
-
-def parser() -> Parser:
-    """The words of the command."""
-    whole = Parser(prog="acas_plot", description="Draws what acas makes and prints, to a file whose name ends in .png or .svg.")
-    commands = whole.add_subparsers(dest="command", required=True, metavar="COMMAND")
-    for name, draw, files, is_slice, says in COMMANDS:
-        command = commands.add_parser(name, help=says, description=says)
-        command.set_defaults(draw=draw)
-        for file in (*files, "PICTURE"):
-            command.add_argument(file.lower(), metavar=file, help=HELP[file])
-        if is_slice:
-            command.add_argument("--present", required=True, metavar="NAME", help="the advisory that is present")
-            command.add_argument("--own", required=True, type=int, metavar="RATE", help="the own rate in ft/min, a number of the grid")
-            command.add_argument("--intruder", required=True, type=int, metavar="RATE", help="the intruder's rate, likewise")
-        if name == "witness":
-            command.add_argument("--advisory", metavar="NAME", help="of a line of acas regions: the advisory of its box")
-    return whole
 
 
 def policy(words: WORDS) -> Figure:
@@ -106,29 +80,14 @@ def text_of(name: str) -> str:
         raise Fault(name, "text", "is not UTF-8") from None
 
 
-COMMANDS = (
-    ("policy", policy, ("MODEL", "TABLE"), True, "the advice over seconds to go and relative altitude"),
-    ("cost", cost, ("MODEL", "TABLE"), True, "the upper value, and how far it is above the lower value"),
-    ("verdicts", verdicts, ("MODEL", "REPORT"), True, "the verdicts on the cells from two rates to the next ones, and the counts"),
-    ("witness", witness, ("MODEL", "LINE"), False, "the vertical profile of a reported flight"),
-    ("replay", replay, ("MODEL", "TABLE", "REPLAY"), False, "the profile of an encounter with the advice of each second"),
-)
-HELP = {
-    "MODEL": "the file of a model",
-    "TABLE": "a table of it",
-    "REPORT": "a file with what acas audit has printed; - for the input",
-    "LINE": "a line of acas audit or of acas regions; - for the input",
-    "REPLAY": "a file with what acas replay has printed; - for the input",
-    "PICTURE": "the file to write, which ends in .png or .svg",
-}
+DRAWN = {"policy": policy, "cost": cost, "verdicts": verdicts, "witness": witness, "replay": replay}
 
 
-def main(words: Sequence[str]) -> int:
-    """Draws a picture, or says in one line what is wrong. The exit code is 0 or 1."""
-    chosen = parser().parse_args(words)
+def main(chosen: WORDS) -> int:
+    """Draws the picture that the words choose, or says in one line what is wrong. The exit code is 0 or 1."""
     try:
         check_ending(Path(chosen.picture))
-        save(chosen.draw(chosen), Path(chosen.picture))
+        save(DRAWN[chosen.command](chosen), Path(chosen.picture))
     except Fault as fault:
         print(f"acas_plot: {fault}", file=sys.stderr)
         return 1

@@ -5,35 +5,18 @@ import json
 import subprocess
 import sys
 from pathlib import Path
-from typing import IO, NoReturn, Sequence
+from typing import IO, Sequence
 
 from acas_study.description import Study, read_study
 from acas_study.files import write_changed
 from acas_study.rows import COUNTED
 from acas_study.steps import PLAN
+from acas_study.words import TOP
 from acas_table import Fault
 
-TOP = Path(__file__).resolve().parent.parent.parent
 FOLDERS = ("models", "tables", "checks", "reports", "rows", "pictures")
 PROCESSORS = ("-c", "--cores", "-j", "--jobs", "--profile")
 """Snakemake's words that say how much runs at a time."""
-
-
-class Parser(argparse.ArgumentParser):
-    """Refuses wrong words by one line and the exit code 1."""
-
-    def error(self, message: str) -> NoReturn:
-        self.exit(1, f"study: words: {message}; study/run --help says more\n")
-
-
-def parser() -> Parser:
-    """The words of the command."""
-    says = "Compiles, checks and audits each model of a study, and goes on where it stopped. Further words are Snakemake's."
-    words = Parser(prog="study/run", description=says, allow_abbrev=False)
-    words.add_argument("study", metavar="STUDY", type=Path, help="a folder of models, or a file that varies one model")
-    words.add_argument("results", metavar="RESULTS", type=Path, help="the folder for all that is made, itself too")
-    words.add_argument("--acas", type=Path, default=TOP / "acas", metavar="PROGRAM", help="the program, where it is another one")
-    return words
 
 
 def prepare(study: Study, results: Path) -> None:
@@ -116,9 +99,8 @@ def run(chosen: argparse.Namespace, others: Sequence[str]) -> int:
     return 0
 
 
-def main(words: Sequence[str]) -> int:
+def main(chosen: argparse.Namespace, others: Sequence[str]) -> int:
     """Runs a study, or says in one line what is wrong. The exit code is 0 or 1."""
-    chosen, others = parser().parse_known_args(words)
     try:
         return run(chosen, others)
     except Fault as fault:

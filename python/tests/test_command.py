@@ -89,7 +89,6 @@ BAD = [
     ("absent", ("policy", "nowhere.toml", TABLE, "old.png", *LEVEL), "nowhere.toml: cannot be read: No such file or directory"),
     ("name", ("policy", MODEL, TABLE, "old.png", "--present", "level", *LEVEL[2:]), f"{MODEL}: advisory level is not in the model"),
     ("rate", ("cost", MODEL, TABLE, "old.png", *LEVEL[:2], "--own", "1", *LEVEL[4:]), f"{MODEL}: grid.own_rate has no 1, but 0, 60"),
-    ("no rate", ("cost", MODEL, TABLE, "old.png", *LEVEL[:2], "--own", "up", *LEVEL[4:]), "words: argument --own: invalid int value"),
     ("last rate", ("verdicts", MODEL, "report.txt", "old.png", *LEVEL), f"{MODEL}: grid.intruder_rate ends at 0, and no cell begins"),
     ("report of another model", ("verdicts", EXAMPLES / "b.toml", "report.txt", "old.png", *LEVEL), "report.txt line 1: advice climb is"),
     ("no report", ("verdicts", MODEL, "replay.txt", "old.png", *CELLS), "replay.txt line 1: word cell is '0', not cell"),
@@ -100,8 +99,14 @@ BAD = [
     ("ending", ("policy", MODEL, TABLE, "old.pdf", *LEVEL), "old.pdf: ending is none of .png and .svg"),
     ("no folder", ("policy", MODEL, TABLE, "nowhere/new.png", *LEVEL), "nowhere/new.png: cannot be written: No such file or directory"),
     ("folder", ("policy", MODEL, TABLE, "folder.png", *LEVEL), "folder.png: cannot be written: Is a directory"),
-    ("no words", ("policy", MODEL, TABLE), "words: the following arguments are required: PICTURE, --present, --own, --intruder"),
-    ("no command", ("draw",), "words: argument COMMAND: invalid choice: 'draw'"),
+]
+WRONG = [
+    ("no command", (), "the following arguments are required: COMMAND"),
+    ("other command", ("draw",), "argument COMMAND: invalid choice: 'draw'"),
+    ("too few words", ("policy", MODEL, TABLE), "the following arguments are required: PICTURE, --present, --own, --intruder"),
+    ("no rate", ("cost", MODEL, TABLE, "old.png", *LEVEL[:2], "--own", "up", *LEVEL[4:]), "argument --own: invalid int value"),
+    ("word of another command", ("witness", MODEL, REPORTED, "old.png", "--own", "0"), "unrecognized arguments: --own 0"),
+    ("two lines in a word", ("policy", MODEL, TABLE, "old.png", *LEVEL, "a\nb"), "unrecognized arguments: a b"),
 ]
 
 
@@ -115,3 +120,23 @@ def test_bad_input_is_one_line_and_nothing_is_written(files, monkeypatch, name, 
     assert ended.stderr.startswith(f"acas_plot: {fault}") and ended.stderr.count("\n") == 1 and ended.stderr.endswith("\n")
     assert sorted(files.iterdir()) == before
     assert (files / "old.png").read_bytes() == b"old"
+
+
+@pytest.mark.parametrize("options", [("-B",), ("-S",)], ids=["with packages", "without packages"])
+@pytest.mark.parametrize(("name", "words", "fault"), WRONG, ids=[name for name, _, _ in WRONG])
+def test_wrong_words_are_one_line_and_the_code_2(files, monkeypatch, options, name, words, fault):
+    """Also where no package is installed, as without the folders of packages."""
+    monkeypatch.chdir(files)
+    command = [sys.executable, *options, str(PLOT), *map(str, words)]
+    ended = subprocess.run(command, capture_output=True, text=True, check=False)
+    assert (ended.returncode, ended.stdout) == (2, "")
+    assert ended.stderr.startswith(f"acas_plot: words: {fault}") and ended.stderr.count("\n") == 1
+    assert ended.stderr.endswith("; use: acas_plot COMMAND ..; acas_plot --help says more\n")
+    assert (files / "old.png").read_bytes() == b"old"
+
+
+def test_missing_package_is_named():
+    command = [sys.executable, "-S", str(PLOT), "policy", str(MODEL), str(TABLE), "a.png", *LEVEL]
+    ended = subprocess.run(command, capture_output=True, text=True, check=False)
+    lacking = "acas_plot needs the Python package numpy and matplotlib: apt-get install python3-numpy python3-matplotlib\n"
+    assert (ended.returncode, ended.stdout, ended.stderr) == (2, "", lacking)

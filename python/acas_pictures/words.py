@@ -1,0 +1,44 @@
+"""The words of the command `acas_plot`. They are looked at before any package is needed."""
+import argparse
+from typing import NoReturn
+
+COMMANDS = (
+    ("policy", ("MODEL", "TABLE"), True, "the advice over seconds to go and relative altitude"),
+    ("cost", ("MODEL", "TABLE"), True, "the upper value, and how far it is above the lower value"),
+    ("verdicts", ("MODEL", "REPORT"), True, "the verdicts on the cells from two rates to the next ones, and the counts"),
+    ("witness", ("MODEL", "LINE"), False, "the vertical profile of a reported flight"),
+    ("replay", ("MODEL", "TABLE", "REPLAY"), False, "the profile of an encounter with the advice of each second"),
+)
+"""Each command: the files that it reads, whether it shows a slice, and what it draws."""
+HELP = {
+    "MODEL": "the file of a model",
+    "TABLE": "a table of it",
+    "REPORT": "a file with what acas audit has printed; - for the input",
+    "LINE": "a line of acas audit or of acas regions; - for the input",
+    "REPLAY": "a file with what acas replay has printed; - for the input",
+    "PICTURE": "the file to write, which ends in .png or .svg",
+}
+
+
+class Parser(argparse.ArgumentParser):
+    """Refuses wrong words by one line and the exit code 2."""
+
+    def error(self, message: str) -> NoReturn:
+        self.exit(2, f"acas_plot: words: {' '.join(message.split())}; use: acas_plot COMMAND ..; acas_plot --help says more\n")
+
+
+def parser() -> Parser:
+    """The words of the command."""
+    whole = Parser(prog="acas_plot", description="Draws what acas makes and prints, to a file whose name ends in .png or .svg.")
+    commands = whole.add_subparsers(dest="command", required=True, metavar="COMMAND")
+    for name, files, is_slice, says in COMMANDS:
+        command = commands.add_parser(name, help=says, description=says)
+        for file in (*files, "PICTURE"):
+            command.add_argument(file.lower(), metavar=file, help=HELP[file])
+        if is_slice:
+            command.add_argument("--present", required=True, metavar="NAME", help="the advisory that is present")
+            command.add_argument("--own", required=True, type=int, metavar="RATE", help="the own rate in ft/min, a number of the grid")
+            command.add_argument("--intruder", required=True, type=int, metavar="RATE", help="the intruder's rate, likewise")
+        if name == "witness":
+            command.add_argument("--advisory", metavar="NAME", help="of a line of acas regions: the advisory of its box")
+    return whole
