@@ -2,6 +2,7 @@
 import argparse
 import fcntl
 import json
+import re
 import subprocess
 import sys
 from pathlib import Path
@@ -17,6 +18,19 @@ from acas_table import Fault
 FOLDERS = ("models", "tables", "checks", "reports", "rows", "pictures")
 PROCESSORS = ("-c", "--cores", "-j", "--jobs", "--profile")
 """Snakemake's words that say how much runs at a time."""
+LOG = "snakemake.log"
+"""The file of the results to which all goes that Snakemake and its steps say."""
+LOOK = """import sys
+try:
+    from snakemake.cli import get_argument_parser
+except ImportError:
+    from snakemake import get_argument_parser
+sys.argv[0] = "snakemake"
+get_argument_parser().parse_args(sys.argv[1:])
+"""
+"""Ends with 2, and a last line that says why, where words are none of Snakemake's."""
+EVERY = 0.5
+"""So many seconds pass between two looks at how far a run is."""
 
 
 def prepare(study: Study, results: Path) -> None:
@@ -73,34 +87,105 @@ def build(program: Path) -> None:
         raise Fault(str(program), "program", f"ends with the code {code} on {example}")
 
 
-def wait_for(words: list[str], held: IO[bytes]) -> int:
-    """The exit code of a command, which holds the lock too. Where both are interrupted it is waited for, since it ends by itself."""
-    with subprocess.Popen(words, pass_fds=[held.fileno()]) as running:
-        while True:
+def refusal_of(others: Sequence[str]) -> str | None:
+    """What Snakemake says of words that are none of its own; None where all are."""
+    looked = subprocess.run([sys.executable, "-B", "-c", LOOK, *others], capture_output=True, text=True, check=False)
+    if looked.returncode != 2:
+        return None
+    return " ".join(looked.stderr.strip().splitlines()[-1].removeprefix("snakemake: error:").split())
+
+
+def wait_for(words: list[str], held: IO[bytes], log: Path) -> int:
+    """The exit code of a command, which holds the lock too, and all of whose words go to a file.
+
+    Where both are interrupted it is waited for, since it ends by itself.
+    """
+    is_interrupted = False
+    with open(log, "wb") as file, subprocess.Popen(words, pass_fds=[held.fileno()], stdout=file, stderr=file) as running:
+        while running.poll() is None:
             try:
-                return running.wait()
+                running.wait(EVERY)
+            except subprocess.TimeoutExpired:
+                show_progress(log)
             except KeyboardInterrupt:
-                continue
+                is_interrupted = True
+    show_progress(log, is_over=True)
+    if is_interrupted:
+        raise KeyboardInterrupt
+    return running.returncode
+
+
+def show_progress(log: Path, is_over: bool = False) -> None:
+    """How many steps of how many are done, for who waits at a terminal."""
+    if sys.stderr.isatty():
+        steps = re.findall(r"(?m)^(\d+ of \d+ steps) \(", text_of(log))
+        end = "\r\033[K" if is_over else f"\rstudy: {steps[-1]}" if steps else ""
+        print(end, end="", file=sys.stderr, flush=True)
+
+
+def text_of(log: Path) -> str:
+    """What Snakemake has said so far."""
+    return log.read_text(encoding="utf-8", errors="replace")
+
+
+def is_done(study: Study, results: Path) -> bool:
+    """Whether all that a study makes is there, and no file is older than one that it is made from."""
+    for last in ("study.csv", "page.html"):
+        chains = [[PLAN, last]]
+        for name in (model.name for model in study.models):
+            for report in ("checks", "reports"):
+                chains.append([f"models/{name}.toml", f"tables/{name}.acxt", f"{report}/{name}.txt", f"rows/{name}.csv", last])
+        for chain in chains:
+            paths = [results / name for name in chain]
+            if not all(path.is_file() for path in paths):
+                return False
+            times = [path.stat().st_mtime_ns for path in paths]
+            if times != sorted(times):
+                return False
+    return True
+
+
+def refuse_undone(code: int, results: Path, log: Path) -> None:
+    """Says which files were not made where steps failed, and else the last line of Snakemake's."""
+    said = text_of(log)
+    failed = re.findall(r"(?m)^Error in rule \w+:\n(?: {4}.*\n)*? {4}output: (.*)$", said)
+    for output in dict.fromkeys(failed):
+        print(f"study: not made: {output}", file=sys.stderr)
+    if failed or code < 0:
+        raise Fault(str(results), "study", f"is not done: Snakemake ended with the code {code}, and {log} says why; the same command goes on")
+    last = (said.strip().splitlines() or ["it said nothing"])[-1]
+    raise Fault(str(results), "study", f"is not done: Snakemake ended with the code {code}: {last.strip()}; {log} has all of it")
 
 
 def run(chosen: argparse.Namespace, others: Sequence[str]) -> int:
-    """Runs a study to its end."""
+    """Runs a study to its end, or as far as the further words go."""
+    refused = refusal_of(others)
+    if refused is not None:
+        print(f"study: words: {refused}; use: study/run STUDY RESULTS ..; study/run --help says more", file=sys.stderr)
+        return 2
     study = read_study(chosen.study)
     check_columns(study, str(chosen.study))
     program, results = chosen.acas.resolve(), chosen.results.resolve()
     build(program)
     results.mkdir(parents=True, exist_ok=True)
+    log = chosen.results / LOG
     with lock(results) as held:
         prepare(study, results)
-        code = wait_for(snakemake_words(results, program, chosen.study.name, others), held)
+        print(f"study: {len(study.models)} models; what Snakemake says goes to {log}", file=sys.stderr)
+        code = wait_for(snakemake_words(results, program, chosen.study.name, others), held, log)
     if code != 0:
-        raise Fault(str(chosen.results), "study", f"is not done: Snakemake ended with the code {code}; the same command goes on")
-    print(f"studied {len(study.models)} models: {chosen.results}/study.csv {chosen.results}/page.html")
+        refuse_undone(code, chosen.results, log)
+    if is_done(study, results):
+        print(f"studied {len(study.models)} models: {chosen.results}/study.csv {chosen.results}/page.html")
+    else:
+        total = re.findall(r"(?m)^total +(\d+)\b", text_of(log))
+        steps = f"{total[-1]} steps" if total else "some steps"
+        print(f"not studied: the further words leave out some of {steps} that are to be done; {log} has what Snakemake said")
     return 0
 
 
 def main(chosen: argparse.Namespace, others: Sequence[str]) -> int:
-    """Runs a study, or says in one line what is wrong. The exit code is 0 or 1."""
+    """Runs a study, or says in one line what is wrong. The exit code is 0 or 1, or 2 where words are none of Snakemake's either."""
     try:
         return run(chosen, others)
     except Fault as fault:

@@ -6,18 +6,21 @@ import signal
 import subprocess
 import sys
 import time
+from importlib.machinery import SourceFileLoader
+from importlib.util import module_from_spec, spec_from_loader
 from pathlib import Path
 
 import pytest
 from conftest import EXAMPLES, TOP
 
-from acas_study.command import lock
+from acas_study.command import check_columns, lock
 from acas_study.description import read_study
 from acas_study.texts import set_key, text_of
 from acas_table import Fault, read_model
 from acas_table.model import document_of, model_of
 
 RUN = TOP / "study" / "run"
+TRADE = EXAMPLES / "trade"
 # examples/c.toml with 1, 2 and 3 as the cost of contact.
 STUDY = """version = 1
 model = "c.toml"
@@ -57,7 +60,8 @@ def test_three_models_of_a_folder(acas, tmp_path):
         shutil.copy(EXAMPLES / name, models)
     ended = run(acas, models, results)
     assert (ended.returncode, ended.stdout) == (0, f"studied 3 models: {results}/study.csv {results}/page.html\n")
-    assert "14 of 14 steps (100%) done" in ended.stderr
+    assert ended.stderr == f"study: 3 models; what Snakemake says goes to {results}/snakemake.log\n"
+    assert "14 of 14 steps (100%) done" in (results / "snakemake.log").read_text()
     rows = {row["model"]: row for row in rows_of(results)}
     assert list(rows) == ["b", "c", "d"]
     assert rows["d"] == {
@@ -93,20 +97,51 @@ def test_killed_run_goes_on(acas, study, tmp_path):
     assert [path.stat().st_mtime_ns for path in kept] == before
     assert [(row["model"], row["contact"]) for row in rows_of(results)] == [(f"contact-{n}", str(n)) for n in (1, 2, 3)]
     ended = run(acas, study, results)
-    assert ended.returncode == 0 and "Nothing to be done" in ended.stderr
+    assert ended.returncode == 0 and ended.stdout.startswith("studied 3 models: ")
+    assert "Nothing to be done" in (results / "snakemake.log").read_text()
 
 
 def test_step_that_fails(acas, study, tmp_path):
-    """The last line says that the study is not done; what Snakemake says of the step stands above it."""
+    """It is said which file was not made, and last that the study is not done; the log has what Snakemake says of the step."""
     results, failing = tmp_path / "results", tmp_path / "failing"
     failing.write_text(f'#!/bin/sh\ncase $1.$2 in check.*contact-3*) exit 7;; esac\nexec "{acas.program}" "$@"\n')
     failing.chmod(0o755)
     command = [sys.executable, "-B", RUN, "--acas", failing, study, results]
     ended = subprocess.run(command, capture_output=True, text=True, check=False)
     assert (ended.returncode, ended.stdout) == (1, "")
-    last = f"study: {results}: study is not done: Snakemake ended with the code 1; the same command goes on"
-    assert ended.stderr.splitlines()[-1] == last and "Error in rule check" in ended.stderr
+    log = f"{results}/snakemake.log"
+    assert ended.stderr.splitlines() == [
+        f"study: 3 models; what Snakemake says goes to {log}", "study: not made: checks/contact-3.txt",
+        f"study: {results}: study is not done: Snakemake ended with the code 1, and {log} says why; the same command goes on",
+    ]
+    assert "Error in rule check" in (results / "snakemake.log").read_text()
     assert not (results / "study.csv").exists() and not (results / "checks" / "contact-3.txt").exists()
+
+
+def test_dry_run_studies_nothing(acas, study, tmp_path):
+    """Nothing is said to be there that is not; and once a model is changed, what is there is not said to be of it."""
+    results = tmp_path / "results"
+    ended = run(acas, study, results, "--dry-run")
+    said = f"not studied: the further words leave out some of 14 steps that are to be done; {results}/snakemake.log has what Snakemake said\n"
+    assert (ended.returncode, ended.stdout) == (0, said)
+    assert not (results / "study.csv").exists() and not (results / "page.html").exists()
+    assert "reports/contact-2.txt" in (results / "snakemake.log").read_text()
+    assert run(acas, study, results).stdout.startswith("studied 3 models: ")
+    assert run(acas, study, results, "-n").stdout.startswith("studied 3 models: ")
+    model = study.parent / "c.toml"
+    model.write_text(model.read_text().replace("greatest = ", "greatest = 1"))
+    assert run(acas, study, results, "-n").stdout == said
+
+
+def test_words_that_are_none_of_snakemakes(acas, study, tmp_path):
+    """One line and the code 2, before anything is made, and no word of going on."""
+    ended = run(acas, study, tmp_path / "results", "--zoom", "3")
+    line = "study: words: unrecognized arguments: --zoom; use: study/run STUDY RESULTS ..; study/run --help says more\n"
+    assert (ended.returncode, ended.stdout, ended.stderr) == (2, "", line)
+    assert not (tmp_path / "results").exists()
+    ended = run(acas, study, tmp_path / "results", "--cores", "many")
+    last = ended.stderr.splitlines()[-1]
+    assert ended.returncode == 1 and "Error parsing number of cores" in last and "goes on" not in last
 
 
 def test_cluster_executor_without_a_change(acas, study, tmp_path):
@@ -167,6 +202,33 @@ def test_bad_studies_are_one_line_and_make_nothing(acas, study, tmp_path, old, n
     assert ended.returncode == 1 and ended.stdout == ""
     assert fault in ended.stderr and ended.stderr.count("\n") == 1
     assert not (tmp_path / "results").exists()
+
+
+def broken_studies() -> list[tuple[str, bool, str]]:
+    """The texts of schema/test that are broken studies, whether the schema refuses each, and what is said of it."""
+    loader = SourceFileLoader("schema_test", str(TOP / "schema" / "test"))
+    module = module_from_spec(spec_from_loader("schema_test", loader))
+    loader.exec_module(module)
+    return list(module.broken((TRADE / "study.toml").read_text(encoding="utf-8"), module.STUDIES))
+
+
+@pytest.mark.parametrize(("text", "is_refused", "line"), broken_studies(), ids=lambda value: value if isinstance(value, str) and "\n" not in value else "")
+def test_studies_that_the_schema_knows(tmp_path, text, is_refused, line):
+    """What schema/test has a broken study for, is said of it; and what the schema refuses, is refused."""
+    shutil.copy(TRADE / "model.toml", tmp_path)
+    path = tmp_path / "study.toml"
+    path.write_text(text)
+    with pytest.raises(Fault) as fault:
+        check_columns(read_study(path), str(path))
+    assert str(fault.value).startswith(f"{path}: {line}")
+
+
+def test_study_without_what_may_be_left_out(tmp_path):
+    shutil.copy(TRADE / "model.toml", tmp_path)
+    path = tmp_path / "study.toml"
+    text = (TRADE / "study.toml").read_text(encoding="utf-8")
+    path.write_text(text[: text.index("[trade]")])
+    assert (read_study(path).across, read_study(path).up) == ("advised", "reported")
 
 
 def test_folder_without_models_and_folder_in_use(acas, study, tmp_path):
