@@ -13,7 +13,8 @@ from acas_pictures.progress import Progress
 from acas_pictures.slices import name_of, slice_of
 from acas_pictures.verdicts import cell_slice, draw_verdicts
 from acas_pictures.witness import draw_witness
-from acas_table import BoxLine, Fault, Model, check_replay, read_line, read_model, read_replay, read_report, read_table
+from acas_origin import beside
+from acas_table import BoxLine, Fault, Model, Table, check_origin, check_replay, read_line, read_model, read_replay, read_report, read_table
 from acas_table.flight import check_flight
 from acas_table.report import check_line
 
@@ -37,6 +38,7 @@ def verdicts(words: WORDS) -> Figure:
     model = read_model(words.model)
     part = cell_slice(model, words.present, words.own, words.intruder)
     report = read_report(text_of(words.report), words.report, Progress(words.report))
+    words.note = note_of(words.report, model, read_table(words.table, model) if words.table is not None else None)
     return draw_verdicts(model, report, part)
 
 
@@ -67,8 +69,19 @@ def _box_witness(model: Model, line: BoxLine, name: str | None) -> Figure:
 def replay(words: WORDS) -> Figure:
     """The picture of `acas_plot replay`."""
     model = read_model(words.model)
+    table = read_table(words.table, model)
     found = read_replay(text_of(words.replay), words.replay)
-    return draw_replay(model, found, check_replay(found, model, read_table(words.table, model)))
+    words.note = note_of(words.replay, model, table)
+    return draw_replay(model, found, check_replay(found, model, table))
+
+
+def note_of(name: str, model: Model, table: Table | None) -> str:
+    """What is to be said of a text that nothing ties to its model; a fault where the file beside it says that it is of another."""
+    if name == "-":
+        return "input: nothing says of which model and table it is"
+    if check_origin(name, model, table) is None:
+        return f"{name}: no {beside(Path(name).name)} says of which model and table it is: acas_run writes one"
+    return ""
 
 
 def text_of(name: str) -> str:
@@ -85,6 +98,7 @@ DRAWN = {"policy": policy, "cost": cost, "verdicts": verdicts, "witness": witnes
 
 def main(chosen: WORDS) -> int:
     """Draws the picture that the words choose, or says in one line what is wrong. The exit code is 0 or 1."""
+    chosen.note = ""
     try:
         check_ending(Path(chosen.picture))
         save(DRAWN[chosen.command](chosen), Path(chosen.picture))
@@ -94,4 +108,6 @@ def main(chosen: WORDS) -> int:
     except OSError as error:
         print(f"acas_plot: {error.filename}: cannot be read: {error.strerror}", file=sys.stderr)
         return 1
+    if chosen.note:
+        print(f"acas_plot: {chosen.note}", file=sys.stderr)
     return 0

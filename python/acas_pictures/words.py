@@ -39,6 +39,8 @@ def parser() -> Parser:
             command.add_argument("--present", required=True, metavar="NAME", help="the advisory that is present")
             command.add_argument("--own", required=True, type=int, metavar="RATE", help="the own rate in ft/min, a number of the grid")
             command.add_argument("--intruder", required=True, type=int, metavar="RATE", help="the intruder's rate, likewise")
+        if name == "verdicts":
+            command.add_argument("--table", metavar="TABLE", help="the table that the report is to be of")
         if name == "witness":
             command.add_argument("--advisory", metavar="NAME", help="of a line of acas regions: the advisory of its box")
     return whole

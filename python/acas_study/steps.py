@@ -10,7 +10,7 @@ from acas_study.files import write_whole
 from acas_study.page import page_of
 from acas_study.rows import COUNTED, counts_of, read_row, text_of_rows
 from acas_study.trade import Point, draw_trade
-from acas_table import Model, Report, Table, read_model, read_report, read_table
+from acas_table import Fault, Model, Report, Table, check_origin, read_model, read_report, read_table
 from acas_table.replay import nearest
 
 PLAN = Path("plan.json")
@@ -29,8 +29,10 @@ def row(name: str) -> None:
 
 def _read(name: str) -> tuple[Model, Table, Report]:
     model = read_model(f"models/{name}.toml")
-    report = f"reports/{name}.txt"
-    return model, read_table(f"tables/{name}.acxt", model), read_report(Path(report).read_text(encoding="utf-8"), report)
+    report, table = f"reports/{name}.txt", read_table(f"tables/{name}.acxt", model)
+    if check_origin(report, model, table) is None:
+        raise Fault(report, "origin", "is missing: nothing says of which model and table it is")
+    return model, table, read_report(Path(report).read_text(encoding="utf-8"), report)
 
 
 def _level(model: Model) -> Slice:

@@ -13,6 +13,7 @@ from pathlib import Path
 import pytest
 from conftest import EXAMPLES, TOP
 
+from acas_origin import digest_of, origin_of
 from acas_study.command import check_columns, lock
 from acas_study.description import read_study
 from acas_study.texts import set_key, text_of
@@ -75,6 +76,9 @@ def test_three_models_of_a_folder(acas, tmp_path):
         assert f'src="pictures/{picture}.png"' in page
         assert (results / "pictures" / f"{picture}.png").read_bytes().startswith(b"\x89PNG")
     assert (results / "checks" / "d.txt").read_text() == "accepted layers 31 states 96\n"
+    origin = origin_of((results / "reports" / "d.txt.from").read_text())
+    assert (origin.words, origin.code) == (("audit", "models/d.toml", "tables/d.acxt"), 1)
+    assert origin.files == {"model": digest_of(results / "models" / "d.toml"), "table": digest_of(results / "tables" / "d.acxt")}
 
 
 def test_killed_run_goes_on(acas, study, tmp_path):
@@ -82,7 +86,7 @@ def test_killed_run_goes_on(acas, study, tmp_path):
     results, hanging = tmp_path / "results", tmp_path / "hanging"
     hanging.write_text(f'#!/bin/sh\ncase $1.$2 in audit.*contact-3*) sleep 600;; esac\nexec "{acas.program}" "$@"\n')
     hanging.chmod(0o755)
-    begun = [results / "reports" / "contact-3.txt", *(results / "rows" / f"contact-{number}.csv" for number in (1, 2))]
+    begun = [results / "reports" / "contact-3.txt.part", *(results / "rows" / f"contact-{number}.csv" for number in (1, 2))]
     kept = [results / "tables" / "contact-3.acxt", *(results / "reports" / f"contact-{number}.txt" for number in (1, 2))]
     command = [sys.executable, "-B", RUN, "--acas", hanging, study, results, "--cores", "2"]
     with subprocess.Popen(command, stderr=subprocess.DEVNULL, start_new_session=True) as running:

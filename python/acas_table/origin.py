@@ -1,0 +1,35 @@
+"""Of which model and table a printed text is, by the file that `python/acas_run` writes beside it."""
+import os
+from pathlib import Path
+
+from acas_origin import Origin, beside, digest_of, origin_of
+from acas_table.fault import Fault
+from acas_table.model import Model
+from acas_table.table import Table
+
+
+def check_origin(path: str | os.PathLike[str], model: Model, table: Table | None = None) -> Origin | None:
+    """What the file beside a report or a replay says of it, once that is found to be of this text, this model and this table.
+
+    Without a table, that one is not looked at. None where there is no such file: then nothing tells of which model the text is.
+    """
+    file = beside(path)
+    if not file.exists():
+        return None
+    try:
+        origin = origin_of(file.read_text(encoding="utf-8"))
+    except ValueError as error:
+        raise Fault(str(file), "origin", f"is none: {error}") from None
+    if digest_of(path) != origin.output:
+        raise Fault(str(path), "text", f"is not the one of {file}")
+    _check(path, origin, "model", model.digest.hex(), model.source)
+    if table is not None:
+        _check(path, origin, "table", digest_of(table.source), table.source)
+    return origin
+
+
+def _check(path: str | os.PathLike[str], origin: Origin, kind: str, found: str, source: str) -> None:
+    said = origin.files.get(kind)
+    if said != found:
+        words = " ".join(origin.words)
+        raise Fault(str(path), f"other {kind}", f"{said or 'none'} found {found} of {source}: {beside(Path(path).name)} has it from acas {words}")
