@@ -15,13 +15,15 @@ from matplotlib.patheffects import withStroke
 from acas_pictures.colours import Paint
 from acas_table import Fault, Model
 
-ENDINGS = {".png": "png", ".svg": "svg"}
+ENDINGS = {".png": "png", ".svg": "svg", ".pdf": "pdf"}
 STYLE = {
     "font.size": 9, "axes.titlesize": 10, "axes.titlelocation": "left", "axes.spines.top": False, "axes.spines.right": False,
     "legend.frameon": False, "legend.fontsize": 8.5, "hatch.linewidth": 0.6, "svg.fonttype": "none", "svg.hashsalt": "acas",
+    "pdf.fonttype": 42,
 }
 # What two runs would not have in common is left out of the files.
-METADATA = {"png": {"Software": None}, "svg": {"Date": None}}
+METADATA = {"png": {"Software": None}, "svg": {"Date": None}, "pdf": {"CreationDate": None}}
+MOST_POINTS = 100_000_000
 TO_GO = "time to loss of horizontal separation [s]"
 ALTITUDE = "intruder's altitude less the own [ft]"
 
@@ -29,7 +31,7 @@ ALTITUDE = "intruder's altitude less the own [ft]"
 def check_ending(path: Path) -> None:
     """Refuses a name that tells no format."""
     if path.suffix.lower() not in ENDINGS:
-        raise Fault(str(path), "ending", "is none of .png and .svg")
+        raise Fault(str(path), "ending", "is none of .png, .svg and .pdf")
 
 
 def new_figure(width: float, height: float) -> Figure:
@@ -40,6 +42,22 @@ def new_figure(width: float, height: float) -> Figure:
     return figure
 
 
+def resize(figure: Figure, size: tuple[float, float] | None, dpi: int | None) -> None:
+    """Gives a figure another size in inches, and other points an inch, where they are given."""
+    if size is not None:
+        figure.set_size_inches(*size)
+    if dpi is not None:
+        figure.set_dpi(dpi)
+    width, height = figure.get_size_inches() * figure.get_dpi()
+    if width * height > MOST_POINTS:
+        raise Fault("words", "size", f"makes {width:.0f} by {height:.0f} points, over {MOST_POINTS} in all")
+
+
+def set_title(axes: Axes, title: str) -> None:
+    """Writes a title over the axes, letter by letter: no dollar begins a formula."""
+    axes.set_title(title).set_parse_math(False)
+
+
 def save(figure: Figure, path: Path) -> None:
     """Writes a figure to a file in the format of its ending. A file that was there is replaced once the new one is whole."""
     check_ending(path)
@@ -47,7 +65,7 @@ def save(figure: Figure, path: Path) -> None:
     part = path.with_name(f".{path.name}.{os.getpid()}.part")
     try:
         with open(part, "xb") as file:
-            figure.savefig(file, format=form, metadata=METADATA[form])
+            figure.savefig(file, format=form, dpi=figure.get_dpi(), metadata=METADATA[form])
         os.replace(part, path)
     except OSError as error:
         raise Fault(str(path), "cannot be written:", error.strerror or str(error)) from None

@@ -1,29 +1,27 @@
 """The colours of all pictures: one for each advisory of a model, and one for each verdict.
 
-People with any of the common kinds of colour blindness can tell them apart. Advice to climb is blue and advice to descend is red,
-the stronger the darker.
+People with any of the common kinds of colour blindness can tell them apart. The colour of an advisory goes by what it asks, not by its
+name: advice upwards is blue and advice downwards goes from yellow to red, the harder the darker.
 """
 from dataclasses import dataclass
 
 from matplotlib.colors import to_rgb
 
-from acas_table import Model
+from acas_table import Advisory, Model
 
 CLEAR = "#F0F0F0"
 """Of the first advisory, which stands for clear of conflict, and of clear cells."""
-NAMED = {
-    "no-descend": "#7CC5EE",
-    "climb": "#0072B2",
-    "climb-fast": "#1B1B6B",
-    "no-climb": "#F2A900",
-    "descend": "#D55E00",
-    "descend-fast": "#7A0A2E",
-    "level": "#1B9E77",
-}
-OTHERS = ("#CC79A7", "#F0E442", "#6B6B6B", *NAMED.values())
-"""For advisories with other names: those of these colours that the model does not need by name, in this order."""
-HATCHES = ("", "////", "....")
-"""Over the colours, once they run out."""
+UP = ("#7CC5EE", "#0072B2", "#1B1B6B")
+DOWN = ("#F2A900", "#D55E00", "#7A0A2E")
+"""Of advice that lets an aircraft stay level, of advice that does not, and of advice that asks for a hard climb or descent."""
+LEVEL = "#1B9E77"
+"""Of advice that limits climbs and descents alike."""
+ANY = "#B4B4B4"
+"""Of advice that limits neither below what is hard."""
+HARD = 2000
+"""From this rate on, in ft/min, a climb or a descent is hard."""
+HATCHES = ("", "////", "....", "\\\\\\\\", "xxxx", "----", "||||", "++++", "oooo", "****", "//..", "\\\\..", "--..", "||..", "xx..")
+"""Over the colour, of advisories of one kind: none on that which asks least."""
 CERTIFIED = "#B7DDA6"
 MIXED = "#B48CCB"
 REPORTED = "#4A1A70"
@@ -46,12 +44,39 @@ class Paint:
         return "#000000" if 0.299 * red + 0.587 * green + 0.114 * blue > 0.45 else "#FFFFFF"
 
 
+def colour_of(lo: int, hi: int) -> str:
+    """The colour of an advisory that allows own rates from `lo` to `hi`, in ft/min.
+
+    Where these do not have 0, it asks for a climb or a descent, which is hard from `HARD` on. Where they do, it goes by which of the
+    two it leaves more of, while all rates from `HARD` on are alike.
+    """
+    if lo > 0:
+        return UP[1 + (lo >= HARD)]
+    if hi < 0:
+        return DOWN[1 + (-hi >= HARD)]
+    up, down = min(hi, HARD), min(-lo, HARD)
+    if up != down:
+        return UP[0] if up > down else DOWN[0]
+    return LEVEL if up < HARD else ANY
+
+
 def paints(model: Model) -> tuple[Paint, ...]:
     """How each advisory of a model is filled, by number. No two are filled alike."""
-    names = model.names[1:]
-    free = [colour for colour in OTHERS if colour not in [NAMED.get(name) for name in names]]
-    others = [name for name in names if name not in NAMED]
-    filled = {name: Paint(NAMED[name]) for name in names if name in NAMED}
-    for place, name in enumerate(others):
-        filled[name] = Paint(free[place % len(free)], HATCHES[place // len(free)])
-    return (Paint(CLEAR), *(filled[name] for name in names))
+    colours = [colour_of(advisory.lo, advisory.hi) for advisory in model.advisories]
+    filled = [Paint(CLEAR)] * len(colours)
+    kinds: dict[str, list[int]] = {}
+    for number in range(1, len(colours)):
+        kinds.setdefault(colours[number], []).append(number)
+    for colour, numbers in kinds.items():
+        for place, number in enumerate(sorted(numbers, key=lambda number: _asked(model.advisories[number], colour))):
+            filled[number] = Paint(colour, HATCHES[place])
+    return tuple(filled)
+
+
+def _asked(advisory: Advisory, colour: str) -> tuple[int, int]:
+    """What is less for an advisory that asks less of its kind, in ft/min: of two of them, that which allows more."""
+    if colour in UP:
+        return advisory.lo, -advisory.hi
+    if colour in DOWN:
+        return -advisory.hi, advisory.lo
+    return advisory.lo - advisory.hi, advisory.lo

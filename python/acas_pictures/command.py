@@ -5,14 +5,14 @@ from pathlib import Path
 
 from matplotlib.figure import Figure
 
-from acas_pictures.canvas import check_ending, save
+from acas_pictures.canvas import check_ending, resize, save
 from acas_pictures.cost import draw_cost
 from acas_pictures.encounter import draw_replay
 from acas_pictures.policy import draw_policy
 from acas_pictures.progress import Progress
 from acas_pictures.slices import name_of, slice_of
 from acas_pictures.verdicts import cell_slice, draw_verdicts
-from acas_pictures.witness import draw_witness
+from acas_pictures.witness import draw_witness, title_of
 from acas_origin import beside
 from acas_table import BoxLine, Fault, Model, Table, check_origin, check_replay, read_line, read_model, read_replay, read_report, read_table
 from acas_table.flight import check_flight
@@ -24,13 +24,13 @@ WORDS = argparse.Namespace
 def policy(words: WORDS) -> Figure:
     """The picture of `acas_plot policy`."""
     model = read_model(words.model)
-    return draw_policy(model, read_table(words.table, model), slice_of(model, words.present, words.own, words.intruder))
+    return draw_policy(model, read_table(words.table, model), slice_of(model, words.present, words.own, words.intruder), words.title)
 
 
 def cost(words: WORDS) -> Figure:
     """The picture of `acas_plot cost`."""
     model = read_model(words.model)
-    return draw_cost(model, read_table(words.table, model), slice_of(model, words.present, words.own, words.intruder))
+    return draw_cost(model, read_table(words.table, model), slice_of(model, words.present, words.own, words.intruder), words.title)
 
 
 def verdicts(words: WORDS) -> Figure:
@@ -39,7 +39,7 @@ def verdicts(words: WORDS) -> Figure:
     part = cell_slice(model, words.present, words.own, words.intruder)
     report = read_report(text_of(words.report), words.report, Progress(words.report))
     words.note = note_of(words.report, model, read_table(words.table, model) if words.table is not None else None)
-    return draw_verdicts(model, report, part)
+    return draw_verdicts(model, report, part, words.title)
 
 
 def witness(words: WORDS) -> Figure:
@@ -47,23 +47,22 @@ def witness(words: WORDS) -> Figure:
     model = read_model(words.model)
     line = read_line(sys.stdin.read() if words.line == "-" else words.line)
     if isinstance(line, BoxLine):
-        return _box_witness(model, line, words.advisory)
+        return _box_witness(model, line, words.advisory, words.title)
     if words.advisory is not None:
         raise Fault("line", "advice", f"is {line.advice}: --advisory is for the lines of acas regions")
     advisory = check_line(model, line, "line")
-    places = f"{line.altitude} {line.own_rate} {line.intruder_rate}"
-    title = f"{name_of(model)}: cell {line.second} {line.present} {places} under {advisory.name}"
-    return draw_witness(model, advisory, line.flight, title)
+    return draw_witness(model, advisory, line.flight, title_of(model, line) if words.title is None else words.title)
 
 
-def _box_witness(model: Model, line: BoxLine, name: str | None) -> Figure:
+def _box_witness(model: Model, line: BoxLine, name: str | None, title: str | None) -> Figure:
     if name is None:
         raise Fault("line", "advisory", "is not said by a line of acas regions: give --advisory NAME")
     advisory = model.advisories[model.number(name)]
     if line.flight is None:
         raise Fault("line", "verdict", "is certified, and no flight is printed")
     check_flight(model, advisory, line.flight, "line")
-    return draw_witness(model, advisory, line.flight, f"{name_of(model)}: box {line.box} under {name}")
+    words = f"{name_of(model)}: box {line.box} under {name}" if title is None else title
+    return draw_witness(model, advisory, line.flight, words)
 
 
 def replay(words: WORDS) -> Figure:
@@ -72,7 +71,7 @@ def replay(words: WORDS) -> Figure:
     table = read_table(words.table, model)
     found = read_replay(text_of(words.replay), words.replay)
     words.note = note_of(words.replay, model, table)
-    return draw_replay(model, found, check_replay(found, model, table))
+    return draw_replay(model, found, check_replay(found, model, table), words.title)
 
 
 def note_of(name: str, model: Model, table: Table | None) -> str:
@@ -101,7 +100,9 @@ def main(chosen: WORDS) -> int:
     chosen.note = ""
     try:
         check_ending(Path(chosen.picture))
-        save(DRAWN[chosen.command](chosen), Path(chosen.picture))
+        figure = DRAWN[chosen.command](chosen)
+        resize(figure, chosen.size, chosen.dpi)
+        save(figure, Path(chosen.picture))
     except Fault as fault:
         print(f"acas_plot: {fault}", file=sys.stderr)
         return 1

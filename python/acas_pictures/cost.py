@@ -14,7 +14,7 @@ COLOURS = "cividis"
 """A scale that is read alike by people with and without colour blindness."""
 
 
-def draw_cost(model: Model, table: Table, part: Slice) -> Figure:
+def draw_cost(model: Model, table: Table, part: Slice, title: str | None = None) -> Figure:
     """The upper value, and how far it is above the lower one, each entry in a rectangle round its second and its altitude."""
     entries = part.entries(table)
     figure = new_figure(8.6, 3.8)
@@ -25,7 +25,8 @@ def draw_cost(model: Model, table: Table, part: Slice) -> Figure:
     steps = (Normalize(0, max(1, int(gap.max()))), MaxNLocator(integer=True))
     _draw(right, model, gap, *steps, label="upper less lower value [millionths]")
     left.set_ylabel(ALTITUDE)
-    figure.suptitle(f"{name_of(model)}: {part.words(model)}", fontsize=10)
+    words = f"{name_of(model)}: {part.words(model)}" if title is None else title
+    figure.suptitle(words, fontsize=10).set_parse_math(False)
     return figure
 
 

@@ -6,7 +6,7 @@ from matplotlib.axes import Axes
 from matplotlib.figure import Figure
 from matplotlib.ticker import MaxNLocator
 
-from acas_pictures.canvas import legend_beside, new_figure, patch
+from acas_pictures.canvas import legend_beside, new_figure, patch, set_title
 from acas_pictures.colours import INTRUDER, OWN, PUCK, paints
 from acas_pictures.slices import name_of
 from acas_table import Model, Replay
@@ -16,7 +16,7 @@ STEPS = 16
 """How many points a second is drawn with."""
 
 
-def draw_replay(model: Model, replay: Replay, issued: np.ndarray) -> Figure:
+def draw_replay(model: Model, replay: Replay, issued: np.ndarray, title: str | None = None) -> Figure:
     """Both paths second by second, the height of the puck round the own one, and below them the advice that is issued.
 
     `issued` are the numbers of the advices, shape (seconds,). A replay says how each second begins, so the paths go to the last one.
@@ -30,7 +30,8 @@ def draw_replay(model: Model, replay: Replay, issued: np.ndarray) -> Figure:
     axes.plot(times, own, color=OWN, linewidth=2.2, label="own path")
     axes.plot(times, intruder, color=INTRUDER, linewidth=2.2, label="intruder's path")
     _draw_contacts(axes, seconds["contact"])
-    axes.set(ylabel="altitude above the own at first [ft]", title=f"{name_of(model)}: {Path(replay.source).name}")
+    axes.set(ylabel="altitude above the own at first [ft]")
+    set_title(axes, f"{name_of(model)}: {Path(replay.source).name}" if title is None else title)
     axes.set_xlim(0, len(seconds))
     _add_range(axes, seconds)
     axes.legend(loc="upper left", bbox_to_anchor=(1.01, 1.0), borderaxespad=0.0)

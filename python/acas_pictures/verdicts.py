@@ -5,7 +5,7 @@ from matplotlib.figure import Figure
 from matplotlib.patches import Rectangle
 from matplotlib.ticker import MaxNLocator
 
-from acas_pictures.canvas import ALTITUDE, TO_GO, fill_cells, legend_beside, mark_puck, new_figure, patch
+from acas_pictures.canvas import ALTITUDE, TO_GO, fill_cells, legend_beside, mark_puck, new_figure, patch, set_title
 from acas_pictures.colours import CERTIFIED, CLEAR, MIXED, REPORTED, Paint, paints
 from acas_pictures.slices import Slice, name_of, require_seconds
 from acas_table import Fault, Model, Report, numbered
@@ -28,7 +28,7 @@ def cell_slice(model: Model, present: str, own: int, intruder: int) -> Slice:
     return Slice(model.number(present), *places)
 
 
-def draw_verdicts(model: Model, report: Report, part: Slice) -> Figure:
+def draw_verdicts(model: Model, report: Report, part: Slice, title: str | None = None) -> Figure:
     """The cells of a slice, and below them the lines of the whole report by advice and by second."""
     require_seconds(model)
     if not report.is_whole:
@@ -40,7 +40,8 @@ def draw_verdicts(model: Model, report: Report, part: Slice) -> Figure:
     fill_cells(axes, np.arange(model.horizon + 1), model.altitude, verdicts_of(model, cells, part), FILLED)
     mark_puck(axes, model)
     axes.xaxis.set_major_locator(MaxNLocator(integer=True))
-    axes.set(xlabel=TO_GO, ylabel=ALTITUDE, title=_title(model, part))
+    axes.set(xlabel=TO_GO, ylabel=ALTITUDE)
+    set_title(axes, _title(model, part) if title is None else title)
     legend_beside(axes, [patch(paint, label) for paint, label in zip(FILLED, LABELS)], "cells")
     _draw_by_advice(figure.add_subplot(rows[1, 0]), model, cells)
     _draw_by_second(figure.add_subplot(rows[1, 1]), model, cells)

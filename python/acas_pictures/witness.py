@@ -5,10 +5,12 @@ from matplotlib.axes import Axes
 from matplotlib.figure import Figure
 from matplotlib.patches import Rectangle
 
-from acas_pictures.canvas import new_figure
+from acas_pictures.canvas import new_figure, set_title
 from acas_pictures.colours import INTRUDER, OWN, PUCK
-from acas_table import Advisory, Flight, Model, Segment
+from acas_pictures.slices import name_of
+from acas_table import Advisory, CellLine, Flight, Model, Segment
 from acas_table.flight import TICKS_PER_FOOT, climb, highest_response, lowest_response
+from acas_table.model import AXES
 
 STEPS = 240
 CURVES = "#6A6A6A"
@@ -31,11 +33,22 @@ def draw_witness(model: Model, advisory: Advisory, flight: Flight, title: str) -
     _draw_intruder(axes, flight, end)
     _draw_response(axes, flight)
     _draw_contact(axes, flight)
-    axes.set(xlabel="time [s]", ylabel="altitude above the own at first [ft]", title=title, xlim=(0, float(end)))
+    axes.set(xlabel="time [s]", ylabel="altitude above the own at first [ft]", xlim=(0, float(end)))
+    set_title(axes, title)
     axes.set_ylim(*reach(model, flight, end))
     _add_range(axes, flight)
     axes.legend(loc="upper left", bbox_to_anchor=(1.01, 1.0), borderaxespad=0.0)
     return figure
+
+
+def title_of(model: Model, line: CellLine) -> str:
+    """The cell of a line in words: its second, and its edges in ft and ft/min."""
+    edges = (getattr(model, axis)[place : place + 2].tolist() for axis, place in zip(AXES, (line.altitude, line.own_rate, line.intruder_rate)))
+    altitude, own, intruder = (f"{low} to {high}" for low, high in edges)
+    return (
+        f"{name_of(model)}: {line.second} to {line.second + 1} s to go, {line.present} is present, under {line.advice}\n"
+        f"altitude {altitude} ft, own rate {own}, intruder's rate {intruder} ft/min"
+    )
 
 
 def passing(model: Model, flight: Flight) -> tuple[Fraction, Fraction]:

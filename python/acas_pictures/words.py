@@ -1,6 +1,9 @@
 """The words of the command `acas_plot`. They are looked at before any package is needed."""
 import argparse
+import re
 from typing import NoReturn
+
+GREATEST_SIZE = 40
 
 COMMANDS = (
     ("policy", ("MODEL", "TABLE"), True, "the advice over seconds to go and relative altitude"),
@@ -16,7 +19,7 @@ HELP = {
     "REPORT": "a file with what acas audit has printed; - for the input",
     "LINE": "a line of acas audit or of acas regions; - for the input",
     "REPLAY": "a file with what acas replay has printed; - for the input",
-    "PICTURE": "the file to write, which ends in .png or .svg",
+    "PICTURE": "the file to write, which ends in .png, .svg or .pdf",
 }
 
 
@@ -29,7 +32,7 @@ class Parser(argparse.ArgumentParser):
 
 def parser() -> Parser:
     """The words of the command."""
-    whole = Parser(prog="acas_plot", description="Draws what acas makes and prints, to a file whose name ends in .png or .svg.")
+    whole = Parser(prog="acas_plot", description="Draws what acas makes and prints, to a file whose name ends in .png, .svg or .pdf.")
     commands = whole.add_subparsers(dest="command", required=True, metavar="COMMAND")
     for name, files, is_slice, says in COMMANDS:
         command = commands.add_parser(name, help=says, description=says)
@@ -43,4 +46,22 @@ def parser() -> Parser:
             command.add_argument("--table", metavar="TABLE", help="the table that the report is to be of")
         if name == "witness":
             command.add_argument("--advisory", metavar="NAME", help="of a line of acas regions: the advisory of its box")
+        command.add_argument("--title", metavar="TEXT", help="the title, in the place of one that says what is drawn")
+        command.add_argument("--size", metavar="WIDTHxHEIGHT", type=size, help="the size in inches, as 7x4.5")
+        command.add_argument("--dpi", metavar="NUMBER", type=dpi, help="how many points a .png has for each inch, else 150")
     return whole
+
+
+def size(text: str) -> tuple[float, float]:
+    """A width and a height in inches."""
+    parts = re.fullmatch(r"(\d{1,3}(?:\.\d{1,3})?)x(\d{1,3}(?:\.\d{1,3})?)", text)
+    if not parts or not all(1 <= float(part) <= GREATEST_SIZE for part in parts.groups()):
+        raise argparse.ArgumentTypeError(f"{text!r} is not WIDTHxHEIGHT, each 1 to {GREATEST_SIZE} inches")
+    return float(parts[1]), float(parts[2])
+
+
+def dpi(text: str) -> int:
+    """A number of points for each inch."""
+    if not re.fullmatch(r"[0-9]{1,4}", text) or not 20 <= int(text) <= 2400:
+        raise argparse.ArgumentTypeError(f"{text!r} is not a whole number from 20 to 2400")
+    return int(text)

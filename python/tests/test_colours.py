@@ -1,5 +1,6 @@
 """Whether people with each kind of colour blindness tell the colours apart."""
 import itertools
+from dataclasses import replace
 
 import numpy as np
 import pytest
@@ -8,7 +9,7 @@ from look import colour_at
 from matplotlib.colors import to_rgb
 
 from acas_pictures.canvas import fill_cells, new_figure
-from acas_pictures.colours import CERTIFIED, CLEAR, MIXED, NAMED, OTHERS, REPORTED, Paint, paints
+from acas_pictures.colours import ANY, CERTIFIED, CLEAR, DOWN, HATCHES, LEVEL, MIXED, REPORTED, UP, Paint, colour_of, paints
 from acas_table import read_model
 
 # What red, green and blue light become to who lacks one kind of cone, in linear light, by Machado, Oliveira and Fernandes (2009).
@@ -32,17 +33,40 @@ def lab(colour: str, sight: np.ndarray) -> np.ndarray:
 
 
 @pytest.mark.parametrize("sight", SIGHTS)
-@pytest.mark.parametrize("colours", [(CLEAR, *dict.fromkeys(OTHERS)), (CLEAR, CERTIFIED, MIXED, REPORTED)], ids=["advisories", "verdicts"])
+@pytest.mark.parametrize("colours", [(CLEAR, *UP, *DOWN, LEVEL, ANY), (CLEAR, CERTIFIED, MIXED, REPORTED)], ids=["advisories", "verdicts"])
 def test_colours_are_told_apart(sight, colours):
     for one, other in itertools.combinations(colours, 2):
         assert np.linalg.norm(lab(one, SIGHTS[sight]) - lab(other, SIGHTS[sight])) >= LEAST_DIFFERENCE, (one, other)
 
 
-def test_same_name_has_the_same_colour_in_every_model():
-    small, large = (read_model(EXAMPLES / name) for name in ("c.toml", "e.toml"))
-    for name in ("clear", "climb", "descend"):
-        assert paints(small)[small.number(name)] == paints(large)[large.number(name)]
-    assert paints(large)[large.number("climb")].colour == NAMED["climb"]
+@pytest.mark.parametrize(("lo", "hi", "colour"), [
+    (0, 10000, UP[0]), (-500, 10000, UP[0]), (-1999, 2000, UP[0]), (0, 500, UP[0]),
+    (1, 10000, UP[1]), (1500, 1500, UP[1]), (1999, 10000, UP[1]), (2000, 10000, UP[2]), (2500, 3000, UP[2]),
+    (-10000, 0, DOWN[0]), (-10000, 500, DOWN[0]), (-2000, 1999, DOWN[0]), (-500, 0, DOWN[0]),
+    (-10000, -1, DOWN[1]), (-1500, -1500, DOWN[1]), (-10000, -1999, DOWN[1]), (-10000, -2000, DOWN[2]), (-3000, -2500, DOWN[2]),
+    (0, 0, LEVEL), (-500, 500, LEVEL), (-1999, 1999, LEVEL), (-2000, 2000, ANY), (-10000, 10000, ANY), (-2000, 10000, ANY),
+])
+def test_colour_goes_by_what_is_asked(lo, hi, colour):
+    assert colour_of(lo, hi) == colour
+
+
+def test_names_play_no_part(changed):
+    """A descent is as red by the name of DES1500 as by that of descend, and also by that of climb."""
+    for climb, descend in (("climb", "descend"), ("CL1500", "DES1500"), ("descend", "climb")):
+        swapped = (('"climb"', '"1"'), ('"descend"', '"2"'), ('"1"', f'"{climb}"'), ('"2"', f'"{descend}"'))
+        model = read_model(changed("c.toml", ('"clear"', '"COC"'), *swapped))
+        assert model.names == ("COC", climb, descend)
+        assert paints(model) == (Paint(CLEAR), Paint(UP[1]), Paint(DOWN[1]))
+
+
+def test_advisories_of_one_kind_have_hatches_by_what_they_ask():
+    """Of e.toml: no-climb, no-descend, level, climb, descend and climb-fast; then two climbs, of which one asks for more."""
+    model = read_model(EXAMPLES / "e.toml")
+    assert [paint.colour for paint in paints(model)[1:]] == [DOWN[0], UP[0], LEVEL, UP[1], DOWN[1], UP[2]]
+    assert {paint.hatch for paint in paints(model)} == {""}
+    changed_advisories = tuple(replace(one, lo=1000) if one.name == "climb-fast" else one for one in model.advisories)
+    filled = paints(replace(model, advisories=changed_advisories))
+    assert (filled[4], filled[6]) == (Paint(UP[1], HATCHES[1]), Paint(UP[1]))
 
 
 def test_first_advisory_is_clear_whatever_its_name(changed):
@@ -54,7 +78,7 @@ def test_many_advisories_are_all_filled_otherwise(changed):
     text = '[[advisory]]\nname = "{}"\nlo = 0\nhi = 1\nchoices = ["clear"]\ncosts = [0]\n\n'
     more = "".join(text.format(f"own-{number}") for number in range(13))
     model = read_model(changed("c.toml", ("[[sigma]]", more + "[[sigma]]")))
-    assert len(set(paints(model))) == 16
+    assert len(set(paints(model))) == 16 and len(set(HATCHES)) == 15
 
 
 def test_hatch_is_drawn():

@@ -1,5 +1,6 @@
 """The command acas_plot: its pictures, and what it says of bad input, in one line, with nothing half written."""
 import re
+import struct
 import subprocess
 import sys
 from pathlib import Path
@@ -32,7 +33,7 @@ def files(tmp_path) -> Path:
     return tmp_path
 
 
-@pytest.mark.parametrize(("ending", "begin"), [("png", b"\x89PNG\r\n\x1a\n"), ("svg", b"<?xml version"), ("PNG", b"\x89PNG")])
+@pytest.mark.parametrize(("ending", "begin"), [("png", b"\x89PNG\r\n\x1a\n"), ("svg", b"<?xml version"), ("PNG", b"\x89PNG"), ("pdf", b"%PDF-")])
 def test_each_picture_by_its_ending(files, ending, begin):
     picture = files / f"picture.{ending}"
     for words in (
@@ -56,7 +57,21 @@ def test_svg_has_its_words_as_text(files):
         assert f">{words}</text>" in text
 
 
-@pytest.mark.parametrize("name", ["picture.png", "picture.svg"])
+def test_title_size_and_points(files):
+    """Of each command: the title stands in the .svg, and a .png has the points that are asked for."""
+    given = ("--title", "Advice for $5 & more", "--size", "6x4.5", "--dpi", "100")
+    for words in (
+        ("policy", MODEL, TABLE, *LEVEL), ("cost", MODEL, TABLE, *LEVEL), ("verdicts", MODEL, files / "report.txt", *CELLS),
+        ("witness", MODEL, REPORTED), ("replay", MODEL, TABLE, files / "replay.txt"),
+    ):
+        count = 4 if words[0] == "replay" else 3
+        for name in ("picture.svg", "picture.png"):
+            assert plot(*words[:count], files / name, *words[count:], *given).returncode == 0
+        assert ">Advice for $5 &amp; more</text>" in (files / "picture.svg").read_text(encoding="utf-8")
+        assert struct.unpack(">II", (files / "picture.png").read_bytes()[16:24]) == (600, 450)
+
+
+@pytest.mark.parametrize("name", ["picture.png", "picture.svg", "picture.pdf"])
 def test_two_runs_write_the_same(files, name):
     contents = []
     for _ in range(2):
@@ -99,7 +114,8 @@ BAD = [
     ("certified", ("witness", MODEL, CERTIFIED, "old.png"), "line: verdict is certified, and no flight is printed"),
     ("two lines", ("witness", MODEL, CERTIFIED + CERTIFIED, "old.png"), "line: word certified is 'certified\\ncell'"),
     ("line of another model", ("witness", EXAMPLES / "d.toml", REPORTED, "old.png"), "line: ticks is -20400, outside the cell in "),
-    ("ending", ("policy", MODEL, TABLE, "old.pdf", *LEVEL), "old.pdf: ending is none of .png and .svg"),
+    ("ending", ("policy", MODEL, TABLE, "old.gif", *LEVEL), "old.gif: ending is none of .png, .svg and .pdf"),
+    ("too many points", ("policy", MODEL, TABLE, "old.png", *LEVEL, "--size", "40x40", "--dpi", "2400"), "words: size makes 96000 by 96000 points"),
     ("no folder", ("policy", MODEL, TABLE, "nowhere/new.png", *LEVEL), "nowhere/new.png: cannot be written: No such file or directory"),
     ("folder", ("policy", MODEL, TABLE, "folder.png", *LEVEL), "folder.png: cannot be written: Is a directory"),
 ]
@@ -109,6 +125,9 @@ WRONG = [
     ("too few words", ("policy", MODEL, TABLE), "the following arguments are required: PICTURE, --present, --own, --intruder"),
     ("no rate", ("cost", MODEL, TABLE, "old.png", *LEVEL[:2], "--own", "up", *LEVEL[4:]), "argument --own: invalid int value"),
     ("word of another command", ("witness", MODEL, REPORTED, "old.png", "--own", "0"), "unrecognized arguments: --own 0"),
+    ("size", ("policy", MODEL, TABLE, "old.png", *LEVEL, "--size", "7"), "argument --size: '7' is not WIDTHxHEIGHT, each 1 to 40 inches"),
+    ("great size", ("policy", MODEL, TABLE, "old.png", *LEVEL, "--size", "7x41"), "argument --size: '7x41' is not WIDTHxHEIGHT, each 1 to 40"),
+    ("dpi", ("policy", MODEL, TABLE, "old.png", *LEVEL, "--dpi", "-1"), "argument --dpi: '-1' is not a whole number from 20 to 2400"),
     ("two lines in a word", ("policy", MODEL, TABLE, "old.png", *LEVEL, "a\nb"), "unrecognized arguments: a b"),
 ]
 

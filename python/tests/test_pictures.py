@@ -7,20 +7,21 @@ import pytest
 from conftest import EXAMPLES
 from look import colour_at, legend_of, line_of
 
-from acas_pictures.canvas import edges_between
-from acas_pictures.colours import CERTIFIED, CLEAR, MIXED, NAMED, REPORTED
+from acas_pictures.canvas import edges_between, resize
+from acas_pictures.colours import CERTIFIED, CLEAR, DOWN, MIXED, REPORTED, UP
 from acas_pictures.cost import draw_cost
 from acas_pictures.encounter import draw_replay, profile
 from acas_pictures.policy import draw_policy
 from acas_pictures.slices import slice_of
 from acas_pictures.verdicts import cell_slice, draw_verdicts
-from acas_pictures.witness import draw_witness
+from acas_pictures.witness import draw_witness, title_of
 from acas_table import Fault, check_replay, read_line, read_model, read_replay, read_report, read_table
 from test_replay import TEXT as REPLAY
 from test_report import CERTIFIED as CERTIFIED_LINE
 from test_report import REPORTED as REPORTED_LINE
 from test_report import WHOLE as REPORT
 
+COLOURS = {"climb": UP[1], "descend": DOWN[1]}
 TO_GO = "time to loss of horizontal separation [s]"
 ALTITUDE = "intruder's altitude less the own [ft]"
 
@@ -48,8 +49,24 @@ def test_policy_colours_known_entries(model, table):
     """With a second to go and clear present: climb at -1000 ft, descend at -170 ft, and half of the way between them is -585."""
     figure, axes = policy_of(model, table, "clear")
     for altitude, advice in ((-995, "climb"), (-590, "climb"), (-580, "descend"), (-175, "descend")):
-        assert colour_at(figure, axes, 0.5, altitude) == NAMED[advice]
-    assert legend_of(axes) == {"climb": NAMED["climb"], "descend": NAMED["descend"]}
+        assert colour_at(figure, axes, 0.5, altitude) == COLOURS[advice]
+    assert legend_of(axes) == {"climb": COLOURS["climb"], "descend": COLOURS["descend"]}
+
+
+def test_title_of_a_cell_is_in_feet(model):
+    """The cell of the reported line: the places 0 0 0 of a second 0."""
+    title = "c.toml: 0 to 1 s to go, clear is present, under descend\naltitude -1000 to -170 ft, own rate 0 to 60, intruder's rate -60 to 0 ft/min"
+    assert title_of(model, read_line(REPORTED_LINE)) == title
+
+
+def test_title_and_size_that_are_given(model, table):
+    figure = draw_policy(model, table, slice_of(model, "clear", 0, 0), "what $2 and $3 cost")
+    assert figure.axes[0].get_title("left") == "what $2 and $3 cost"
+    resize(figure, (5, 3.5), 200)
+    figure.canvas.draw()
+    assert np.asarray(figure.canvas.buffer_rgba()).shape[:2] == (700, 1000)
+    with pytest.raises(Fault, match="words: size makes 80000 by 80000 points, over 100000000 in all"):
+        resize(figure, (40, 40), 2000)
 
 
 def test_policy_under_another_advisory(model, table):
@@ -197,8 +214,8 @@ def test_replay_by_hand(model, table):
     assert [own[times.index(second)] for second in (0, 2, 2.5, 3)] == [0, 0, -1, -4]
     times, intruder = line_of(axes, "intruder's path")
     assert [intruder[times.index(second)] for second in (0, 1, 2, 3)] == [-200, -200, -200.5, -201.5]
-    assert [colour_at(figure, strip, second + 0.5, 0.5) for second in range(4)] == [CLEAR, NAMED["descend"]] * 2
-    assert legend_of(strip) == {"clear": CLEAR, "descend": NAMED["descend"]}
+    assert [colour_at(figure, strip, second + 0.5, 0.5) for second in range(4)] == [CLEAR, COLOURS["descend"]] * 2
+    assert legend_of(strip) == {"clear": CLEAR, "descend": COLOURS["descend"]}
     assert (strip.get_xlabel(), axes.get_ylabel()) == ("time [s]", "altitude above the own at first [ft]")
     assert [axis.get_xlabel() for axis in axes.child_axes] == ["range [ft]"]
     assert axes.get_xlim() == (0, 4)
