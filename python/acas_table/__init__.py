@@ -1,17 +1,19 @@
 """Reads the files of `acas`, and what it prints, for numpy.
 
 `read_model` reads a model, `read_table` a table of it, `read_report` what `acas audit` prints, `read_line` one line of it or of `acas
-regions`, and `read_replay` what `acas replay` prints. `check_origin` looks at whether a text is of a model and a table. What is not as it has to be is a `Fault`, which names the field.
+regions`, and `read_replay` what `acas replay` prints. `read_report_of` and `read_replay_of` read the file of one, which has to be of a
+model and a table. What is not as it has to be is a `Fault`, which names the field.
 """
 from acas_table.fault import Fault
 from acas_table.flight import Flight, Segment
 from acas_table.model import Advisory, Model, SigmaPoint, read_model
-from acas_table.origin import check_origin
+from acas_table.origin import check_origin, read_replay_of, read_report_of
 from acas_table.replay import Replay, check_replay, read_replay
 from acas_table.report import BoxLine, CellLine, Report, numbered, read_line, read_report
 from acas_table.table import ENTRY, Header, Table, read_table
 
 __all__ = [
     "ENTRY", "Advisory", "BoxLine", "CellLine", "Fault", "Flight", "Header", "Model", "Replay", "Report", "Segment", "SigmaPoint",
-    "Table", "check_origin", "check_replay", "numbered", "read_line", "read_model", "read_replay", "read_report", "read_table",
+    "Table", "check_origin", "check_replay", "numbered", "read_line", "read_model", "read_replay", "read_replay_of",
+    "read_report", "read_report_of", "read_table",
 ]

@@ -1,10 +1,13 @@
 """Of which model and table a printed text is, by the file that `python/acas_run` writes beside it."""
 import os
+import warnings
 from pathlib import Path
 
 from acas_origin import Origin, beside, digest_of, origin_of
 from acas_table.fault import Fault
 from acas_table.model import Model
+from acas_table.replay import Replay, check_replay, read_replay
+from acas_table.report import Progress, Report, numbered, read_report
 from acas_table.table import Table
 
 
@@ -33,3 +36,28 @@ def _check(path: str | os.PathLike[str], origin: Origin, kind: str, found: str, 
     if said != found:
         words = " ".join(origin.words)
         raise Fault(str(path), f"other {kind}", f"{said or 'none'} found {found} of {source}: {beside(Path(path).name)} has it from acas {words}")
+
+
+def read_report_of(path: str | os.PathLike[str], model: Model, table: Table | None = None, progress: Progress | None = None) -> Report:
+    """The report of a file, which has to be one of this model, and of this table where one is given.
+
+    Its lines are looked at as by `numbered`, and what is written beside it as by `check_origin`: where nothing is, they are all that
+    tells, and a `UserWarning` says so.
+    """
+    _warn(path, check_origin(path, model, table))
+    report = read_report(Path(path).read_text(encoding="utf-8"), str(path), progress)
+    numbered(report, model)
+    return report
+
+
+def read_replay_of(path: str | os.PathLike[str], model: Model, table: Table) -> Replay:
+    """The replay of a file, which has to be one of this model and this table, as `read_report_of` reads a report."""
+    _warn(path, check_origin(path, model, table))
+    replay = read_replay(Path(path).read_text(encoding="utf-8"), str(path))
+    check_replay(replay, model, table)
+    return replay
+
+
+def _warn(path: str | os.PathLike[str], origin: Origin | None) -> None:
+    if origin is None:
+        warnings.warn(f"{path}: no {beside(Path(path).name)} says of which model and table it is", stacklevel=3)

@@ -4,13 +4,14 @@ import json
 import shutil
 import subprocess
 import sys
+import warnings
 from pathlib import Path
 
 import pytest
 from conftest import EXAMPLES, TOP
 
 from acas_origin import digest_of, origin_of
-from acas_table import Fault, check_origin, read_model, read_table
+from acas_table import Fault, check_origin, read_model, read_replay_of, read_report_of, read_table
 from test_command import CELLS, plot
 
 RUN = TOP / "python" / "acas_run"
@@ -147,3 +148,29 @@ def test_report_without_an_origin_is_drawn_and_it_is_said(acas, folder):
     assert (ended.returncode, ended.stderr) == (0, "acas_plot: out: no out.from says of which model and table it is: acas_run writes one\n")
     ended = plot("verdicts", "c.toml", "-", "p.png", *CELLS, given=report)
     assert (ended.returncode, ended.stderr) == (0, "acas_plot: input: nothing says of which model and table it is\n")
+
+
+def test_readers_of_files(acas, folder):
+    """Without the file beside it a report is read with a warning; with it, without one, and refused where it is of another model."""
+    model = read_model("c.toml")
+    table = read_table("c.acxt", model)
+    (folder / "out").write_text(acas.output("audit", folder / "c.toml", folder / "c.acxt"))
+    with pytest.warns(UserWarning, match="^out: no out.from says of which model and table it is$"):
+        assert read_report_of("out", model, table).reported == 1
+    run(acas, "out", *WORDS)
+    with warnings.catch_warnings():
+        warnings.simplefilter("error")
+        assert read_report_of("out", model, table).reported == read_report_of("out", model).reported == 1
+    with pytest.raises(Fault, match="^out: other model "):
+        read_report_of("out", read_model(dearer(folder)))
+
+
+def test_replay_of_a_file(acas, folder):
+    model = read_model("c.toml")
+    numbers = "".join(f"{key} = {value}\n" for key, value in (("range", 500), ("closing", 500), ("altitude", 101), ("own", 0), ("intruder", 0)))
+    (folder / "e.toml").write_text(f'version = 1\nadvisory = "clear"\n{numbers}own_accel = [0, 0]\nintruder_accel = [0, 0]\n')
+    run(acas, "out", "replay", "c.toml", "c.acxt", "e.toml")
+    assert len(read_replay_of("out", model, read_table("c.acxt", model)).seconds) == 2
+    acas.output("compile", folder / "c.toml", folder / "new.acxt")
+    with pytest.raises(Fault, match="^out: other table "):
+        read_replay_of("out", model, read_table("new.acxt", model))
