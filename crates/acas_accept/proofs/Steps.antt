@@ -15,8 +15,6 @@ use Rattle.acas_grid.specs.States.{state_present, state_vertex}
 use Rattle.acas_step.specs.Entries.{IsStateEntry}
 use Rattle.acas_step.specs.Layer.{AreValuesOf, no_pair}
 use Rattle.acas_step.specs.Means.{AreMeansOf}
-use Rattle.acas_step.specs.Stencils.{AreStencilsOf}
-use Rattle.acas_step.specs.declared.stencils.Stencils.{Stencils}
 use Rattle.acas_bounds.specs.Checks.{OfBelow, state_fault}
 use Rattle.acas_spec.specs.declared.fault.BoundFault.{BoundFault}
 use Rattle.acas_bounds.proofs.Faults.{OfBelow-map}
@@ -93,7 +91,6 @@ unsound_answered m digest t n state bytes entry fault check seconds inside withi
 -- what a check keeps of an entry, when its reader has gone on
 pub record Keeps (old : TableCheck) (r : TableReader) (new : TableCheck) (n state : ℕ) (entry : Entry) : Type 0 where
   pub reader : new.reader ≡ r
-  pub stencils : new.stencils ≡ old.stencils
   pub means : new.means ≡ old.means
   pub pairs : new.pairs.items ≡ set old.pairs.items state entry.pair
   pub advices : new.advices ≡ with_advice old.advices n state entry.advice
@@ -113,7 +110,6 @@ check_next m old r new n state entry check seconds inside on keeps allowed = rec
   given = ap (λ (x : TableReader). (reader_state x).given) keeps.reader ∙ on.given ∙ omega (arith, check.given);
   no_fault = ap (λ (x : TableReader). (reader_state x).fault) keeps.reader ∙ on.no_fault;
   not_done = ap (λ (x : TableReader). (reader_state x).done) keeps.reader ∙ on.not_done;
-  stencils = subst (λ (s : Stencils). AreStencilsOf m s) (sym keeps.stencils) check.stencils;
   pairs = ap length keeps.pairs ∙ length-set old.pairs.items state entry.pair ∙ check.pairs;
   means = ap (λ (v : Vec Pair Global). length v.items) keeps.means ∙ check.means;
   advices = subst (λ (a : AdvicesData). AreAdvicesOf m a) (sym keeps.advices) (AreAdvicesOf-with m old.advices n state entry.advice check.advices);

@@ -7,7 +7,6 @@ use Rattle.acas_process.specs.Cost.{MayChoose}
 use Rattle.acas_grid.specs.States.{state_present}
 use Rattle.acas_step.specs.Layer.{AreValuesOf, pair_at}
 use Rattle.acas_step.specs.Means.{AreMeansOf}
-use Rattle.acas_step.specs.Stencils.{AreStencilsOf}
 use Rattle.acas_bounds.specs.Checks.{OfBelow}
 use Rattle.acas_table.specs.Faults.{first_below}
 use Rattle.acas_table.specs.Reader.{HasRead, reader_state}
@@ -34,7 +33,6 @@ pub record IsCheckOf (m : ModelData) (t : TableCheck) (count : ℕ) : Type 0 whe
   pub given : (reader_state t.reader).given ≡ count
   pub no_fault : (reader_state t.reader).fault ≡ None
   pub not_done : (reader_state t.reader).done ≡ false
-  pub stencils : AreStencilsOf m t.stencils
   pub pairs : length t.pairs.items ≡ states m.grid
   pub means : length t.means.items ≡ states m.grid
   pub advices : AreAdvicesOf m t.advices

@@ -18,17 +18,15 @@ use crate::refusal::AcceptFault;
 use acas_base::{Advices, Model};
 use acas_bounds::{Plane, check_at};
 use acas_outside::Folder;
-use acas_step::{Stencils, fill_means_with};
+use acas_step::{LayerMeans, fill_means_with};
 use acas_table::{TableFault, TableReader, TableRefusal};
 use acas_units::{Entry, Pair};
 use std::alloc::{AllocError, Global};
 
-/// A table in check: its reader, the model's stencils, the values of the layer in work, the means of the layer below it, and the
-/// advices that were read.
+/// A table in check: its reader, the values of the layer in work, the means of the layer below it, and the advices that were read.
 #[derive(Drop)]
 pub struct TableCheck {
     reader: TableReader,
-    stencils: Stencils,
     pairs: Vec<Pair>,
     means: Vec<Pair>,
     advices: Advices,
@@ -88,7 +86,6 @@ impl TableCheck {
         let states = model.grid().states() as usize;
         Ok(TableCheck {
             reader,
-            stencils: Stencils::make(alloc, model)?,
             pairs: vec![in alloc; Pair { upper: 0, lower: 0 }; states]?,
             means: vec![in alloc; Pair { upper: 0, lower: 0 }; states]?,
             advices: Advices::new(alloc, model)?,
@@ -96,7 +93,8 @@ impl TableCheck {
     }
 
     // Makes the means of the layer below the one with n seconds to go, if there is one.
-    fn begin_layer(&mut self, model: &Model, n: u32)
+    fn begin_layer<M: LayerMeans>(&mut self, model: &Model, layer_means: &M, n: u32)
+        requires fits { M.fits layer_means.now model.now }
         requires n { n ≤ model.now.grid.horizon }
         requires check { IsCheckOf model.now self.old (n * states model.now.grid) }
         ensures check { IsCheckOf model.now self.new (n * states model.now.grid) }
@@ -105,7 +103,7 @@ impl TableCheck {
         ensures reader { self.new.reader ≡ self.old.reader }
     {
         if n > 0 {
-            fill_means_with(model, &self.stencils, &self.pairs, &mut self.means);
+            fill_means_with(model, layer_means, &self.pairs, &mut self.means);
         }
     }
 
@@ -116,7 +114,6 @@ impl TableCheck {
         requires state { state < self.old.advices.states }
         requires advice { 0 < n → entry.now.advice < self.old.advices.advisories }
         ensures reader { self.new.reader ≡ self.old.reader }
-        ensures stencils { self.new.stencils ≡ self.old.stencils }
         ensures means { self.new.means ≡ self.old.means }
         ensures pairs { self.new.pairs.items ≡ set self.old.pairs.items state entry.now.pair }
         ensures advices { self.new.advices ≡ with_advice self.old.advices n state entry.now.advice }
@@ -212,13 +209,15 @@ impl TableCheck {
     }
 
     // Reads and checks the layer with n seconds to go.
-    fn layer<F: Folder>(
+    fn layer<M: LayerMeans, F: Folder>(
         &mut self,
         model: &Model,
+        layer_means: &M,
         n: u32,
         folder: &mut F,
         name: &str,
     ) -> Result<(), AcceptFault>
+        requires fits { M.fits layer_means.now model.now }
         requires served { IsTrue (F.serves folder.old name.now) }
         requires n { n ≤ model.now.grid.horizon }
         requires check { IsCheckOf model.now self.old (n * states model.now.grid) }
@@ -234,20 +233,22 @@ impl TableCheck {
         ensures frame { OnlyReads F.Folder folder.old folder.new
             (IsErrOf result AcceptFault.Failed) (IsErrOf result AcceptFault.Absent) }
     {
-        self.begin_layer(model, n);
+        self.begin_layer(model, layer_means, n);
         for present in 0..model.grid().advisories as u8 {
             self.plane(model, n, present, folder, name)?;
         }
         Ok(())
     }
 
-    /// Reads and checks all entries.
-    pub fn layers<F: Folder>(
+    /// Reads and checks all entries, by what forms the model's means.
+    pub fn layers<M: LayerMeans, F: Folder>(
         &mut self,
         model: &Model,
+        layer_means: &M,
         folder: &mut F,
         name: &str,
     ) -> Result<(), AcceptFault>
+        requires fits { M.fits layer_means.now model.now }
         requires served { IsTrue (F.serves folder.old name.now) }
         requires check { IsCheckOf model.now self.old 0 }
         ensures given { (digest : List ℕ) → Told (F.holds folder.old) name.now (λ bytes.
@@ -263,7 +264,7 @@ impl TableCheck {
             (IsErrOf result AcceptFault.Failed) (IsErrOf result AcceptFault.Absent) }
     {
         for n in 0..model.grid().horizon + 1 {
-            self.layer(model, n, folder, name)?;
+            self.layer(model, layer_means, n, folder, name)?;
         }
         Ok(())
     }

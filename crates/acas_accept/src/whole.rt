@@ -13,15 +13,16 @@ use crate::check::TableCheck;
 use crate::refusal::AcceptFault;
 use acas_base::{Advices, Model};
 use acas_outside::Folder;
+use acas_step::LayerMeans;
 use std::alloc::Global;
 
 /// Reads and checks a whole table of a model, whose text has this digest. Each entry is looked at before the next is
-/// read: its bytes, its advice, and its soundness. It takes two layers, a byte for each advice and the reader's buffer,
-/// and gives the advices of the layers from 1 on.
+/// read: its bytes, its advice, and its soundness. It takes what forms the model's means, two layers, a byte for each advice and
+/// the reader's buffer, and gives the advices of the layers from 1 on.
 ///
 /// Over every folder, an accepted table is read once, and of no file is more read than one byte more than a table's
 /// length.
-pub fn accept<F: Folder>(
+pub fn accept<M: LayerMeans, F: Folder>(
     alloc: Global,
     model: &Model,
     digest: &[u8; 32],
@@ -42,6 +43,10 @@ pub fn accept<F: Folder>(
         (IsErrOf result AcceptFault.Failed) (IsErrOf result AcceptFault.Absent) }
 {
     let mut check = TableCheck::start(alloc, model, digest, folder, name)?;
-    check.layers(model, folder, name)?;
+    let layer_means = match M::make(alloc, model) {
+        Ok(made) => made,
+        Err(_) => return Err(AcceptFault::Memory),
+    };
+    check.layers(model, &layer_means, folder, name)?;
     check.finish(folder, name)
 }

@@ -19,7 +19,7 @@ use Rattle.acas_step.specs.Entries.{IsEntryOf}
 use Rattle.acas_step.specs.Layer.{AreValuesOf, layer_values}
 use Rattle.acas_step.specs.Means.{AreMeansOf}
 use Rattle.acas_step.specs.declared.layer.Side.TheVariants.{Lower, Upper}
-use Rattle.acas_step.proofs.LayerMeans.{lower_mean-is, upper_mean-is}
+use Rattle.acas_step.proofs.TableMeans.{lower_mean-is, upper_mean-is}
 use Rattle.acas_process.proofs.Least.{least-same}
 use Rattle.acas_step.proofs.NumberedStates.{layer_values-is}
 use Rattle.acas_bounds.specs.Checks.{OfBelow, AnswersFault}

@@ -16,7 +16,7 @@ use Rattle.acas_step.specs.Layer.{AreWithin, layer_values, pair_at, value_at}
 use Rattle.acas_step.specs.Means.{AreVertexMeans}
 use Rattle.acas_step.specs.declared.layer.Side.{Side}
 use Rattle.acas_step.specs.declared.layer.Side.TheVariants.{Upper, Lower}
-use Rattle.acas_step.proofs.LayerMeans.{means_bounded}
+use Rattle.acas_step.proofs.TableMeans.{means_bounded}
 use Rattle.acas_step.proofs.Written.{each_written}
 
 -- ---- by the means

@@ -18,10 +18,10 @@ use Rattle.acas_step.specs.declared.layer.Side.{Side}
 use Rattle.acas_step.specs.declared.raised.Raised.{Raised}
 use Rattle.acas_step.specs.declared.stencils.UnitCell.{UnitCell}
 use Rattle.acas_step.specs.declared.units.Units.{Units}
-use Rattle.acas_step.proofs.ColumnCells.{vertex_in-vertex_number}
+use Rattle.acas_step.proofs.ColumnVertices.{vertex_in-vertex_number}
 use Rattle.acas_step.proofs.RaisedLaws.{blended-le, raised-pos}
 use Rattle.acas_step.proofs.RaisedSums.{AreRaised, over_ends-raised}
-use Rattle.acas_step.proofs.UnitLaws.{interpolated_in}
+use Rattle.acas_step.proofs.UnitSums.{interpolated_in}
 
 -- ---- how large the blends are
 

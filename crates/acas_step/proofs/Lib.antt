@@ -2,6 +2,7 @@ pub mod Commands
 pub mod ChoiceLists
 pub mod CornerLaws
 pub mod ColumnLaws
+pub mod ColumnVertices
 pub mod ColumnCells
 pub mod ShareLaws
 pub mod Weights
@@ -11,7 +12,7 @@ pub mod SigmaSteps
 pub mod NumberedStates
 pub mod Written
 pub mod RaisedWritten
-pub mod LayerMeans
+pub mod TableMeans
 pub mod SharedMeans
 pub mod SourceMeans
 pub mod PlacedMeans
@@ -22,6 +23,7 @@ pub mod RaisedLaws
 pub mod RaisedSums
 pub mod RaisedMeans
 pub mod UnitLaws
+pub mod UnitSums
 pub mod ColumnPoints
 mod BestFrom
 pub mod BestEntries

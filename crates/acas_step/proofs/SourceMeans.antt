@@ -15,7 +15,7 @@ use Rattle.acas_step.specs.Narrow.{AreRaisedSums, point_sum, weights_below}
 use Rattle.acas_step.specs.Reach.{AreChanges, AreLikes, own_rate}
 use Rattle.acas_step.specs.declared.layer.Side.TheVariants.{Lower, Upper}
 use Rattle.acas_step.specs.declared.raised.Raised.{Raised}
-use Rattle.acas_step.proofs.ColumnCells.{vertex_at-vertex_in, vertex_in-lowest}
+use Rattle.acas_step.proofs.ColumnVertices.{vertex_at-vertex_in, vertex_in-lowest}
 use Rattle.acas_step.proofs.SharedMeans.{means_shared}
 
 -- the own rate is the same at all vertices of a column

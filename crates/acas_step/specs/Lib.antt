@@ -14,4 +14,5 @@ pub mod Reach
 pub mod Raised
 pub mod Narrow
 pub mod Columns
+pub mod ColumnSums
 pub mod Best

@@ -101,3 +101,8 @@ pub record IsKnownCell (g : GridData) (c : UnitCell) : Type 0 where
 pub record IsUnitCell (g : GridData) (u : Units) (s : Point) (c : UnitCell) : Type 0 where
   pub round : IsRoundIn g u s c.cell
   pub known : IsKnownCell g c
+
+-- on both rates, a cell holds a point, in units
+pub record HoldsRates (g : GridData) (u : Units) (s : Point) (t : Cell) : Type 0 where
+  pub v0 : IsEndsIn g.v0 u.v0 s.v0 t.v0
+  pub v1 : IsEndsIn g.v1 u.v1 s.v1 t.v1

@@ -6,13 +6,12 @@ ghost use Rattle.acas_spec.specs.Model.{states, vertices};
 ghost use Rattle.acas_grid.specs.States as numbers;
 ghost use Rattle.acas_process.specs.Bounds.{millionths};
 ghost use Rattle.acas_step.specs.Layer.{AreWithin, layer_values};
-ghost use Rattle.acas_step.specs.Stencils.{AreStencilsOf};
 ghost use Rattle.acas_step.specs.Values.{counted, value_with_cost};
 
 use crate::choices::with_cost;
 use crate::layer::Side;
-use crate::stencils::Stencils;
-use crate::values::{mean, mean_with};
+use crate::led_to::{CellSearch, LedTo};
+use crate::values::mean_by;
 use acas_base::Model;
 use acas_count::Counter;
 use acas_frac::Rounding;
@@ -69,6 +68,34 @@ pub(crate) fn values_of_choice(means: Pair, choice: &Choice, count: &mut Backups
     }
 }
 
+/// The value of a choice as `backup` gives it, by what gives the corners. It counts one backup for the upper side and none for the
+/// lower.
+pub(crate) fn backup_by<R: Rounding, L: LedTo>(
+    model: &Model,
+    led_to: &L,
+    vertex: u32,
+    choice: &Choice,
+    side: Side,
+    below: &[Pair],
+    count: &mut Backups,
+) -> i128
+    requires serves { L.serves led_to.now model.now }
+    requires vertex { vertex < vertices model.now.grid }
+    requires advisory { choice.now.advisory < model.now.grid.advisories }
+    requires below { length below.now ≡ states model.now.grid }
+    requires count { count.old + counted side < 2 ^ 64 }
+    ensures value { let x = numbers.vertex_at model.now.grid vertex in
+        result ≡ value_with_cost R.round model.now (layer_values side model.now.grid below.now) x choice.now }
+
+    // It is at most the cost of the choice larger than the largest value below.
+    ensures bounded { (most : ℕ) → AreWithin most side below.now
+        → unsigned_abs result ≤ most + 1_000_000 * unsigned_abs choice.now.cost }
+    ensures count { count.new ≡ count.old + counted side }
+{
+    let mean = mean_by::<R, L>(model, led_to, vertex, choice.advisory, side, below);
+    value_of_choice(mean, choice, side, count)
+}
+
 /// The value of a choice at a vertex by the layer below, in millionths, whose pairs stand in the order of the states' numbers.
 /// It counts one backup for the upper side and none for the lower.
 pub fn backup<R: Rounding>(
@@ -91,35 +118,5 @@ pub fn backup<R: Rounding>(
         → unsigned_abs result ≤ most + 1_000_000 * unsigned_abs choice.now.cost }
     ensures count { count.new ≡ count.old + counted side }
 {
-    let mean = mean::<R>(model, vertex, choice.advisory, side, below);
-    value_of_choice(mean, choice, side, count)
-}
-
-/// The value of a choice as `backup` gives it, by the stencils of the model. It counts one backup for the upper side and none for
-/// the lower.
-pub fn backup_with<R: Rounding>(
-    model: &Model,
-    stencils: &Stencils,
-    vertex: u32,
-    choice: &Choice,
-    side: Side,
-    below: &[Pair],
-    count: &mut Backups,
-) -> i128
-    requires stencils { AreStencilsOf model.now stencils.now }
-    requires horizon { 0 < model.now.grid.horizon }
-    requires vertex { vertex < vertices model.now.grid }
-    requires advisory { choice.now.advisory < model.now.grid.advisories }
-    requires below { length below.now ≡ states model.now.grid }
-    requires count { count.old + counted side < 2 ^ 64 }
-    ensures value { let x = numbers.vertex_at model.now.grid vertex in
-        result ≡ value_with_cost R.round model.now (layer_values side model.now.grid below.now) x choice.now }
-
-    // It is at most the cost of the choice larger than the largest value below.
-    ensures bounded { (most : ℕ) → AreWithin most side below.now
-        → unsigned_abs result ≤ most + 1_000_000 * unsigned_abs choice.now.cost }
-    ensures count { count.new ≡ count.old + counted side }
-{
-    let mean = mean_with::<R>(model, stencils, vertex, choice.advisory, side, below);
-    value_of_choice(mean, choice, side, count)
+    backup_by::<R, CellSearch>(model, &CellSearch, vertex, choice, side, below, count)
 }

@@ -5,7 +5,9 @@ ghost use Rattle.std.specs.Prelude.{◌≡◌, ℕ, ◌+◌, ◌*◌, ◌^◌, �
 ghost use Rattle.acas_spec.specs.Model.{states, total_weight, vertices};
 ghost use Rattle.acas_grid.specs.States as numbers;
 ghost use Rattle.acas_process.specs.Step as process;
-ghost use Rattle.acas_step.specs.Columns.{AreBlends, AreBlendsWithin, AreColumnSums, AreSumsWithin, HoldsRates, columns};
+ghost use Rattle.acas_step.specs.Columns.{columns};
+ghost use Rattle.acas_step.specs.ColumnSums.{AreBlends, AreBlendsWithin, AreColumnSums, AreSumsWithin};
+ghost use Rattle.acas_step.specs.Units.{HoldsRates};
 ghost use Rattle.acas_step.specs.Ends.{FitsGrid};
 ghost use Rattle.acas_step.specs.Layer.{AreWithin};
 ghost use Rattle.acas_step.specs.Narrow.{IsRaisedPoint};

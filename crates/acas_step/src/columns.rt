@@ -2,7 +2,8 @@
 //! advisories lead to the same means from a column they are formed once.
 ghost use Rattle.std.specs.Prelude.{◌≡◌, ◌≢◌, ℕ, ◌+◌, ◌<◌, ◌≤◌, length, unsigned_abs};
 ghost use Rattle.acas_spec.specs.Model.{states};
-ghost use Rattle.acas_step.specs.Columns.{AreAllWithin, AreColumnChanges, AreColumnMeans, AreMeansIn, IsSource, columns, pairs_at};
+ghost use Rattle.acas_step.specs.Columns.{AreAllWithin, AreColumnChanges, AreColumnMeans, AreMeansIn, columns, pairs_at};
+ghost use Rattle.acas_step.specs.ColumnSums.{IsSource};
 ghost use Rattle.acas_step.specs.Layer.{AreWithin, pair_at, value_of};
 ghost use Rattle.acas_step.specs.Reach.{IsReach};
 ghost use Rattle.acas_step.specs.Stencils.{AreStencilsOf};
@@ -11,20 +12,19 @@ ghost use Rattle.acas_step.specs.declared.layer.Side.{Side};
 use crate::column_sums::fill_sums;
 use crate::grid_columns::vertex_in_column;
 use crate::layer::Side;
-use crate::means::{VertexMeans, advisory_count};
+use crate::layer_means::LayerMeans;
+use crate::means::{ColumnMeans, VertexMeans, advisory_count};
 use crate::narrow_means::means_of_sums;
 use crate::raised::{Raised, SideColumn};
 use crate::reach::Reach;
 use crate::second::own_rate_at;
 use crate::sharing::{Changes, changes_from, first_twin};
+use crate::stencil_values::mean_with;
 use crate::stencils::Stencils;
-use crate::values::mean_with;
 use acas_base::Model;
 use acas_frac::{Down, Up};
 use acas_units::{GREATEST_ADVISORIES, GREATEST_VERTICES, Pair};
-
-/// Both means at the vertices of a column, by the place of the altitude.
-pub type ColumnMeans = [VertexMeans; GREATEST_VERTICES as usize];
+use std::alloc::{AllocError, Global};
 
 // What the means of a column under an advisory are taken from.
 #[derive(Clone, Copy)]
@@ -241,5 +241,24 @@ pub fn fill_column(
             model, stencils, reach, column, &changes, advisory, source, below, &uppers, &lowers,
             means,
         );
+    }
+}
+
+impl LayerMeans for Stencils {
+    ghost fits = { λ stencils m. AreStencilsOf m stencils };
+
+    fn make(alloc: Global, model: &Model) -> Result<Stencils, AllocError> {
+        Stencils::make(alloc, model)
+    }
+
+    fn fill_column(
+        &self,
+        model: &Model,
+        reach: Reach,
+        column: u32,
+        below: &[Pair],
+        means: &mut ColumnMeans,
+    ) {
+        fill_column(model, self, reach, column, below, means);
     }
 }

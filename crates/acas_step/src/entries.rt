@@ -7,15 +7,13 @@ ghost use Rattle.acas_step.specs.Choices.{choice_count};
 ghost use Rattle.acas_step.specs.Columns.{columns};
 ghost use Rattle.acas_step.specs.Layer.{AreWithin};
 ghost use Rattle.acas_step.specs.Reach.{IsReach};
-ghost use Rattle.acas_step.specs.Stencils.{AreStencilsOf};
 ghost use Rattle.acas_step.specs.declared.layer.Side.{Side};
 
 use crate::backups::Backups;
 use crate::best::best_choice;
-use crate::columns::{ColumnMeans, fill_column};
-use crate::means::{VertexMeans, advisory_count, means_at};
+use crate::layer_means::LayerMeans;
+use crate::means::{ColumnMeans, VertexMeans, advisory_count, means_at};
 use crate::reach::Reach;
-use crate::stencils::Stencils;
 use acas_base::Model;
 use acas_units::{Entry, GREATEST_ADVISORIES, GREATEST_VERTICES, Pair};
 
@@ -64,12 +62,12 @@ pub fn entries_at(model: &Model, vertex: u32, below: &[Pair], count: &mut Backup
     entries
 }
 
-/// Writes the best entries at the vertices of a column over the layer below, and the means that they are formed of, by the model's
-/// stencils and the layer's reach. The entries are those of `entries_at`. It counts a backup for each vertex and choice, and takes no
-/// memory.
-pub fn fill_entries(
+/// Writes the best entries at the vertices of a column over the layer below, and the means that they are formed of, by what forms the
+/// model's means and the layer's reach. The entries are those of `entries_at`. It counts a backup for each vertex and choice, and takes
+/// no memory.
+pub fn fill_entries<M: LayerMeans>(
     model: &Model,
-    stencils: &Stencils,
+    layer_means: &M,
     reach: Reach,
     column: u32,
     below: &[Pair],
@@ -77,7 +75,7 @@ pub fn fill_entries(
     entries: &mut ColumnEntries,
     count: &mut Backups,
 )
-    requires stencils { AreStencilsOf model.now stencils.now }
+    requires fits { M.fits layer_means.now model.now }
     requires horizon { 0 < model.now.grid.horizon }
     requires reach { IsReach model.now.grid below.now reach }
     requires column { column < columns model.now.grid }
@@ -88,7 +86,7 @@ pub fn fill_entries(
     ensures count { count.new ≡ count.old + length model.now.grid.h * choice_count model.now }
 {
     let grid = model.grid();
-    fill_column(model, stencils, reach, column, below, means);
+    layer_means.fill_column(model, reach, column, below, means);
     for i in 0..grid.h.len() {
         fill_best(model, &means[i as usize], &mut entries[i as usize], count);
     }

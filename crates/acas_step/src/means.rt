@@ -13,10 +13,13 @@ use crate::values::mean;
 use acas_base::Model;
 use acas_frac::{Down, Up};
 use acas_grid::state_present;
-use acas_units::{GREATEST_ADVISORIES, Pair};
+use acas_units::{GREATEST_ADVISORIES, GREATEST_VERTICES, Pair};
 
 /// Both means at a vertex, under each advisory by its number.
 pub type VertexMeans = [Pair; GREATEST_ADVISORIES as usize];
+
+/// Those at the vertices of a column, by the place of the altitude.
+pub type ColumnMeans = [VertexMeans; GREATEST_VERTICES as usize];
 
 // Both means at a vertex under an advisory.
 fn mean_pair(model: &Model, vertex: u32, advisory: u8, below: &[Pair]) -> Pair

@@ -6,11 +6,10 @@ ghost use Rattle.acas_spec.specs.declared.place.Point.{Point};
 ghost use Rattle.acas_grid.specs.Grid.{IsInside};
 ghost use Rattle.acas_grid.specs.States as numbers;
 ghost use Rattle.acas_process.specs.Step as process;
-ghost use Rattle.acas_step.specs.Columns.{HoldsRates};
 ghost use Rattle.acas_step.specs.Corners.{AreCorners, IsInterpolation, IsWeighting};
 ghost use Rattle.acas_step.specs.Ends.{FitsGrid, IsEnds, IsRound};
 ghost use Rattle.acas_step.specs.Stencils.{AreStencils, AreStencilsOf, IsAbove, IsStencil, point_of, stencil_count};
-ghost use Rattle.acas_step.specs.Units.{AreUnits, DivideGaps, DivideOffsets, DivideUnits, IsCountedIn, IsUnitCell, IsVertexCell};
+ghost use Rattle.acas_step.specs.Units.{AreUnits, DivideGaps, DivideOffsets, DivideUnits, HoldsRates, IsCountedIn, IsUnitCell, IsVertexCell};
 ghost use Rattle.acas_step.specs.declared.stencils.Stencil.{Stencil};
 
 use crate::cell::{Cell, CornerSet, Ends, cell_near, corner_set};

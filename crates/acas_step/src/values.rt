@@ -1,5 +1,5 @@
 //! The mean of a layer's values over the points to which a second leads.
-ghost use Rattle.std.specs.Prelude.{◌≡◌, ℕ, ◌+◌, ◌*◌, ◌<◌, ◌≤◌, pos, ◌≤ℤ◌, length, unsigned_abs, IfSome};
+ghost use Rattle.std.specs.Prelude.{◌≡◌, ℕ, ◌+◌, ◌*◌, ◌<◌, ◌≤◌, pos, ◌≤ℤ◌, length, unsigned_abs};
 ghost use Rattle.acas_spec.specs.Limits.{IsModel};
 ghost use Rattle.acas_spec.specs.Model.{states, total_weight, vertices};
 ghost use Rattle.acas_spec.specs.declared.place.Point.{Point};
@@ -8,12 +8,10 @@ ghost use Rattle.acas_process.specs.Bounds.{interpolated, mean_value};
 ghost use Rattle.acas_process.specs.Step as process;
 ghost use Rattle.acas_step.specs.Corners.{IsInterpolation, IsWeighting};
 ghost use Rattle.acas_step.specs.Layer.{AreWithin, layer_values};
-ghost use Rattle.acas_step.specs.Stencils.{AreStencilsOf, AreUsable};
 
-use crate::cell::{CornerSet, corners};
+use crate::cell::CornerSet;
 use crate::layer::{Side, weighted, weighted_sum};
-use crate::second::moved;
-use crate::stencils::Stencils;
+use crate::led_to::{CellSearch, LedTo};
 use acas_base::Model;
 use acas_frac::Rounding;
 use acas_grid::Grid;
@@ -26,30 +24,6 @@ pub(crate) fn first_state(grid: &Grid, advisory: u8) -> usize
     ensures room { result + vertices grid.now ≤ states grid.now }
 {
     usize::from(advisory) * grid.vertices() as usize
-}
-
-// The corners of the cell to which a sigma point leads from a vertex within a second under an advisory, by stencils where there are
-// some.
-fn corners_led_to(
-    model: &Model,
-    stencils: Option<&Stencils>,
-    vertex: u32,
-    advisory: u8,
-    sigma: u32,
-) -> CornerSet
-    requires stencils { IfSome stencils (λ s. AreUsable model.now s.now) }
-    requires vertex { vertex < vertices model.now.grid }
-    requires advisory { advisory < model.now.grid.advisories }
-    requires sigma { sigma < length model.now.sigmas }
-    ensures sums { let x = numbers.vertex_at model.now.grid vertex in
-        let s = process.moved model.now x advisory sigma in
-        IsInterpolation model.now.grid s result.corners result.total }
-    ensures weights { IsWeighting model.now.grid result.corners result.total }
-{
-    match stencils {
-        Some(stencils) => stencils.corners(model, vertex, advisory, sigma),
-        None => corners(model, moved(model, vertex, advisory, sigma)),
-    }
 }
 
 // The values of the layer below under an advisory, interpolated by the corners of a point's cell and rounded.
@@ -97,16 +71,16 @@ pub(crate) fn total_weight(model: &Model) -> i128
     i128::from(model.total_weight())
 }
 
-// The mean of a layer's values over the points to which the sigma points lead, by stencils where there are some.
-fn mean_by<R: Rounding>(
+/// The mean as `mean` gives it, by what gives the corners.
+pub(crate) fn mean_by<R: Rounding, L: LedTo>(
     model: &Model,
-    stencils: Option<&Stencils>,
+    led_to: &L,
     vertex: u32,
     advisory: u8,
     side: Side,
     below: &[Pair],
 ) -> i64
-    requires stencils { IfSome stencils (λ s. AreUsable model.now s.now) }
+    requires serves { L.serves led_to.now model.now }
     requires vertex { vertex < vertices model.now.grid }
     requires advisory { advisory < model.now.grid.advisories }
     requires below { length below.now ≡ states model.now.grid }
@@ -116,7 +90,7 @@ fn mean_by<R: Rounding>(
 {
     let mut sum: i128 = 0;
     for sigma in 0..sigma_count(model) {
-        let set = corners_led_to(model, stencils, vertex, advisory, sigma);
+        let set = led_to.corners_led_to(model, vertex, advisory, sigma);
         let value = interpolated::<R>(model, &set, advisory, side, below);
         sum += weighted(sigma_weight(model, sigma), value);
     }
@@ -141,26 +115,5 @@ pub fn mean<R: Rounding>(
     // No mean is larger than the largest value.
     ensures bounded { (most : ℕ) → AreWithin most side below.now → unsigned_abs result ≤ most }
 {
-    mean_by::<R>(model, None, vertex, advisory, side, below)
-}
-
-/// The mean as `mean` gives it, by the stencils of the model.
-pub(crate) fn mean_with<R: Rounding>(
-    model: &Model,
-    stencils: &Stencils,
-    vertex: u32,
-    advisory: u8,
-    side: Side,
-    below: &[Pair],
-) -> i64
-    requires stencils { AreStencilsOf model.now stencils.now }
-    requires horizon { 0 < model.now.grid.horizon }
-    requires vertex { vertex < vertices model.now.grid }
-    requires advisory { advisory < model.now.grid.advisories }
-    requires below { length below.now ≡ states model.now.grid }
-    ensures value { let x = numbers.vertex_at model.now.grid vertex in
-        result ≡ mean_value R.round model.now (layer_values side model.now.grid below.now) x advisory }
-    ensures bounded { (most : ℕ) → AreWithin most side below.now → unsigned_abs result ≤ most }
-{
-    mean_by::<R>(model, Some(stencils), vertex, advisory, side, below)
+    mean_by::<R, CellSearch>(model, &CellSearch, vertex, advisory, side, below)
 }

@@ -6,7 +6,6 @@ ghost use Rattle.acas_process.specs.Compiled.{compiled};
 ghost use Rattle.acas_step.specs.Best.{AreColumnEntries};
 ghost use Rattle.acas_step.specs.Columns.{columns};
 ghost use Rattle.acas_step.specs.Entries.{IsStateEntry};
-ghost use Rattle.acas_step.specs.Stencils.{AreStencilsOf};
 ghost use Rattle.acas_sweep.specs.Entries.{AreOver, AreWritten, IsWhole, SameElsewhere, listed_entry};
 ghost use Rattle.acas_sweep.specs.Filled.{AreEndings, IsFilledTo, pairs_in};
 ghost use Rattle.acas_sweep.specs.Layers.{layer_backups};
@@ -17,7 +16,7 @@ use crate::order::vertex_after;
 use acas_base::Model;
 use acas_plane::PlaneBlock;
 use acas_step::{
-    Backups, ColumnEntries, ColumnMeans, Stencils, VertexEntries, column_count, fill_entries,
+    Backups, ColumnEntries, ColumnMeans, LayerMeans, VertexEntries, column_count, fill_entries,
     reach_of, vertex_in_column,
 };
 
@@ -105,16 +104,16 @@ fn put_column(
 }
 
 /// Writes a layer over the finished one, by room for the means and the entries of a column. It takes no memory.
-pub(crate) fn put_over(
+pub(crate) fn put_over<M: LayerMeans>(
     model: &Model,
-    stencils: &Stencils,
+    layer_means: &M,
     block: &mut PlaneBlock,
     advice: &mut [u8],
     means: &mut ColumnMeans,
     entries: &mut ColumnEntries,
     count: &mut Backups,
 )
-    requires stencils { AreStencilsOf model.now stencils.now }
+    requires fits { M.fits layer_means.now model.now }
     requires horizon { 0 < model.now.grid.horizon }
     requires below { IsWhole model.now block.old.finished }
     requires filled { IsFilledTo model.now.grid 0 0 block.old }
@@ -128,7 +127,7 @@ pub(crate) fn put_over(
     for column in 0..column_count(model.grid()) {
         fill_entries(
             model,
-            stencils,
+            layer_means,
             reach,
             column,
             block.finished(),

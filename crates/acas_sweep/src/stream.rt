@@ -3,7 +3,6 @@ ghost use Rattle.std.specs.Prelude.{◌≡◌, ◌+◌, ◌<◌, ◌≤◌, ◌^
 ghost use Rattle.acas_spec.specs.Model.{entries, states};
 ghost use Rattle.acas_outside.specs.Counts.{Rose};
 ghost use Rattle.acas_plane.specs.Plane.{fresh, missing_in};
-ghost use Rattle.acas_step.specs.Stencils.{AreStencilsOf};
 ghost use Rattle.acas_sweep.specs.Filled.{pairs_in};
 ghost use Rattle.acas_sweep.specs.Handed.{AddsBelow, CutBelow, compiled_layer, plane_layer};
 ghost use Rattle.acas_sweep.specs.Layers.{backup_count};
@@ -12,7 +11,7 @@ use crate::plane::{put_first, put_over};
 use crate::sink::{LayerFailed, LayerSink};
 use acas_base::Model;
 use acas_plane::{PlaneBlock, Turned};
-use acas_step::{Backups, ColumnEntries, ColumnMeans, Stencils};
+use acas_step::{Backups, ColumnEntries, ColumnMeans, LayerMeans};
 use acas_units::{Entry, GREATEST_ADVISORIES, GREATEST_VERTICES, Pair};
 
 /// Why a sweep ended before its last layer.
@@ -50,20 +49,20 @@ fn hand_on<S: LayerSink>(
     rows.layer(n, block.finished(), advice)
 }
 
-/// Hands all layers of the compiled table of a model to a sink, from no second to go up to the horizon. The stencils are to be those
-/// of the model, the block is to have the model's states and nothing in it yet, and `advice` has a byte for each state. It takes no
+/// Hands all layers of the compiled table of a model to a sink, from no second to go up to the horizon. What forms the means is to be
+/// made of the model, the block is to have the model's states and nothing in it yet, and `advice` has a byte for each state. It takes no
 /// memory. It counts a backup for each state above layer 0 and each of its choices, and turns the block once for each layer. Where it
 /// fails, the sink has taken the layers below some number, and the layer of that number in part.
-pub fn sweep<S: LayerSink>(
+pub fn sweep<M: LayerMeans, S: LayerSink>(
     model: &Model,
-    stencils: &Stencils,
+    layer_means: &M,
     block: &mut PlaneBlock,
     advice: &mut [u8],
     rows: &mut S,
     count: &mut Backups,
     turned: &mut Turned,
 ) -> Result<(), SweepFault>
-    requires stencils { AreStencilsOf model.now stencils.now }
+    requires fits { M.fits layer_means.now model.now }
     requires block { block.old ≡ fresh (states model.now.grid) }
     requires advice { length advice.old ≡ states model.now.grid }
     requires width { S.width rows.old ≡ states model.now.grid }
@@ -97,7 +96,7 @@ pub fn sweep<S: LayerSink>(
     for n in 0..model.grid().horizon {
         put_over(
             model,
-            stencils,
+            layer_means,
             block,
             advice,
             &mut means,

@@ -2,7 +2,8 @@ use Rattle.std.proofs.Common.{◌≡◌, ℕ, ◌+◌, ◌*◌, ◌<◌, ◌≤�
 use Rattle.acas_spec.specs.Model.{states, vertices}
 use Rattle.acas_grid.specs.States.{vertex_at}
 use Rattle.acas_units.specs.declared.pair.Pair.{Pair}
-use Rattle.acas_step.specs.Columns.{AreBlends, AreColumnSums, vertex_in}
+use Rattle.acas_step.specs.Columns.{vertex_in}
+use Rattle.acas_step.specs.ColumnSums.{AreBlends, AreColumnSums}
 use Rattle.acas_step.specs.Layer.{AreWithin}
 use Rattle.acas_step.specs.Narrow.{AreRaisedSums, weights_below}
 use Rattle.acas_step.specs.Raised.{AreRaisedWithin, raised_in}

@@ -2,9 +2,12 @@ use Rattle.std.proofs.Common.{◌≡◌, ℕ, ◌+◌, ◌*◌, ◌<◌, ◌≤�
 use Rattle.acas_spec.specs.Model.{GridData, vertices}
 use Rattle.acas_grid.specs.States.{vertex_at}
 use Rattle.acas_process.specs.Step.{moved}
-use Rattle.acas_step.specs.Columns.{AreBlends, HoldsRates, vertex_in}
+use Rattle.acas_step.specs.Columns.{vertex_in}
+use Rattle.acas_step.specs.ColumnSums.{AreBlends}
+use Rattle.acas_step.specs.Units.{HoldsRates}
 use Rattle.acas_step.specs.Ends.{weight_of_cell}
-use Rattle.acas_step.proofs.ColumnCells.{unit_cell-HoldsRates, vertex_in-lowest}
+use Rattle.acas_step.proofs.ColumnCells.{unit_cell-HoldsRates}
+use Rattle.acas_step.proofs.ColumnVertices.{vertex_in-lowest}
 use Rattle.acas_step.proofs.RaisedSums.{has_room}
 use Rattle.acas_step.proofs.column_sums.fill_sums.Goals as goal
 

@@ -1,4 +1,4 @@
-use Rattle.acas_step.specs.Columns.{AreColumnSums}
+use Rattle.acas_step.specs.ColumnSums.{AreColumnSums}
 use Rattle.acas_step.proofs.column_sums.fill_sums.Given as goal
 
 abbrev pub invariant-loop-sigma : goal.invariant-loop-sigma

@@ -1,13 +1,14 @@
 use Rattle.std.proofs.Common.{ℕ, subst, sym, arith}
 use Rattle.acas_grid.specs.States.{vertex_at}
 use Rattle.acas_units.specs.declared.pair.Pair.{Pair}
-use Rattle.acas_step.specs.Columns.{IsSource, vertex_in}
+use Rattle.acas_step.specs.Columns.{vertex_in}
+use Rattle.acas_step.specs.ColumnSums.{IsSource}
 use Rattle.acas_step.specs.Layer.{pair_at}
 use Rattle.acas_step.specs.Means.{AreMeansAt}
 use Rattle.acas_step.specs.Raised.{raised_in}
 use Rattle.acas_step.specs.declared.columns.Source.{Source}
 use Rattle.acas_step.specs.declared.columns.Source.TheVariants.{Twin, Sums}
-use Rattle.acas_step.proofs.LayerMeans.{means_bounded}
+use Rattle.acas_step.proofs.TableMeans.{means_bounded}
 use Rattle.acas_step.proofs.SourceMeans.{means_of_all, means_of_twin}
 use Rattle.acas_step.proofs.columns.mean_pair_from.Goals as goal
 

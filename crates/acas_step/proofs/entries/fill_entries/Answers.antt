@@ -12,20 +12,20 @@ use Rattle.acas_step.proofs.Written.{each_written}
 use Rattle.acas_step.proofs.entries.fill_entries.Goals as goal
 
 pub fill_best-requires-clause-means : goal.fill_best-requires-clause-means
-fill_best-requires-clause-means c =
+fill_best-requires-clause-means g c =
     let m = c.args.model.now in
     let i = c.loop-i.i in
     let here : i < length m.grid.h = omega (arith, c.loop-i-test.true, c.len-i-end.ensures.value, ap (λ (g : GridData). length g.h) (c.grid.view_is ∙ c.grid-grid.ensures.value)) in
     leave_room m c.args.below.now (vertex_at m.grid (vertex_in m.grid c.args.column i)) (pairs_at c.fill_column.new.means i) c.grid-grid.ensures.valid c.requires.below (c.fill_column.ensures.means.each i here) c.requires.small
 
 pub fill_best-requires-clause-count : goal.fill_best-requires-clause-count
-fill_best-requires-clause-count c =
+fill_best-requires-clause-count g c =
     let m = c.args.model.now in
     let here : c.loop-i.i + 1 ≤ length m.grid.h = omega (arith, c.loop-i-test.true, c.len-i-end.ensures.value, ap (λ (g : GridData). length g.h) (c.grid.view_is ∙ c.grid-grid.ensures.value)) in
     omega (arith, c.loop-i.invariant.counted, c.requires.count, mul-le-mul_right (choice_count m) here)
 
 pub loop-i-preserved : goal.loop-i-preserved
-loop-i-preserved c =
+loop-i-preserved g c =
     let m = c.args.model.now in
     let below = c.args.below.now in
     let i = c.loop-i.i in

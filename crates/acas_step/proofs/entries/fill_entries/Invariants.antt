@@ -6,7 +6,7 @@ use Rattle.acas_step.specs.Columns.{vertex_in}
 use Rattle.acas_step.proofs.entries.fill_entries.Given as goal
 
 abbrev pub invariant-loop-i : goal.invariant-loop-i
-invariant-loop-i l = record {
+invariant-loop-i g l = record {
   long : length l.entries ≡ 129;
   entries : (i : ℕ) → i < l.i → AreVertexEntries l.model l.below (vertex_at l.model.grid (vertex_in l.model.grid l.column i)) (entries_in l.entries i);
   counted : l.count ≡ l.initial.count + l.i * choice_count l.model;

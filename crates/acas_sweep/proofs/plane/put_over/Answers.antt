@@ -11,7 +11,7 @@ use Rattle.acas_sweep.proofs.Over.{small_within}
 use Rattle.acas_sweep.proofs.plane.put_over.Goals as goal
 
 pub loop-column-init : goal.loop-column-init
-loop-column-init c =
+loop-column-init g c =
     let start : 0 ≡ 0 * length c.args.model.now.grid.h = omega arith in
     record {
       over = record { entry = λ s inside before. absurd (omega (arith, before)) };
@@ -21,19 +21,19 @@ loop-column-init c =
     }
 
 pub fill_entries-requires-clause-small : goal.fill_entries-requires-clause-small
-fill_entries-requires-clause-small c =
+fill_entries-requires-clause-small g c =
     let below : c.finished-in-loop-column.result.now ≡ c.args.block.now.finished = c.finished-in-loop-column.ensures ∙ c.loop-column.invariant.finished in
     small_within c.finished-in-loop-column.result.now (subst (λ (l : List Pair). AreSmall l) (sym below) c.requires.below.small)
 
 pub fill_entries-requires-clause-count : goal.fill_entries-requires-clause-count
-fill_entries-requires-clause-count c =
+fill_entries-requires-clause-count g c =
     let m = c.args.model.now in
     let here : c.loop-column.column + 1 ≤ columns m.grid = omega (arith, c.loop-column-test.true, c.column_count-column-end.ensures, ap (λ (g : GridData). columns g) c.grid.ensures.value) in
     let turns : (c.loop-column.column + 1) * length m.grid.h ≤ vertices m.grid = omega (arith, all_columns m.grid, mul-le-mul_right (length m.grid.h) here) in
     omega (arith, c.loop-column.invariant.counted, c.requires.count, mul-le-mul_right (choice_count m) turns)
 
 pub loop-column-preserved : goal.loop-column-preserved
-loop-column-preserved c =
+loop-column-preserved g c =
     let m = c.args.model.now in
     let so_far = c.loop-column.invariant in
     record {

@@ -15,10 +15,10 @@ items-with : (v : Vec Pair Global) (pairs : List Pair) → length pairs ≡ leng
 items-with v pairs long = take_at pairs (drop (length pairs) v.items) v.len (omega (arith, long, v.ok.0))
 
 pub returns-then-n-gt0-clause-given : goal.returns-then-n-gt0-clause-given
-returns-then-n-gt0-clause-given c = λ digest bytes before.
+returns-then-n-gt0-clause-given g c = λ digest bytes before.
     let m = c.args.model.now in
     let new : TableCheck =
-    record { reader = c.args.self.now.reader; stencils = c.args.self.now.stencils; pairs = c.args.self.now.pairs; means = with_items c.args.self.now.means c.fill_means_with.new.means; advices = c.args.self.now.advices } in
+    record { reader = c.args.self.now.reader; pairs = c.args.self.now.pairs; means = with_items c.args.self.now.means c.fill_means_with.new.means; advices = c.args.self.now.advices } in
     let items : (with_items c.args.self.now.means c.fill_means_with.new.means).items ≡ c.fill_means_with.new.means =
     items-with c.args.self.now.means c.fill_means_with.new.means (c.fill_means_with.ensures.count ∙ sym c.requires.check.means) in
     let means : (t : Table) (k : ℕ) → AreValuesOf c.args.model.now t k c.args.self.now.pairs.items → AreMeansOf c.args.model.now t k c.fill_means_with.new.means =

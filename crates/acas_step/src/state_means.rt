@@ -1,4 +1,4 @@
-//! Both means of a layer at all states, by the stencils of a model.
+//! Both means of a layer at all states, by what forms the means of a model.
 ghost use Rattle.std.specs.Prelude.{◌≡◌, ◌≢◌, ℕ, ◌%◌, ◌<◌, length};
 ghost use Rattle.acas_spec.specs.Model.{states, vertices};
 ghost use Rattle.acas_spec.specs.Table.{Table};
@@ -6,13 +6,11 @@ ghost use Rattle.acas_grid.specs.Grid.{state_number};
 ghost use Rattle.acas_step.specs.Columns.{columns, pairs_at, vertex_in};
 ghost use Rattle.acas_step.specs.Layer.{AreValuesOf, pair_at};
 ghost use Rattle.acas_step.specs.Means.{AreMeansOf};
-ghost use Rattle.acas_step.specs.Stencils.{AreStencilsOf};
 
-use crate::columns::{ColumnMeans, fill_column};
 use crate::grid_columns::{column_count, vertex_in_column};
-use crate::means::{VertexMeans, advisory_count};
+use crate::layer_means::LayerMeans;
+use crate::means::{ColumnMeans, VertexMeans, advisory_count};
 use crate::reach::reach_of;
-use crate::stencils::Stencils;
 use acas_base::Model;
 use acas_units::{GREATEST_ADVISORIES, GREATEST_VERTICES, Pair};
 
@@ -51,9 +49,14 @@ fn put_column(model: &Model, column: u32, column_means: &ColumnMeans, means: &mu
     }
 }
 
-/// Writes what `fill_means` does, by the model's stencils. It takes no memory.
-pub fn fill_means_with(model: &Model, stencils: &Stencils, below: &[Pair], means: &mut [Pair])
-    requires stencils { AreStencilsOf model.now stencils.now }
+/// Writes what `fill_means` does, by what forms the model's means. It takes no memory.
+pub fn fill_means_with<M: LayerMeans>(
+    model: &Model,
+    layer_means: &M,
+    below: &[Pair],
+    means: &mut [Pair],
+)
+    requires fits { M.fits layer_means.now model.now }
     requires horizon { 0 < model.now.grid.horizon }
     requires below { length below.now ≡ states model.now.grid }
     requires means { length means.old ≡ states model.now.grid }
@@ -65,7 +68,7 @@ pub fn fill_means_with(model: &Model, stencils: &Stencils, below: &[Pair], means
     let none = [Pair { upper: 0, lower: 0 }; GREATEST_ADVISORIES as usize];
     let mut column_means = [none; GREATEST_VERTICES as usize];
     for column in 0..column_count(model.grid()) {
-        fill_column(model, stencils, reach, column, below, &mut column_means);
+        layer_means.fill_column(model, reach, column, below, &mut column_means);
         put_column(model, column, &column_means, means);
     }
 }

@@ -2,18 +2,18 @@ use Rattle.std.proofs.Common.{ap, arith}
 use Rattle.acas_spec.specs.Model.{GridData}
 use Rattle.acas_step.specs.Columns.{columns}
 use Rattle.acas_step.proofs.ColumnPlaces.{column_below, column_written}
-use Rattle.acas_step.proofs.LayerMeans.{means_written}
-use Rattle.acas_step.proofs.stencil_means.fill_means_with.Goals as goal
+use Rattle.acas_step.proofs.TableMeans.{means_written}
+use Rattle.acas_step.proofs.state_means.fill_means_with.Goals as goal
 
 pub loop-column-preserved : goal.loop-column-preserved
-loop-column-preserved c = record {
+loop-column-preserved g c = record {
   count = c.put_column.ensures.count;
   means = column_written c.args.model.now c.args.below.now c.loop-column.column c.fill_column.new.means c.loop-column.means c.put_column.new.means c.loop-column.invariant.means c.fill_column.ensures.means
       c.put_column.ensures.written c.put_column.ensures.others;
 }
 
 pub returns-clause-means : goal.returns-clause-means
-returns-clause-means c =
+returns-clause-means g c =
     let g = c.args.model.now.grid in
     means_written c.args.model.now c.args.below.now c.loop-column.means
     (λ s here. c.loop-column.invariant.means s here

@@ -3,7 +3,7 @@ use Rattle.acas_spec.specs.Model.{states, vertices}
 use Rattle.acas_grid.specs.Grid.{state_number}
 use Rattle.acas_step.specs.Columns.{columns, pairs_at, vertex_in}
 use Rattle.acas_step.specs.Layer.{pair_at}
-use Rattle.acas_step.proofs.stencil_means.put_column.Given as goal
+use Rattle.acas_step.proofs.state_means.put_column.Given as goal
 
 abbrev pub invariant-loop-i : goal.invariant-loop-i
 invariant-loop-i l = record {

@@ -2,7 +2,7 @@ use Rattle.std.proofs.Common.{◌≡◌, ◌≢◌, ℕ, ◌%◌, ◌<◌, lengt
 use Rattle.acas_spec.specs.Model.{states, vertices}
 use Rattle.acas_grid.specs.Grid.{state_number}
 use Rattle.acas_step.specs.Layer.{pair_at}
-use Rattle.acas_step.proofs.stencil_means.put_means.Given as goal
+use Rattle.acas_step.proofs.state_means.put_means.Given as goal
 
 abbrev pub invariant-loop-advisory : goal.invariant-loop-advisory
 invariant-loop-advisory l = record {

@@ -4,7 +4,7 @@ use Rattle.acas_grid.specs.Grid.{state_number}
 use Rattle.acas_step.specs.Columns.{pairs_at, vertex_in}
 use Rattle.acas_step.specs.Layer.{pair_at}
 use Rattle.acas_step.proofs.ColumnPlaces.{other_vertex, vertex_written}
-use Rattle.acas_step.proofs.stencil_means.put_column.Goals as goal
+use Rattle.acas_step.proofs.state_means.put_column.Goals as goal
 
 pub loop-i-preserved : goal.loop-i-preserved
 loop-i-preserved c =

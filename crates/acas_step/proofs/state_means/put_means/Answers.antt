@@ -5,7 +5,7 @@ use Rattle.acas_grid.specs.Grid.{state_number}
 use Rattle.acas_units.specs.declared.pair.Pair.{Pair}
 use Rattle.acas_step.specs.Layer.{pair_at}
 use Rattle.acas_step.proofs.PlacedMeans.{pairs_elsewhere, pairs_next}
-use Rattle.acas_step.proofs.stencil_means.put_means.Goals as goal
+use Rattle.acas_step.proofs.state_means.put_means.Goals as goal
 
 pub loop-advisory-preserved : goal.loop-advisory-preserved
 loop-advisory-preserved c =
