@@ -36,6 +36,7 @@ pub(crate) fn drill_table(alloc: Global, found: &ModelFile) -> Result<DrillTable
     ensures fits { IfOk result (λ table. AreAdvicesOf found.now.model table.advices) }
     ensures tabled { IfOk result (λ table. AreTabled found.now.model (compiled found.now.model) table.advices) }
 {
+    let stencils = Stencils::make(alloc, &found.model)?;
     let mut room = SweepRoom::make(alloc, &found.model)?;
     let writer = TableWriter::new(alloc, &found.model, &found.digest)?;
     let mut folder = new_folder(alloc)?;
@@ -44,6 +45,7 @@ pub(crate) fn drill_table(alloc: Global, found: &ModelFile) -> Result<DrillTable
     let mut turned = Turned::new();
     let Ok(bytes) = store_swept(
         found,
+        &stencils,
         &mut room,
         writer,
         &mut folder,

@@ -8,14 +8,13 @@ ghost use Rattle.acas_table_commands.specs.SweepRoom.{IsRoomFor};
 
 use acas_base::Model;
 use acas_plane::{PlaneBlock, Turned};
-use acas_step::{Backups, Stencils};
+use acas_step::{Backups, LayerMeans};
 use acas_sweep::{LayerSink, SweepFault, backups_are_few, sweep};
 use std::alloc::{AllocError, Global};
 
-/// What a sweep of a model takes: its stencils, a block of two planes, and a byte for the advice of each state.
+/// What a sweep of a model takes beside what forms the means: a block of two planes, and a byte for the advice of each state.
 #[derive(Drop)]
 pub struct SweepRoom {
-    pub(crate) stencils: Stencils,
     pub(crate) block: PlaneBlock,
     pub(crate) advice: Vec<u8>,
 }
@@ -26,26 +25,23 @@ impl SweepRoom {
         ensures { IfOk result (λ room. IsRoomFor model.now room) }
     {
         let states = model.grid().states();
-        let stencils = Stencils::make(alloc, model)?;
         let block = PlaneBlock::make(alloc, states)?;
         let advice = vec![in alloc; 0u8; states as usize]?;
-        Ok(SweepRoom {
-            stencils,
-            block,
-            advice,
-        })
+        Ok(SweepRoom { block, advice })
     }
 }
 
-/// Hands all layers of the compiled table of a model to a sink. It takes no memory. It counts the backups and the turned pairs of the
+/// Hands all layers of the compiled table of a model to a sink, by what forms the model's means. It takes no memory. It counts the backups and the turned pairs of the
 /// sweep.
-pub(crate) fn sweep_to<S: LayerSink>(
+pub(crate) fn sweep_to<M: LayerMeans, S: LayerSink>(
     model: &Model,
+    layer_means: &M,
     room: &mut SweepRoom,
     rows: &mut S,
     backups: &mut Backups,
     turned: &mut Turned,
 ) -> Result<(), SweepFault>
+    requires fits { M.fits layer_means.now model.now }
     requires room { IsRoomFor model.now room.old }
     requires width { S.width rows.old ≡ states model.now.grid }
     requires left { S.left rows.old ≡ model.now.grid.horizon + 1 }
@@ -67,7 +63,7 @@ pub(crate) fn sweep_to<S: LayerSink>(
     backups_are_few();
     sweep(
         model,
-        &room.stencils,
+        layer_means,
         &mut room.block,
         &mut room.advice,
         rows,

@@ -15,19 +15,21 @@ use crate::table_lines::Pen;
 use acas_base::Model;
 use acas_outside::{Failed, Sink};
 use acas_plane::Turned;
-use acas_step::Backups;
+use acas_step::{Backups, LayerMeans};
 use acas_sweep::SweepFault;
 
 /// Prints all lines of the compiled table of a model, with a pen that has printed nothing. It takes no memory. It counts the backups and
 /// the turned pairs of the sweep.
-pub(crate) fn print_table<O: Sink>(
+pub(crate) fn print_table<M: LayerMeans, O: Sink>(
     model: &Model,
+    layer_means: &M,
     room: &mut SweepRoom,
     pen: &mut Pen,
     out: &mut O,
     backups: &mut Backups,
     turned: &mut Turned,
 ) -> Result<(), Failed>
+    requires fits { M.fits layer_means.now model.now }
     requires room { IsRoomFor model.now room.old }
     requires empty { pen.old.buffer ≡ [] }
     requires backups { backups.old ≤ 2 ^ 63 }
@@ -40,20 +42,22 @@ pub(crate) fn print_table<O: Sink>(
     ensures rising { backups.old ≤ backups.new }
     ensures rising_turned { turned.old ≤ turned.new }
 {
-    print_layers(model, room, pen, out, backups, turned)?;
+    print_layers(model, layer_means, room, pen, out, backups, turned)?;
     pen.buffer.flush(out)?;
     Ok(())
 }
 
 // Prints the lines of each layer.
-fn print_layers<O: Sink>(
+fn print_layers<M: LayerMeans, O: Sink>(
     model: &Model,
+    layer_means: &M,
     room: &mut SweepRoom,
     pen: &mut Pen,
     out: &mut O,
     backups: &mut Backups,
     turned: &mut Turned,
 ) -> Result<(), Failed>
+    requires fits { M.fits layer_means.now model.now }
     requires room { IsRoomFor model.now room.old }
     requires backups { backups.old ≤ 2 ^ 63 }
     requires turned { turned.old ≤ 2 ^ 63 }
@@ -74,7 +78,7 @@ fn print_layers<O: Sink>(
         out,
         left,
     };
-    match sweep_to(model, room, &mut rows, backups, turned) {
+    match sweep_to(model, layer_means, room, &mut rows, backups, turned) {
         Ok(()) => Ok(()),
         Err(SweepFault::Rows) => Err(Failed),
     }

@@ -16,14 +16,15 @@ use crate::table_rows::TableRows;
 use acas_command::ModelFile;
 use acas_outside::{Failed, Folder};
 use acas_plane::Turned;
-use acas_step::Backups;
+use acas_step::{Backups, LayerMeans};
 use acas_sweep::SweepFault;
 use acas_table::TableWriter;
 
 /// Stores the compiled table of a model, layer by layer as the sweep goes, and answers its length. Where it fails, the name holds
 /// what it held, or a proper prefix of the table's text. It takes no memory. It counts the backups and the turned pairs of the sweep.
-pub fn store_swept<F: Folder>(
+pub fn store_swept<M: LayerMeans, F: Folder>(
     found: &ModelFile,
+    layer_means: &M,
     room: &mut SweepRoom,
     writer: TableWriter,
     folder: &mut F,
@@ -32,6 +33,7 @@ pub fn store_swept<F: Folder>(
     turned: &mut Turned,
 ) -> Result<u64, Failed>
     requires served { IsTrue (F.serves folder.old name.now) }
+    requires fits { M.fits layer_means.now found.now.model }
     requires room { IsRoomFor found.now.model room.old }
     requires state { writer_state writer ≡ new_writer 1 found.now.digest (shape_of found.now.model.grid) }
     requires written { HasWritten writer [] }
@@ -51,14 +53,24 @@ pub fn store_swept<F: Folder>(
     let mut writer = writer;
     writer.start(folder, name)?;
     let mut begun = BegunWriter { writer };
-    append_swept(found, room, &mut begun, folder, name, backups, turned)?;
+    append_swept(
+        found,
+        layer_means,
+        room,
+        &mut begun,
+        folder,
+        name,
+        backups,
+        turned,
+    )?;
     let mut writer = begun.writer;
     writer.finish(folder, name)
 }
 
 // Appends all layers, by a writer that has appended none.
-fn append_swept<F: Folder>(
+fn append_swept<M: LayerMeans, F: Folder>(
     found: &ModelFile,
+    layer_means: &M,
     room: &mut SweepRoom,
     begun: &mut BegunWriter,
     folder: &mut F,
@@ -68,6 +80,7 @@ fn append_swept<F: Folder>(
 ) -> Result<(), Failed>
     requires served { IsTrue (F.serves folder.old name.now) }
     requires held { Given (F.holds folder.old) name.now (λ file. IsSome file) }
+    requires fits { M.fits layer_means.now found.now.model }
     requires room { IsRoomFor found.now.model room.old }
     requires writing { IsWriting found.now.digest found.now.model 0 begun.old.writer }
     requires backups { backups.old ≤ 2 ^ 63 }
@@ -91,7 +104,7 @@ fn append_swept<F: Folder>(
         folder,
         name,
     };
-    match sweep_to(&found.model, room, &mut rows, backups, turned) {
+    match sweep_to(&found.model, layer_means, room, &mut rows, backups, turned) {
         Ok(()) => Ok(()),
         Err(SweepFault::Rows) => Err(Failed),
     }
