@@ -1,5 +1,5 @@
 use Rattle.acas_flight.proofs.Extremes.{low_extreme-same, high_extreme-same, low_extreme-windows, high_extreme-windows}
-use Rattle.acas_flight.proofs.laws.extremes_are_one.Goals as goal
+use Rattle.acas_flight.proofs.flight_laws.extremes_are_one.Goals as goal
 
 pub returns : goal.returns
 returns c = record {

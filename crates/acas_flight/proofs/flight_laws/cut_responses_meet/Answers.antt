@@ -1,5 +1,5 @@
 use Rattle.acas_flight.proofs.Cuts.{until-none, until-part, until-whole, cuts_meet}
-use Rattle.acas_flight.proofs.laws.cut_responses_meet.Goals as goal
+use Rattle.acas_flight.proofs.flight_laws.cut_responses_meet.Goals as goal
 
 pub returns : goal.returns
 returns c = record {

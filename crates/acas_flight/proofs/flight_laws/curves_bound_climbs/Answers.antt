@@ -1,5 +1,5 @@
 use Rattle.acas_flight.proofs.Cuts.{curves_bound_climbs}
-use Rattle.acas_flight.proofs.laws.curves_bound_climbs.Goals as goal
+use Rattle.acas_flight.proofs.flight_laws.curves_bound_climbs.Goals as goal
 
 pub returns : goal.returns
 returns c = record {

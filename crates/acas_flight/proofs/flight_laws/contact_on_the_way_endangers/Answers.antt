@@ -1,6 +1,6 @@
 use Rattle.acas_flight.specs.State.{IsInBox, IsInCell}
 use Rattle.acas_flight.proofs.Dangers.{endangered_on_the_way}
-use Rattle.acas_flight.proofs.laws.contact_on_the_way_endangers.Goals as goal
+use Rattle.acas_flight.proofs.flight_laws.contact_on_the_way_endangers.Goals as goal
 
 pub returns : goal.returns
 returns c = record {
