@@ -1,7 +1,7 @@
 use Rattle.std.proofs.Common.{◌∙◌, ap₂, ◌-ℤ◌, ◌*ℤ◌, arith}
 use Rattle.std.proofs.lemmas.Int.{ints}
 use Rattle.acas_witness.proofs.Casts.{difference128, num_fits, den_fits}
-use Rattle.acas_witness.proofs.plan.clearance.Goals as goal
+use Rattle.acas_witness.proofs.flown.clearance.Goals as goal
 
 pub returns-clause-value : goal.returns-clause-value
 returns-clause-value c =

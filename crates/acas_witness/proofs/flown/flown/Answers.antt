@@ -3,7 +3,7 @@ use Rattle.std.specs.Int.{w64}
 use Rattle.std.proofs.lemmas.Int.{ints}
 use Rattle.acas_frac.proofs.Bounds.{product_size}
 use Rattle.acas_witness.proofs.Casts.{whole64}
-use Rattle.acas_witness.proofs.plan.flown.Goals as goal
+use Rattle.acas_witness.proofs.flown.flown.Goals as goal
 
 pub returns-clause-size : goal.returns-clause-size
 returns-clause-size c =

@@ -3,7 +3,7 @@ use Rattle.std.specs.Int.{w64}
 use Rattle.std.proofs.lemmas.Int.{ints}
 use Rattle.acas_frac.specs.Fraction.{Fraction}
 use Rattle.acas_witness.specs.Plans.{IsIntruderEnd}
-use Rattle.acas_witness.proofs.plan.intruder_end.Goals as goal
+use Rattle.acas_witness.proofs.flown.intruder_end.Goals as goal
 
 line_from : (h : ℤ) (x t y : Fraction) (xn : ℤ) (xd tn td : ℕ) (o f : ℤ) → x.num ≡ xn → x.den ≡ xd → t.num ≡ pos tn → t.den ≡ td → o ≡ h *ℤ pos (xd * td) → f ≡ (pos 2 *ℤ xn) *ℤ pos tn →
     y.num *ℤ pos (xd * td) ≡ (o +ℤ f) *ℤ pos y.den → IsIntruderEnd h x t y
