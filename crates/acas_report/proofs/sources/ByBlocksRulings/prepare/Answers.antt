@@ -1,4 +1,4 @@
-use Rattle.acas_report.proofs.rulings.BlockAuditRulings.prepare.Goals as goal
+use Rattle.acas_report.proofs.sources.ByBlocksRulings.prepare.Goals as goal
 
 pub returns-clause-ready : goal.returns-clause-ready
 returns-clause-ready c = record {
