@@ -26,8 +26,8 @@ impl Model for Boxes {
 }
 
 impl Boxes {
-    /// These boxes.
-    pub(crate) fn new(boxes: Vec<AuditBox>) -> Boxes
+    /// These boxes. There are no more than [`GREATEST_BOXES`](acas_units::GREATEST_BOXES).
+    pub fn new(boxes: Vec<AuditBox>) -> Boxes
         requires { length boxes.items ≤ GREATEST_BOXES }
         ensures { result ≡ map audited boxes.items }
     {

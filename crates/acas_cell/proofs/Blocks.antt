@@ -13,27 +13,15 @@ use Rattle.acas_flight.specs.Clear.{EndsInVerticalContact, IsEndangeredDuring, a
 use Rattle.acas_flight.proofs.Orders.{cases_lt_ℤ, le_of_lt_ℤ}
 use Rattle.acas_flight.proofs.Rising.{scaled_le}
 use Rattle.acas_flight.proofs.Endangered.{endangered_cell}
-use Rattle.acas_cell.specs.Blocks.{IsBlockOf, IsEndangeredBlock, IsInBlock, IsSome, area_of_block, between}
+use Rattle.acas_cell.specs.BlockStates.{IsEndangeredBlock, area_of_block}
+use Rattle.acas_cell.specs.Blocks.{IsBlockOf, IsInBlock, IsSome}
+use Rattle.acas_cell.specs.Spans.{between}
 use Rattle.acas_cell.specs.declared.block.Block.{Block}
+use Rattle.acas_cell.proofs.Spans.{rising_between}
 
 -- ---- axes
 
--- the number at a later place of an axis is greater
-pub rising_between : (axis : List ℤ) → Rises axis → (first last : ℕ) → first < last → last < length axis → place_value axis first <ℤ place_value axis last
-unfolding Rises
-rising_between axis rises first zero some within = absurd (omega (arith, some))
-rising_between axis rises first (suc last) some within =
-    let next : last + 1 ≡ suc last = omega arith in
-    let step : place_value axis last <ℤ place_value axis (last + 1) = rises last (omega (arith, within)) in
-    subst (λ (p : ℕ). place_value axis first <ℤ place_value axis p) next
-    (elim (cases_eq first last) [
-      | inl same ↦ subst (λ (p : ℕ). place_value axis p <ℤ place_value axis (last + 1)) (omega (arith, same)) step
-      | inr other ↦
-          let before = rising_between axis rises first last (omega (arith, some, other)) (omega (arith, within)) in
-          omega (arith, ints, before, step)
-    ])
-
--- the same, also at the same place
+-- the number at a later place of an axis is greater, or the same at the same place
 not_falling : (axis : List ℤ) → Rises axis → (first last : ℕ) → first ≤ last → last < length axis → place_value axis first ≤ℤ place_value axis last
 not_falling axis rises first last order within =
     elim (cases_eq first last) [

@@ -7,7 +7,8 @@ use Rattle.acas_cell.specs.Audits.{BlockAuditData, IsBlockIn, IsRuledIn, Waits, 
 use Rattle.acas_cell.specs.Blocks.{IsInBlock, first_half, second_half}
 use Rattle.acas_cell.specs.Cells.{cell_at}
 use Rattle.acas_cell.specs.Corners.{is_at_corner}
-use Rattle.acas_cell.specs.Decisions.{IsDecidedBy, IsSumBelow, IsTabledIn, AreAuditsDecisions, AreDecisionsUnder, clear, halved, no_more, one_cell, one_more, untabled}
+use Rattle.acas_cell.specs.DecisionCounts.{IsSumBelow, no_more, one_more}
+use Rattle.acas_cell.specs.Decisions.{IsDecidedBy, IsTabledIn, AreAuditsDecisions, AreDecisionsUnder, clear, halved, one_cell, untabled}
 use Rattle.acas_cell.specs.Sets.{holds}
 use Rattle.acas_cell.specs.declared.block.Block.{Block}
 use Rattle.acas_cell.proofs.Halves.{AreParts}

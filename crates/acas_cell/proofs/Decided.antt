@@ -8,7 +8,8 @@ use Rattle.acas_cell.specs.Audits.{AreListsOf, AreUndecided, BlockAuditData, Has
 use Rattle.acas_cell.specs.Blocks.{IsBlockOf, IsInBlock, all_cells}
 use Rattle.acas_cell.specs.Cells.{cell_at}
 use Rattle.acas_cell.specs.Corners.{is_advised}
-use Rattle.acas_cell.specs.Decisions.{AreDecisionsUnder, IsDecidedBy, IsSumBelow, no_more, one_more}
+use Rattle.acas_cell.specs.DecisionCounts.{IsSumBelow, no_more, one_more}
+use Rattle.acas_cell.specs.Decisions.{AreDecisionsUnder, IsDecidedBy}
 use Rattle.acas_cell.specs.Sets.{holds}
 use Rattle.acas_cell.specs.declared.block.Block.{Block}
 use Rattle.acas_cell.proofs.Ruled.{place_in_block, resorted}
@@ -123,12 +124,6 @@ pub decided_under : (m : ModelData) (a : AdvicesData) (n present advice number :
     AreDecisionsUnder m a n present advice number
 decided_under m a n present zero number some decided = absurd (omega (arith, some))
 decided_under m a n present (suc other) number some decided = decided
-
--- one number more
-pub one_more_at : (IsOf : ℕ → ℕ → Type 0) (k sum next : ℕ) → IsSumBelow IsOf k sum → IsOf k next → IsSumBelow IsOf (k + 1) (sum + next)
-one_more_at IsOf k sum next before here =
-    let e : suc k ≡ k + 1 = omega arith in
-    subst (λ (x : ℕ). IsSumBelow IsOf x (sum + next)) e (one_more k sum next before here)
 
 -- the first advice is clear of conflict, and takes none
 pub none_at_first : (m : ModelData) (a : AdvicesData) (n present : ℕ) → IsSumBelow (AreDecisionsUnder m a n present) 1 0

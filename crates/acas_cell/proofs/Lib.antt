@@ -3,9 +3,11 @@ pub mod Lists
 pub mod Order
 pub mod Exact
 pub mod Showing
+pub mod Spans
 pub mod Blocks
 pub mod Halves
 pub mod Ruled
+pub mod DecisionCounts
 pub mod Decided
 pub mod Filled
 pub mod Counted

@@ -7,7 +7,8 @@ use Rattle.std.proofs.lemmas.Nat.{mul-add-lt, same_from_place}
 use Rattle.acas_spec.specs.Model.{ModelData}
 use Rattle.acas_flight.specs.Contact.{IsEndangeredCell}
 use Rattle.acas_cell.specs.Audits.{BlockAuditData, HasLists, HaveSameCells, IsBlockIn, IsMoved, IsPlace, IsRuledIn, IsSorted, cell_count, certified_at, danger, no_advice, no_danger, not_asked, place_of, reported_at}
-use Rattle.acas_cell.specs.Blocks.{IsEndangeredBlock, IsInBlock, altitudes, intruder_rates, is_one_cell, own_rates}
+use Rattle.acas_cell.specs.BlockStates.{IsEndangeredBlock}
+use Rattle.acas_cell.specs.Blocks.{IsInBlock, altitudes, intruder_rates, is_one_cell, own_rates}
 use Rattle.acas_cell.specs.Sets.{holds}
 use Rattle.acas_cell.specs.declared.block.Block.{Block}
 use Rattle.acas_cell.specs.declared.set.AdviceSet.{AdviceSet}

@@ -1,10 +1,6 @@
--- Blocks of cells, when one is endangered, and how one is halved.
-use Rattle.std.specs.Prelude.{ℕ, ◌+◌, ◌-◌, ◌*◌, ◌/◌, ◌<◌, ◌≤◌, nat_le, ◌==◌, ◌&&◌, Bool, if◌then◌else◌, List, length, ℤ}
-use Rattle.acas_spec.specs.Axis.{place_value}
+-- Blocks of cells, and how one is halved.
+use Rattle.std.specs.Prelude.{ℕ, ◌+◌, ◌-◌, ◌*◌, ◌/◌, ◌<◌, ◌≤◌, nat_le, ◌==◌, ◌&&◌, Bool, if◌then◌else◌, length}
 use Rattle.acas_spec.specs.Model.{ModelData}
-use Rattle.acas_flight.specs.State.{Interval}
-use Rattle.acas_flight.specs.Contact.{IsEndangeredCell}
-use Rattle.acas_flight.specs.Clear.{Area}
 use Rattle.acas_cell.specs.declared.block.Block.{Block}
 
 -- the block has a cell
@@ -28,22 +24,6 @@ pub record IsInBlock (b : Block) (i j k : ℕ) : Type 0 where
   pub before_i : i < b.i1
   pub before_j : j < b.j1
   pub before_k : k < b.k1
-
--- some cell of the block, of n seconds, is endangered under an advisory
-pub record IsEndangeredBlock (m : ModelData) (n advisory : ℕ) (b : Block) : Type 0 where
-  pub i : ℕ
-  pub j : ℕ
-  pub k : ℕ
-  pub inside : IsInBlock b i j k
-  pub danger : IsEndangeredCell m n i j k advisory
-
--- the numbers from a place of an axis to another
-abbrev pub between : List ℤ → ℕ → ℕ → Interval
-between axis first last = record { least = place_value axis first; greatest = place_value axis last }
-
--- the area of a block: from the lower ends of its first cell to the upper ends of its last
-abbrev pub area_of_block : ModelData → Block → Area
-area_of_block m b = record { altitude = between m.grid.h b.i0 b.i1; own = between m.grid.v0 b.j0 b.j1; intruder = between m.grid.v1 b.k0 b.k1 }
 
 -- ---- halves
 

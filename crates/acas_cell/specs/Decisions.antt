@@ -1,10 +1,12 @@
 -- How many decisions rule on all cells.
-use Rattle.std.specs.Prelude.{◌≡◌, ℕ, zero, suc, ◌+◌, ◌*◌, true, false}
+use Rattle.std.specs.Prelude.{◌≡◌, ℕ, zero, suc, ◌+◌, true, false}
 use Rattle.acas_spec.specs.Model.{ModelData}
 use Rattle.acas_base.specs.Advices.{AdvicesData}
 use Rattle.acas_cell.specs.Cells.{cell_at}
 use Rattle.acas_cell.specs.Corners.{is_at_corner}
-use Rattle.acas_cell.specs.Blocks.{IsEndangeredBlock, IsInBlock, all_cells, cells_in, first_half, is_one_cell, second_half}
+use Rattle.acas_cell.specs.BlockStates.{IsEndangeredBlock}
+use Rattle.acas_cell.specs.Blocks.{IsInBlock, all_cells, first_half, is_one_cell, second_half}
+use Rattle.acas_cell.specs.DecisionCounts.{IsSumBelow}
 use Rattle.acas_cell.specs.declared.block.Block.{Block}
 
 -- the advice is tabled at a corner of some cell of the block
@@ -21,11 +23,6 @@ pub data IsDecidedBy (m : ModelData) (a : AdvicesData) (n present advice : ℕ) 
       IsDecidedBy m a n present advice (first_half b) first → IsDecidedBy m a n present advice (second_half b) second →
       IsDecidedBy m a n present advice b (1 + first + second)
 
--- the sum of one number for each k below another, where each number is one of its own k
-pub data IsSumBelow (IsOf : ℕ → ℕ → Type 0) : ℕ → ℕ → Type 0 where
-  no_more : IsSumBelow IsOf zero 0
-  one_more : (k sum next : ℕ) → IsSumBelow IsOf k sum → IsOf k next → IsSumBelow IsOf (suc k) (sum + next)
-
 -- the number of decisions under an advice, for the block of all cells; for clear of conflict there is none
 abbrev pub AreDecisionsUnder : ModelData → AdvicesData → ℕ → ℕ → ℕ → ℕ → Type 0
 AreDecisionsUnder m a n present zero number = number ≡ 0
@@ -38,7 +35,3 @@ AreDecisionsOf m a n present number = IsSumBelow (AreDecisionsUnder m a n presen
 -- the whole number of decisions of an audit
 abbrev pub AreAuditsDecisions : ModelData → AdvicesData → ℕ → Type 0
 AreAuditsDecisions m a number = IsSumBelow (λ n layer. IsSumBelow (λ present part. AreDecisionsOf m a n present part) m.grid.advisories layer) m.grid.horizon number
-
--- more decisions than the cells of n seconds and a present advisory can take: fewer than two a cell under each advice
-abbrev pub most_decisions : ModelData → ℕ
-most_decisions m = m.grid.advisories * (2 * cells_in (all_cells m))

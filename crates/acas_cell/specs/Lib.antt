@@ -4,6 +4,9 @@ pub mod Sets
 pub mod Order
 pub mod Boxes
 pub mod Blocks
+pub mod Spans
+pub mod BlockStates
+pub mod DecisionCounts
 pub mod Decisions
 pub mod Audits
 pub mod Rulings

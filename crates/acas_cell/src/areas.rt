@@ -1,19 +1,17 @@
-//! The areas of cells and blocks.
+//! The areas of cells.
 ghost use Rattle.std.specs.Prelude.{◌≡◌, ◌+◌, ◌<◌, length};
-ghost use Rattle.acas_spec.specs.Limits.{IsModel};
 ghost use Rattle.acas_flight.specs.Clear.{area_of_cell};
 ghost use Rattle.acas_region.specs.Limits.{interval_of};
 ghost use Rattle.acas_region.specs.View.{area_of};
-ghost use Rattle.acas_cell.specs.Blocks.{IsBlockOf, area_of_block, between};
+ghost use Rattle.acas_cell.specs.Spans.{between};
 
-use crate::block::Block;
 use acas_base::Model;
 use acas_grid::Axis;
 use acas_region::BoxState;
 use acas_units::Span;
 
-// The numbers from a place of an axis to a later one.
-fn between(axis: &Axis, first: u32, last: u32) -> Span
+/// The numbers from a place of an axis to a later one.
+pub fn between(axis: &Axis, first: u32, last: u32) -> Span
     requires rising { first < last }
     requires last { last < length axis.now }
     ensures { interval_of result ≡ between axis.now first last }
@@ -24,7 +22,7 @@ fn between(axis: &Axis, first: u32, last: u32) -> Span
 }
 
 /// The area of a cell whose lower corner has the places i, j, k.
-pub(crate) fn area_of_cell(model: &Model, i: u32, j: u32, k: u32) -> BoxState
+pub fn area_of_cell(model: &Model, i: u32, j: u32, k: u32) -> BoxState
     requires i { i + 1 < length model.now.grid.h }
     requires j { j + 1 < length model.now.grid.v0 }
     requires k { k + 1 < length model.now.grid.v1 }
@@ -35,19 +33,5 @@ pub(crate) fn area_of_cell(model: &Model, i: u32, j: u32, k: u32) -> BoxState
         h: between(&grid.h, i, i + 1),
         v0: between(&grid.v0, j, j + 1),
         v1: between(&grid.v1, k, k + 1),
-    }
-}
-
-/// The area of a block: from the lower ends of its first cell to the upper ends of its last.
-pub(crate) fn area_of_block(model: &Model, block: &Block) -> BoxState
-    requires { IsBlockOf model.now block.now }
-    ensures area { area_of result ≡ area_of_block model.now block.now }
-    ensures model { IsModel model.now }
-{
-    let grid = model.grid();
-    BoxState {
-        h: between(&grid.h, block.i0, block.i1),
-        v0: between(&grid.v0, block.j0, block.j1),
-        v1: between(&grid.v1, block.k0, block.k1),
     }
 }

@@ -17,8 +17,8 @@ pub struct Block {
 }
 
 impl Block {
-    // The block of all cells of a model's grid.
-    pub(crate) fn all_cells(model: &Model) -> Block
+    /// The block of all cells of a model's grid.
+    pub fn all_cells(model: &Model) -> Block
         ensures value { result ≡ all_cells model.now }
         ensures block { IsBlockOf model.now result }
     {
@@ -33,16 +33,16 @@ impl Block {
         }
     }
 
-    // Whether it has one cell.
-    pub(crate) fn is_one_cell(&self) -> bool
+    /// Whether it has one cell. It is not empty.
+    pub fn is_one_cell(&self) -> bool
         requires { IsSome self.now }
         ensures { result ≡ is_one_cell self.now }
     {
         self.i1 - self.i0 == 1 && self.j1 - self.j0 == 1 && self.k1 - self.k0 == 1
     }
 
-    // Its halves, along the axis on which it has the most cells.
-    pub(crate) fn halves(&self) -> (Block, Block)
+    /// Its halves, along the axis on which it has the most cells. It is not empty.
+    pub fn halves(&self) -> (Block, Block)
         requires { IsSome self.now }
         ensures first { result.0 ≡ first_half self.now }
         ensures second { result.1 ≡ second_half self.now }

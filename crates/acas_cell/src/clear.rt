@@ -1,9 +1,10 @@
 //! Whether a whole block of cells is clear of contact.
 ghost use Rattle.std.specs.Prelude.{◌≡◌, ◌+◌, ◌<◌, ◌^◌, ◌↔◌, IsTrue, false};
-ghost use Rattle.acas_cell.specs.Blocks.{IsBlockOf, IsEndangeredBlock};
+ghost use Rattle.acas_cell.specs.BlockStates.{IsEndangeredBlock};
+ghost use Rattle.acas_cell.specs.Blocks.{IsBlockOf};
 
-use crate::areas::area_of_block;
 use crate::block::Block;
+use crate::block_area::area_of_block;
 use crate::decisions::{Decisions, count_one};
 use acas_base::Model;
 use acas_region::{is_clear, window_of_cell};

@@ -7,7 +7,8 @@ ghost use Rattle.acas_flight.specs.Contact.{IsEndangeredCell};
 ghost use Rattle.acas_cell.specs.Blocks.{IsBlockOf, IsInBlock, IsSome, cells_in, first_half, is_one_cell, second_half};
 ghost use Rattle.acas_cell.specs.Cells.{IsCellOf, cell_at};
 ghost use Rattle.acas_cell.specs.Corners.{is_advised};
-ghost use Rattle.acas_cell.specs.Decisions.{AreDecisionsOf, IsDecidedBy, most_decisions};
+ghost use Rattle.acas_cell.specs.DecisionCounts.{most_decisions};
+ghost use Rattle.acas_cell.specs.Decisions.{AreDecisionsOf, IsDecidedBy};
 ghost use Rattle.acas_cell.specs.Audits.{AreExact, AreListsOf, HasLists, HaveSameCells, IsAuditOf, IsBlockIn, IsPlace, IsRuledIn, Waits, cell_count, certified_at, place_of, reported_at};
 ghost use Rattle.acas_cell.specs.Sets.{holds};
 

@@ -1,4 +1,4 @@
-//! Laws of the definitions. The functions do nothing: their clauses are the laws.
+//! Laws of cells and advisory cells. The functions do nothing: their clauses are the laws.
 ghost use Rattle.std.specs.Prelude.{◌≡◌, ◌↔◌, ℕ, ◌+◌, ◌*◌, ◌≤◌, true};
 ghost use Rattle.std.specs.List.{Contains};
 ghost use Rattle.std.specs.List.Sorted.{IsStrictlySortedBy};
@@ -6,14 +6,9 @@ ghost use Rattle.acas_spec.specs.Model.{ModelData, vertices};
 ghost use Rattle.acas_spec.specs.declared.place.Vertex.{Vertex};
 ghost use Rattle.acas_grid.specs.Grid.{vertex_number};
 ghost use Rattle.acas_base.specs.Advices.{AdvicesData, AreAdvices, AreAdvicesOf, advice_at};
-ghost use Rattle.acas_flight.specs.State.{Box, IsInBox, IsInCell};
-ghost use Rattle.acas_flight.specs.Contact.{IsEndangeredBox, IsEndangeredCell};
-ghost use Rattle.acas_witness.specs.declared.flight.Witness.{Witness};
 ghost use Rattle.acas_cell.specs.Cells.{Cell, IsCellOf, cells_of};
 ghost use Rattle.acas_cell.specs.Corners.{advisory_cells, is_at_corner, is_clear_cell, under};
-ghost use Rattle.acas_cell.specs.Decisions.{AreAuditsDecisions};
 ghost use Rattle.acas_cell.specs.Order.{IsAdvisoryCell, by_numbers, by_places};
-ghost use Rattle.acas_cell.specs.Rulings.{ShowsDanger};
 ghost use Rattle.acas_cell.specs.declared.name.CellName.{CellName};
 
 /// The list of the cells of a model has each of them, once, in the order of their numbers.
@@ -43,19 +38,4 @@ pub fn advices_at_corners_are_tabled()
 pub fn clear_cells_have_no_advisory()
     ensures { (m : ModelData) (a : AdvicesData) (c : Cell) → IsCellOf m c →
         (is_clear_cell m a c ≡ true) ↔ ((advice : ℕ) → ¬ IsAdvisoryCell m a (under c advice)) }
-{}
-
-/// A witness that shows danger is a flight that endangers: some flight from a state of the cell, or of the box, that meets the advisory
-/// ends in contact.
-pub fn shown_danger_endangers()
-    ensures cells { (m : ModelData) (n i j k advisory : ℕ) (w : Witness) →
-        ShowsDanger m advisory (IsInCell m n i j k) w → IsEndangeredCell m n i j k advisory }
-    ensures boxes { (m : ModelData) (box : Box) (advisory : ℕ) (w : Witness) →
-        ShowsDanger m advisory (IsInBox box) w → IsEndangeredBox m box advisory }
-{}
-
-/// There is one number of decisions of an audit: the definition leaves no choice.
-pub fn decisions_are_one()
-    ensures { (m : ModelData) (a : AdvicesData) (x y : ℕ) → AreAuditsDecisions m a x
-        → AreAuditsDecisions m a y → x ≡ y }
 {}

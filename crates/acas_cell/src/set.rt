@@ -11,7 +11,7 @@ pub struct AdviceSet {
 
 impl AdviceSet {
     /// The set of no advice.
-    pub(crate) fn empty() -> AdviceSet
+    pub fn empty() -> AdviceSet
         ensures none { (a : ℕ) → holds result a ≡ false }
         ensures no_advisory { has_no_advisory result ≡ true }
     {
@@ -19,7 +19,7 @@ impl AdviceSet {
     }
 
     /// The set with one more advice.
-    pub(crate) fn with(self, advice: u8) -> AdviceSet
+    pub fn with(self, advice: u8) -> AdviceSet
         requires { advice < GREATEST_ADVISORIES }
         ensures more { (a : ℕ) → holds result a ≡ (a == advice || holds self a) }
         ensures no_advisory { has_no_advisory result ≡ (has_no_advisory self && advice == 0) }
@@ -30,7 +30,7 @@ impl AdviceSet {
     }
 
     /// The set without an advice.
-    pub(crate) fn without(self, advice: u8) -> AdviceSet
+    pub fn without(self, advice: u8) -> AdviceSet
         requires { advice < GREATEST_ADVISORIES }
         ensures { (a : ℕ) → holds result a ≡ (not (a == advice) && holds self a) }
     {

@@ -2,7 +2,8 @@
 use Rattle.std.proofs.Common.{◌≡◌, ℕ, zero, suc, ◌+◌, ◌<◌, true, true≢false, [], ◌∷◌, pos, refl, sym, arith, rules}
 use Rattle.acas_flight.specs.Contact.{IsEndangeredCell}
 use Rattle.acas_flight_examples.specs.Numbers.{segment, state}
-use Rattle.acas_cell.specs.Blocks.{IsEndangeredBlock, IsInBlock, all_cells}
+use Rattle.acas_cell.specs.Blocks.{IsInBlock, all_cells}
+use Rattle.acas_cell.specs.BlockStates.{IsEndangeredBlock}
 use Rattle.acas_cell.specs.Cells.{cell_at}
 use Rattle.acas_cell.specs.Corners.{is_at_corner}
 use Rattle.acas_cell.specs.Decisions.{IsDecidedBy, halved, one_cell, untabled}

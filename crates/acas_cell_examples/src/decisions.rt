@@ -1,7 +1,8 @@
 //! How many decisions rule on the cells of the model.
 ghost use Rattle.std.specs.Prelude.{◌≡◌, ℕ};
 ghost use Rattle.acas_cell.specs.Blocks.{all_cells};
-ghost use Rattle.acas_cell.specs.Decisions.{AreAuditsDecisions, AreDecisionsOf, AreDecisionsUnder, IsDecidedBy, IsTabledIn, most_decisions};
+ghost use Rattle.acas_cell.specs.Decisions.{AreAuditsDecisions, AreDecisionsOf, AreDecisionsUnder, IsDecidedBy, IsTabledIn};
+ghost use Rattle.acas_cell.specs.DecisionCounts.{most_decisions};
 ghost use Rattle.acas_cell_examples.specs.Tabled.{block, stacked, tabled};
 
 /// Climb is tabled at a corner of both cells of 0 seconds, and both are endangered: one decision for the two, and one for each. Where

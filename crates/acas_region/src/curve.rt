@@ -11,8 +11,8 @@ use crate::fineness::{HOLD_PARTS, PULL_PARTS, RATE_PARTS, TIME_PARTS};
 use acas_frac::Frac;
 use acas_units::{GREATEST_DELAY, GREATEST_LIMIT, GREATEST_RATE, WINDOW_SECONDS};
 
-// A rate's parts.
-pub(crate) fn rate_parts(rate: &Frac) -> (i64, u64)
+/// A rate's parts.
+pub fn rate_parts(rate: &Frac) -> (i64, u64)
     requires { IsRate rate.now }
     ensures num { Fraction.num rate.now ≡ result.0 }
     ensures den { Fraction.den rate.now ≡ result.1 }
@@ -107,7 +107,7 @@ fn loss_of(start: i64, aim: i64, pull: u64, hold: u64, time: u64) -> u128
 }
 
 /// The curve over common denominators, times its pull.
-pub(crate) fn numerator(start: i64, aim: i64, pull: u64, hold: u64, time: u64) -> i128
+pub fn numerator(start: i64, aim: i64, pull: u64, hold: u64, time: u64) -> i128
     requires start { unsigned_abs start ≤ rate_size }
     requires aim { unsigned_abs aim ≤ rate_size }
     requires flown { pull * time ≤ gain_size }

@@ -35,7 +35,7 @@ pub struct Extreme {
 /// What an advisory asks of a pilot: a rate from lo to hi in ft/min, approached with an acceleration from the pull to the limit in
 /// ft/min per second, after a hold of at most the delay in seconds.
 #[derive(Clone, Copy)]
-pub(crate) struct Asked {
+pub struct Asked {
     pub lo: i64,
     pub hi: i64,
     pub pull: u64,
@@ -47,7 +47,7 @@ pub(crate) struct Asked {
 /// A curve against an intruder. The curve holds its start rate, then goes to the aim with the pull; the intruder starts at the height,
 /// in ticks, and flies at the rate.
 #[derive(Clone, Copy)]
-pub(crate) struct Chase {
+pub struct Chase {
     pub start: i64,
     pub aim: i64,
     pub pull: u64,
@@ -59,7 +59,7 @@ pub(crate) struct Chase {
 
 /// A time of num/den seconds, from 0 to 600, with a denominator from 1 to 5000. It need not be in lowest terms.
 #[derive(Clone, Copy)]
-pub(crate) struct Moment {
+pub struct Moment {
     pub num: u64,
     pub den: u64,
     ghost within: { IsMoment num den },

@@ -3,7 +3,7 @@ use Rattle.std.proofs.Common.{ℕ, ◌-◌, ◌*◌, ◌≤◌, length, arith, m
 use Rattle.acas_spec.specs.Model.{ModelData}
 use Rattle.acas_spec.specs.Limits.{IsModel}
 use Rattle.acas_cell.specs.Blocks.{all_cells, cells_in}
-use Rattle.acas_cell.specs.Decisions.{most_decisions}
+use Rattle.acas_cell.specs.DecisionCounts.{most_decisions}
 
 product_few : (x y p q : ℕ) → x ≤ p → y ≤ q → x * y ≤ p * q
 product_few x y p q h k = omega (arith, mul-le-mul_right y h, mul-le-mul_left p k)

@@ -9,3 +9,4 @@ pub mod CellCounts
 pub mod Decided
 pub mod Subjects
 pub mod Begun
+pub mod Verdicts

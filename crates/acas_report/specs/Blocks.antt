@@ -1,25 +1,8 @@
--- What a source of rulings has to say of cells before they are ruled on, and how many decisions that takes.
-use Rattle.std.specs.Prelude.{◌≡◌, ℕ, ◌<◌, true}
+-- How many decisions prepare cells, from a source of rulings.
+use Rattle.std.specs.Prelude.{ℕ}
 use Rattle.acas_spec.specs.Model.{ModelData}
 use Rattle.acas_base.specs.Advices.{AdvicesData}
-use Rattle.acas_flight.specs.Contact.{IsEndangeredCell}
-use Rattle.acas_cell.specs.Audits.{BlockAuditData, HasLists, IsAuditOf, certified_at, reported_at}
-use Rattle.acas_cell.specs.Cells.{IsCellOf, cell_at}
-use Rattle.acas_cell.specs.Decisions.{IsSumBelow}
-use Rattle.acas_cell.specs.Corners.{under}
-use Rattle.acas_cell.specs.Rulings.{IsRulingOfCell}
-use Rattle.acas_cell.specs.Sets.{holds}
-use Rattle.acas_cell.specs.declared.ruling.Ruling.TheVariants.{Certified}
-
--- Both lists are there for a model, and each cell of n seconds and a present advisory is certified under each advice of its set in the
--- first, and endangered under each of its set in the second.
-pub record IsReady (m : ModelData) (n present : ℕ) (audit : BlockAuditData) : Type 0 where
-  pub cells : IsAuditOf m audit
-  pub lists : HasLists audit
-  pub safe : (i j k advice : ℕ) → IsCellOf m (cell_at n present i j k) → advice < m.grid.advisories →
-      holds (certified_at audit i j k) advice ≡ true → IsRulingOfCell m (under (cell_at n present i j k) advice) Certified
-  pub endangered : (i j k advice : ℕ) → IsCellOf m (cell_at n present i j k) → advice < m.grid.advisories →
-      holds (reported_at audit i j k) advice ≡ true → IsEndangeredCell m n i j k advice
+use Rattle.acas_cell.specs.DecisionCounts.{IsSumBelow}
 
 -- so many decisions prepare the cells of n seconds, where each present advisory takes its own number
 abbrev pub IsLayerPrepared : (ModelData → AdvicesData → ℕ → ℕ → ℕ → Type 0) → ModelData → AdvicesData → ℕ → ℕ → Type 0

@@ -3,3 +3,5 @@ pub mod Report
 pub mod Regions
 pub mod Plan
 pub mod Blocks
+pub mod Ready
+pub mod Verdicts

@@ -4,7 +4,7 @@ ghost use Rattle.acas_units.specs.declared.limits.TheConstants.{GREATEST_ADVISOR
 ghost use Rattle.acas_base.specs.Advices.{AreAdvicesOf};
 ghost use Rattle.acas_outside.specs.Frame.{Emits};
 ghost use Rattle.acas_cell.specs.Cells.{IsCellOf, below, block_cells, cells_of, layer_cells, plane_cells, row_cells};
-ghost use Rattle.acas_cell.specs.Decisions.{most_decisions};
+ghost use Rattle.acas_cell.specs.DecisionCounts.{most_decisions};
 ghost use Rattle.acas_cell.specs.Order.{cell_of};
 ghost use Rattle.acas_report.specs.Blocks.{ArePrepared, IsLayerPrepared};
 ghost use Rattle.acas_report.specs.Plan.{Broke, Room, Wrote, name_plan, place_cell, plan_of, progress, set_plan, total};
@@ -14,7 +14,8 @@ use crate::counts::leaves_out;
 use crate::lines::write_cell_line;
 use crate::pen::Pen;
 use crate::rulings::Rulings;
-use acas_cell::{AdviceSet, CellName, Decisions, advices_at};
+use acas_cell::{AdviceSet, CellName, advices_at};
+use acas_count::Counter;
 use acas_outside::{Failed, Sink};
 
 /// Writes all cells.
@@ -23,7 +24,7 @@ pub(crate) fn write_cells<R: Rulings, S: Sink>(
     rulings: &mut R,
     sink: &mut S,
     pen: &mut Pen,
-    count: &mut Decisions,
+    count: &mut Counter<R::Decision>,
 ) -> Result<(), Failed>
     requires advices { AreAdvicesOf audit.now.model.now audit.now.advices.now }
     requires fits { R.fits rulings.old audit.now.model.now }
@@ -53,7 +54,7 @@ fn write_layer<R: Rulings, S: Sink>(
     n: u32,
     sink: &mut S,
     pen: &mut Pen,
-    count: &mut Decisions,
+    count: &mut Counter<R::Decision>,
 ) -> Result<(), Failed>
     requires advices { AreAdvicesOf audit.now.model.now audit.now.advices.now }
     requires fits { R.fits rulings.old audit.now.model.now }

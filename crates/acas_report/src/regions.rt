@@ -1,4 +1,4 @@
-//! The report of a box file.
+//! The report of a box file, with rulings from a source of them.
 ghost use Rattle.std.specs.Prelude.{◌≡◌, ◌+◌, ◌<◌, ◌^◌, ℕ, List, [], ◌∷◌, OnOk, OnErr, IfOk, IsErr, IsErrOf, length};
 ghost use Rattle.acas_outside.specs.Bytes.{Appends};
 ghost use Rattle.acas_outside.specs.Frame.{Emits};
@@ -9,18 +9,19 @@ ghost use Rattle.acas_report.specs.Regions.{IsRegionsReport, IsRegionsReportBegu
 use crate::counts::{Counts, ReportFault};
 use crate::lines::{write_box_counts, write_box_line};
 use crate::pen::Pen;
+use crate::rulings::BoxRulings;
 use acas_base::Model;
 use acas_boxes::Boxes;
-use acas_cell::box_verdict;
 use acas_outside::{Failed, Sink};
 use std::alloc::Global;
 
-/// Writes the report of a box file, and answers its counts, with no clear cells. It takes all its memory before the first byte goes
-/// out.
-pub fn write_regions<S: Sink>(
+/// Writes the report of a box file, with rulings from a source of them, and answers its counts, with no clear cells. It takes all its
+/// memory before the first byte goes out.
+pub fn write_regions_by<R: BoxRulings, S: Sink>(
     alloc: Global,
     model: &Model,
     boxes: &Boxes,
+    rulings: &R,
     sink: &mut S,
 ) -> Result<Counts, ReportFault>
     requires { AreBoxesOf model.now boxes.now }
@@ -35,16 +36,17 @@ pub fn write_regions<S: Sink>(
     let Ok(mut pen) = Pen::make(alloc) else {
         return Err(ReportFault::Memory);
     };
-    match write_whole(model, boxes, sink, &mut pen) {
+    match write_whole(model, boxes, rulings, sink, &mut pen) {
         Ok(()) => Ok(pen.counts),
         Err(_) => Err(ReportFault::Sink),
     }
 }
 
 // Writes the lines of all boxes, and then the counts, with a pen that has written and counted nothing.
-fn write_whole<S: Sink>(
+fn write_whole<R: BoxRulings, S: Sink>(
     model: &Model,
     boxes: &Boxes,
+    rulings: &R,
     sink: &mut S,
     pen: &mut Pen,
 ) -> Result<(), Failed>
@@ -62,7 +64,7 @@ fn write_whole<S: Sink>(
 {
     // There is room for the counts, since the number of boxes is one of 32 bits.
     let _ = boxes.len();
-    write_boxes(model, boxes, sink, pen)?;
+    write_boxes(model, boxes, rulings, sink, pen)?;
     let counts = pen.counts;
     write_box_counts(&mut pen.line, &counts);
     pen.end(sink)?;
@@ -70,9 +72,10 @@ fn write_whole<S: Sink>(
 }
 
 // Writes the lines of all boxes.
-fn write_boxes<S: Sink>(
+fn write_boxes<R: BoxRulings, S: Sink>(
     model: &Model,
     boxes: &Boxes,
+    rulings: &R,
     sink: &mut S,
     pen: &mut Pen,
 ) -> Result<(), Failed>
@@ -85,15 +88,16 @@ fn write_boxes<S: Sink>(
     ensures frame { Emits S.Sink sink.old sink.new (IsErr result) }
 {
     for place in 0..boxes.len() {
-        write_box(model, boxes, place, sink, pen)?;
+        write_box(model, boxes, rulings, place, sink, pen)?;
     }
     Ok(())
 }
 
 // Writes the line of a box, and counts it.
-fn write_box<S: Sink>(
+fn write_box<R: BoxRulings, S: Sink>(
     model: &Model,
     boxes: &Boxes,
+    rulings: &R,
     place: u32,
     sink: &mut S,
     pen: &mut Pen,
@@ -107,7 +111,7 @@ fn write_box<S: Sink>(
         (S.written sink.old) pen.old.buffer (S.written sink.new) (place ∷ [])) }
     ensures frame { Emits S.Sink sink.old sink.new (IsErr result) }
 {
-    let ruling = box_verdict(model, boxes.at(place));
+    let ruling = rulings.ruling(model, boxes.at(place));
     pen.counts.count(&ruling);
     write_box_line(&mut pen.line, place, &ruling);
     pen.buffer.print(sink, pen.line.bytes())?;

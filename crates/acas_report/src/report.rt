@@ -1,9 +1,8 @@
-//! The report of an audit.
+//! The report of an audit, with rulings from a source of them.
 ghost use Rattle.std.specs.Prelude.{◌≡◌, ◌+◌, ◌≤◌, ◌^◌, ℕ, List, [], OnOk, OnErr, IfOk, IsErr, IsErrOf};
 ghost use Rattle.acas_base.specs.Advices.{AreAdvicesOf};
 ghost use Rattle.acas_outside.specs.Bytes.{Appends};
 ghost use Rattle.acas_outside.specs.Frame.{Emits};
-ghost use Rattle.acas_cell.specs.Decisions.{AreAuditsDecisions};
 ghost use Rattle.acas_report.specs.Blocks.{ArePrepared};
 ghost use Rattle.acas_report.specs.Report.{IsReport, IsReportBegun};
 
@@ -12,71 +11,11 @@ use crate::cells::write_cells;
 use crate::counts::{Counts, ReportFault, Which};
 use crate::lines::write_counts;
 use crate::pen::Pen;
-use crate::rulings::{OneByOne, Rulings};
+use crate::rulings::Rulings;
 use acas_base::{Advices, Model};
-use acas_cell::{BlockAudit, Decisions};
+use acas_count::Counter;
 use acas_outside::{Failed, Sink};
 use std::alloc::Global;
-
-/// Writes the report of an audit, and answers its counts. It takes all its memory before the first byte goes out.
-pub fn write_report<S: Sink>(
-    alloc: Global,
-    model: &Model,
-    advices: &Advices,
-    sink: &mut S,
-    which: Which,
-) -> Result<Counts, ReportFault>
-    requires { AreAdvicesOf model.now advices.now }
-    ensures report { IfOk result (λ counts. (text : List ℕ)
-        × IsReport model.now advices.now which counts text
-        × Appends (S.written sink.old) (S.written sink.new) text) }
-    ensures part { IsErrOf result ReportFault.Sink →
-        IsReportBegun model.now advices.now which (S.written sink.old) (S.written sink.new) }
-    ensures memory { IsErrOf result ReportFault.Memory → S.written sink.new ≡ S.written sink.old }
-    ensures frame { Emits S.Sink sink.old sink.new (IsErrOf result ReportFault.Sink) }
-{
-    let mut count = Decisions::new();
-    write_report_by(
-        alloc,
-        model,
-        advices,
-        &mut OneByOne,
-        sink,
-        which,
-        &mut count,
-    )
-}
-
-/// Writes the same report, in which whole blocks of cells are decided first, and answers its counts. It takes all its memory before
-/// the first byte goes out: besides that of [`write_report`], four bytes for each cell of one n and present advisory. It counts the
-/// decisions of blocks: with Ok their whole number, and none for want of memory.
-pub fn write_blocks<S: Sink>(
-    alloc: Global,
-    model: &Model,
-    advices: &Advices,
-    sink: &mut S,
-    which: Which,
-    count: &mut Decisions,
-) -> Result<Counts, ReportFault>
-    requires advices { AreAdvicesOf model.now advices.now }
-    requires room { count.old ≤ 2 ^ 63 }
-    ensures report { IfOk result (λ counts. (text : List ℕ)
-        × IsReport model.now advices.now which counts text
-        × Appends (S.written sink.old) (S.written sink.new) text) }
-    ensures part { IsErrOf result ReportFault.Sink →
-        IsReportBegun model.now advices.now which (S.written sink.old) (S.written sink.new) }
-    ensures memory { IsErrOf result ReportFault.Memory → S.written sink.new ≡ S.written sink.old }
-    ensures frame { Emits S.Sink sink.old sink.new (IsErrOf result ReportFault.Sink) }
-    ensures unmoved { IsErrOf result ReportFault.Memory → count.new ≡ count.old }
-    ensures decisions { IfOk result (λ counts. (number : ℕ)
-        × AreAuditsDecisions model.now advices.now number × (count.new ≡ count.old + number)) }
-    ensures rising { count.old ≤ count.new }
-{
-    let Ok(mut audit) = BlockAudit::make(alloc, model) else {
-        return Err(ReportFault::Memory);
-    };
-    write_report_by(alloc, model, advices, &mut audit, sink, which, count)
-}
 
 /// Writes the report of an audit, with rulings from a source of them, and answers its counts. It takes all its memory before the
 /// first byte goes out.
@@ -87,7 +26,7 @@ pub fn write_report_by<R: Rulings, S: Sink>(
     rulings: &mut R,
     sink: &mut S,
     which: Which,
-    count: &mut Decisions,
+    count: &mut Counter<R::Decision>,
 ) -> Result<Counts, ReportFault>
     requires advices { AreAdvicesOf model.now advices.now }
     requires fits { R.fits rulings.old model.now }
@@ -124,7 +63,7 @@ fn write_whole<R: Rulings, S: Sink>(
     rulings: &mut R,
     sink: &mut S,
     pen: &mut Pen,
-    count: &mut Decisions,
+    count: &mut Counter<R::Decision>,
 ) -> Result<(), Failed>
     requires advices { AreAdvicesOf audit.now.model.now audit.now.advices.now }
     requires fits { R.fits rulings.old audit.now.model.now }

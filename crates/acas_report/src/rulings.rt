@@ -1,19 +1,22 @@
-//! Where the rulings of cells come from: each from a verdict of its own, or from blocks of cells that are decided first.
+//! Where rulings come from.
 ghost use Rattle.std.specs.Prelude.{◌≡◌, ◌+◌, ◌<◌, ◌≤◌, ◌^◌, ℕ};
 ghost use Rattle.acas_spec.specs.Model.{ModelData};
 ghost use Rattle.acas_base.specs.Advices.{AdvicesData, AreAdvicesOf};
-ghost use Rattle.acas_cell.specs.Audits.{IsAuditOf};
+ghost use Rattle.acas_cell.specs.Boxes.{IsBoxOf, audited};
 ghost use Rattle.acas_cell.specs.Cells.{IsCellOf};
-ghost use Rattle.acas_cell.specs.Decisions.{AreDecisionsOf, most_decisions};
+ghost use Rattle.acas_cell.specs.DecisionCounts.{most_decisions};
 ghost use Rattle.acas_cell.specs.Order.{cell_of};
-ghost use Rattle.acas_cell.specs.Rulings.{IsRulingOfCell};
-ghost use Rattle.acas_report.specs.Blocks.{IsReady};
+ghost use Rattle.acas_cell.specs.Rulings.{IsRulingOfBox, IsRulingOfCell};
 
 use acas_base::{Advices, Model};
-use acas_cell::{BlockAudit, CellName, Decisions, Ruling, verdict, witness_of};
+use acas_cell::{AuditBox, CellName, Ruling};
+use acas_count::Counter;
 
-/// A source of rulings.
+/// A source of rulings on cells.
 pub trait Rulings {
+    /// The work that is one decision.
+    type Decision;
+
     /// It was made for a model.
     ghost fits: { Self → ModelData → Type 0 };
 
@@ -30,7 +33,7 @@ pub trait Rulings {
         advices: &Advices,
         n: u32,
         present: u8,
-        count: &mut Decisions,
+        count: &mut Counter<Self::Decision>,
     )
         requires fits { fits self.old model.now }
         requires advices { AreAdvicesOf model.now advices.now }
@@ -52,59 +55,11 @@ pub trait Rulings {
         ensures { IsRulingOfCell model.now name.now result };
 }
 
-/// The source that gives each cell a verdict of its own. It decides no block.
-#[derive(Drop)]
-pub struct OneByOne;
-
-impl Rulings for OneByOne {
-    ghost fits = { λ it m. Unit {0} };
-
-    ghost ready = { λ it m n present. Unit {0} };
-
-    ghost takes = { λ m a n present number. number ≡ 0 };
-
-    fn prepare(
-        &mut self,
-        _model: &Model,
-        _advices: &Advices,
-        _n: u32,
-        _present: u8,
-        _count: &mut Decisions,
-    ) {}
-
-    fn ruling(&self, model: &Model, name: &CellName) -> Ruling {
-        verdict(model, name)
-    }
-}
-
-impl Rulings for BlockAudit {
-    ghost fits = { λ it m. IsAuditOf m it };
-
-    ghost ready = { λ it m n present. IsReady m n present it };
-
-    ghost takes = { AreDecisionsOf };
-
-    fn prepare(
-        &mut self,
-        model: &Model,
-        advices: &Advices,
-        n: u32,
-        present: u8,
-        count: &mut Decisions,
-    ) {
-        self.decide(model, advices, n, present, count);
-    }
-
-    fn ruling(&self, model: &Model, name: &CellName) -> Ruling {
-        // Opens the grid: the advice is one of a set's.
-        let _ = model.grid();
-        if self.certified(name.i, name.j, name.k).has(name.advice) {
-            return Ruling::Certified;
-        }
-        if self.reported(name.i, name.j, name.k).has(name.advice) {
-            return Ruling::Reported(witness_of(model, name));
-        }
-        // The advice is tabled at no corner of the cell, and was not decided.
-        verdict(model, name)
-    }
+/// A source of rulings on boxes.
+pub trait BoxRulings {
+    /// The ruling of a box under its advisory. The advisory is one of the model's, and the greatest range and the radius are flown
+    /// within the seconds of a window at the least closing speed.
+    fn ruling(&self, model: &Model, area: &AuditBox) -> Ruling
+        requires { IsBoxOf model.now (audited area.now) }
+        ensures { IsRulingOfBox model.now (audited area.now) result };
 }

@@ -19,7 +19,8 @@ use Rattle.acas_passes.proofs.Ends.{found-contact}
 use Rattle.acas_passes.proofs.Touching.{lasts}
 use Rattle.acas_witness.specs.declared.plan.Plan.{Plan}
 use Rattle.acas_witness.specs.declared.flight.Flight as printed
-use Rattle.acas_witness.specs.Witness.{search_between, IsPlanIn, IsFlightInContact}
+use Rattle.acas_witness.specs.Witness.{search_between, IsFlightInContact}
+use Rattle.acas_witness.specs.FoundPlans.{IsPlanIn}
 use Rattle.acas_witness.specs.Printed.{Prints, hold_part, some_part, flight_fractions}
 use Rattle.acas_witness.proofs.Assembly.{AreParts-append}
 use Rattle.acas_witness.proofs.Portions.{finer}

@@ -1,5 +1,5 @@
 -- The witness: which flight into the puck is printed for an area that is not clear, and that it is one.
-use Rattle.std.specs.Prelude.{◌≡◌, ℕ, ◌*◌, ◌≤◌, unsigned_abs, List, ℤ, pos, ◌*ℤ◌}
+use Rattle.std.specs.Prelude.{◌≡◌, ℕ, unsigned_abs, List, ℤ, pos, ◌*ℤ◌}
 use Rattle.std.specs.List.{All}
 use Rattle.acas_spec.specs.Model.{ModelData}
 use Rattle.acas_frac.specs.Fraction.{Fraction, IsReduced}
@@ -8,16 +8,12 @@ use Rattle.acas_flight.specs.Window.{Times, IsDuring}
 use Rattle.acas_flight.specs.Clear.{Area, EndsInVerticalContact, IsClear, IsEndangeredDuring}
 use Rattle.acas_flight.specs.Extremes.{IsLowExtreme, IsHighExtreme}
 use Rattle.acas_flight.specs.Values.{IsOver}
-use Rattle.acas_passes.specs.Value.{thinnest}
 use Rattle.acas_passes.specs.Flights.{Flight}
-use Rattle.acas_passes.specs.Search.{Search, IsSearch, IsFound, CanMeet, unit}
-use Rattle.acas_region.specs.Limits.{IsEnd}
+use Rattle.acas_passes.specs.Search.{Search, IsFound, unit}
 use Rattle.acas_region.specs.View.{area_of, times_of}
 use Rattle.acas_region.specs.declared.parts.BoxState.{BoxState}
 use Rattle.acas_region.specs.declared.parts.Window.{Window}
 use Rattle.acas_witness.specs.declared.flight.Flight as printed
-use Rattle.acas_witness.specs.declared.plan.Plan.{Plan}
-use Rattle.acas_witness.specs.Plans.{IsPlanOf}
 use Rattle.acas_witness.specs.Printed.{Prints, AreParts, segments_of, flight_fractions}
 
 -- the search of an area under a demand from one time to another
@@ -68,27 +64,3 @@ IsInContactIn m advisory area window f = IsFlightInContact m.half (demand_of m a
 -- the time is one of the window
 abbrev pub IsTimeOf : Window → Fraction → Type 0
 IsTimeOf window time = IsDuring time.den (times_of window) (unsigned_abs time.num)
-
--- ---- plans
-
--- the plan is that of the flight that a search finds
-pub record IsFoundPlan (half : ℕ) (s : Search) (p : Plan) : Type 0 where
-  pub flight : Flight
-  pub found : IsFound half s flight
-  pub point : IsPlanOf (unit s) flight p
-
--- the plan is that of the flight that the search of the area finds
-pub record IsPlanIn (half : ℕ) (a : Demand) (area : Area) (w : Times) (p : Plan) : Type 0 where
-  pub low : Fraction
-  pub high : Fraction
-  pub at_low : IsLowExtreme a area w low
-  pub at_high : IsHighExtreme a area w high
-  pub low_end : IsEnd low
-  pub high_end : IsEnd high
-  pub thick : thinnest ≤ 2 * half
-  pub fine : IsSearch (search_between a area low high)
-  pub can : CanMeet half (search_between a area low high)
-  pub found : IsFoundPlan half (search_between a area low high) p
-
-abbrev pub IsPlanFor : ModelData → ℕ → BoxState → Window → Plan → Type 0
-IsPlanFor m advisory area window p = IsPlanIn m.half (demand_of m advisory) (area_of area) (times_of window) p

@@ -5,6 +5,7 @@
 mod contact;
 mod finding;
 mod flight;
+mod flown;
 mod lasts;
 mod laws;
 mod numbers;

@@ -6,7 +6,7 @@ use acas_frac::Frac;
 use std::cmp::Ordering;
 
 /// The numerator and the denominator, with their bounds.
-pub(crate) fn parts(value: &Frac) -> (i128, i128)
+pub fn parts(value: &Frac) -> (i128, i128)
     ensures num { result.0 ≡ Fraction.num value.now }
     ensures den { result.1 ≡ pos (Fraction.den value.now) }
     ensures bounds { IsFrac value.now }
@@ -15,7 +15,7 @@ pub(crate) fn parts(value: &Frac) -> (i128, i128)
 }
 
 /// The fraction, with what is known of every fraction.
-pub(crate) fn known(value: Frac) -> Frac
+pub fn known(value: Frac) -> Frac
     ensures same { result ≡ value }
     ensures lowest { IsFrac result }
 {
@@ -24,7 +24,7 @@ pub(crate) fn known(value: Frac) -> Frac
 }
 
 /// Whether a value is at most another.
-pub(crate) fn is_at_most(value: &Frac, other: &Frac) -> bool
+pub fn is_at_most(value: &Frac, other: &Frac) -> bool
     ensures { result ≡ int_le (Fraction.num value.now *ℤ pos (Fraction.den other.now)) (Fraction.num other.now *ℤ pos (Fraction.den value.now)) }
 {
     match value.compare(other) {
@@ -35,7 +35,7 @@ pub(crate) fn is_at_most(value: &Frac, other: &Frac) -> bool
 }
 
 /// The number, which is not negative.
-pub(crate) fn natural(value: i64) -> u64
+pub fn natural(value: i64) -> u64
     requires { pos 0 ≤ℤ value }
     ensures { value ≡ pos result }
 {
@@ -43,7 +43,7 @@ pub(crate) fn natural(value: i64) -> u64
 }
 
 /// The product of a numerator and a denominator.
-pub(crate) fn across(num: i128, den: i128) -> i128
+pub fn across(num: i128, den: i128) -> i128
     requires num { unsigned_abs num ≤ 10 ^ 24 }
     requires den { unsigned_abs den ≤ 10 ^ 13 }
     ensures value { result ≡ num *ℤ den }
@@ -53,7 +53,7 @@ pub(crate) fn across(num: i128, den: i128) -> i128
 }
 
 /// The product of two denominators.
-pub(crate) fn common(first: i128, second: i128) -> i128
+pub fn common(first: i128, second: i128) -> i128
     requires first { unsigned_abs first ≤ 10 ^ 13 }
     requires second { unsigned_abs second ≤ 10 ^ 13 }
     ensures value { result ≡ first *ℤ second }

@@ -12,7 +12,7 @@ use acas_units::{GREATEST_CLOSING, GREATEST_DELAY, GREATEST_LIMIT, GREATEST_RATE
 
 /// A number over a denominator.
 #[tactic(auto, using(crate::proofs::Lattices::ratio_reduces))]
-pub(crate) fn ratio(num: i64, den: u64) -> Frac
+pub fn ratio(num: i64, den: u64) -> Frac
     requires some { 0 < den }
     requires den { den ≤ 10 ^ 10 }
     requires num { unsigned_abs num ≤ 10 ^ 18 }
@@ -23,7 +23,7 @@ pub(crate) fn ratio(num: i64, den: u64) -> Frac
 }
 
 /// A whole rate in steps.
-pub(crate) fn rate_steps(rate: i64) -> i64
+pub fn rate_steps(rate: i64) -> i64
     requires { unsigned_abs rate ≤ unsigned_abs GREATEST_RATE }
     ensures value { result ≡ pos RATE_STEPS *ℤ rate }
     ensures size { unsigned_abs result ≤ RATE_STEPS * unsigned_abs GREATEST_RATE }
@@ -33,7 +33,7 @@ pub(crate) fn rate_steps(rate: i64) -> i64
 
 /// A rate of so many steps.
 #[tactic(auto, using(crate::proofs::Lattices::rate_of))]
-pub(crate) fn rate_at(steps: i64) -> Frac
+pub fn rate_at(steps: i64) -> Frac
     requires { unsigned_abs steps ≤ RATE_STEPS * unsigned_abs GREATEST_RATE }
     ensures value { Fraction.num result *ℤ pos RATE_STEPS ≡ steps *ℤ pos (Fraction.den result) }
     ensures rate { IsRate result }
@@ -43,7 +43,7 @@ pub(crate) fn rate_at(steps: i64) -> Frac
 
 /// A pull of so many steps.
 #[tactic(auto, using(crate::proofs::Lattices::pull_of))]
-pub(crate) fn pull_at(steps: u64) -> Frac
+pub fn pull_at(steps: u64) -> Frac
     requires least { PULL_STEPS ≤ steps }
     requires most { steps ≤ GREATEST_LIMIT * PULL_STEPS }
     ensures value { Fraction.num result *ℤ pos PULL_STEPS ≡ pos steps *ℤ pos (Fraction.den result) }
@@ -54,7 +54,7 @@ pub(crate) fn pull_at(steps: u64) -> Frac
 
 /// A hold of so many steps.
 #[tactic(auto, using(crate::proofs::Lattices::hold_of))]
-pub(crate) fn hold_at(steps: u64) -> Frac
+pub fn hold_at(steps: u64) -> Frac
     requires { steps ≤ GREATEST_DELAY * TIME_STEPS }
     ensures value { Fraction.num result *ℤ pos TIME_STEPS ≡ pos steps *ℤ pos (Fraction.den result) }
     ensures hold { IsHold result }
@@ -63,7 +63,7 @@ pub(crate) fn hold_at(steps: u64) -> Frac
 }
 
 /// The number further on the way from one to another, or its end.
-pub(crate) fn place(from: u64, to: u64, number: u64) -> u64
+pub fn place(from: u64, to: u64, number: u64) -> u64
     requires from { from ≤ 10 ^ 18 }
     requires to { to ≤ 10 ^ 18 }
     ensures { result ≡ toward from to number }
@@ -76,7 +76,7 @@ pub(crate) fn place(from: u64, to: u64, number: u64) -> u64
 }
 
 /// The parts of a window's time.
-pub(crate) fn time_parts(time: &Frac) -> (u64, u64)
+pub fn time_parts(time: &Frac) -> (u64, u64)
     requires { IsEnd time.now }
     ensures num { Fraction.num time.now ≡ pos result.0 }
     ensures den { Fraction.den time.now ≡ result.1 }
@@ -101,7 +101,7 @@ fn time_at(steps: u64, den: u64) -> Frac
 }
 
 /// The time of that number on the way from one time to another, in steps.
-pub(crate) fn time_place(from: &Frac, to: &Frac, number: u32) -> Frac
+pub fn time_place(from: &Frac, to: &Frac, number: u32) -> Frac
     requires from { IsEnd from.now }
     requires to { IsEnd to.now }
     ensures over { let unit = PULL_STEPS * (Fraction.den from.now * Fraction.den to.now) in

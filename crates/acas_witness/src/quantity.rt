@@ -5,7 +5,8 @@ ghost use Rattle.acas_passes.specs.Search.{unit};
 ghost use Rattle.acas_witness.specs.Plans.{CanBeFlown, clearance_of};
 ghost use Rattle.acas_witness.specs.Surveys.{IsPointOf, pass_of, search_of};
 
-use crate::plan::{Outcome, Plan, fly, is_under};
+use crate::flown::{fly, is_under};
+use crate::plan::{Outcome, Plan};
 use crate::survey::Survey;
 use acas_passes::Pass;
 

@@ -4,8 +4,8 @@ ghost use Rattle.acas_region.specs.Limits.{IsFlownInTime, IsTime, interval_of};
 ghost use Rattle.acas_witness.specs.Ranges.{IsBoxesRange, IsCellsRange, IsContactOf, IsContactOfBox, IsContactOfCell, IsQuotient, IsRangeOf, IsTimeOfBox, IsTimeOfCell, interval_from};
 
 use crate::flight::{Flight, Witness};
+use crate::flown::time_numbers;
 use crate::numbers::natural;
-use crate::plan::time_numbers;
 use crate::points::ratio;
 use acas_base::Model;
 use acas_frac::Frac;

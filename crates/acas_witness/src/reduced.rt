@@ -38,7 +38,7 @@ fn open_part(part: &Option<Segment>)
 }
 
 /// Opens each fraction of a flight.
-pub(crate) fn open_flight(flight: &Flight)
+pub fn open_flight(flight: &Flight)
     ensures { All IsReduced (flight_fractions flight.now) }
 {
     open(&flight.time);

@@ -4,11 +4,11 @@ ghost use Rattle.acas_frac.specs.Fraction.{Fraction, IsFrac};
 ghost use Rattle.acas_flight.specs.Values.{IsAtMost};
 ghost use Rattle.acas_region.specs.Limits.{IsHold, IsPull, IsRate, IsTime};
 ghost use Rattle.acas_witness.specs.Bends.{IsBend, IsDifference};
-ghost use Rattle.acas_witness.specs.Printed.{AreSegmentsFor, HoldsFor, IsFineBend, IsLeftAfter, IsSignedPull};
+ghost use Rattle.acas_witness.specs.PrintedPlans.{AreSegmentsFor, HoldsFor, IsFineBend, IsLeftAfter, IsSignedPull};
 
 use crate::flight::Segment;
+use crate::flown::rate_numbers;
 use crate::numbers::{across, common, is_at_most, known, parts};
-use crate::plan::rate_numbers;
 use crate::points::ratio;
 use acas_frac::Frac;
 use acas_region::{PULL_PARTS, RATE_PARTS};
@@ -83,7 +83,7 @@ fn toward(rate: &Frac, aim: &Frac, pull: &Frac) -> Frac
 
 /// The segments of an approach that lasts a time: none where that is 0; a level one from the aim; one toward the aim where the time
 /// does not go past the bend; and otherwise that of the bend, and a level one for the rest.
-pub(crate) fn segments_of(
+pub fn segments_of(
     rate: &Frac,
     aim: &Frac,
     pull: &Frac,
@@ -134,7 +134,7 @@ pub(crate) fn segments_of(
 }
 
 /// The hold of a flight that lasts a time, and the time that is left after it.
-pub(crate) fn held_part(time: &Frac, hold: &Frac) -> (Option<Frac>, Frac)
+pub fn held_part(time: &Frac, hold: &Frac) -> (Option<Frac>, Frac)
     requires time { IsTime time.now }
     requires hold { IsHold hold.now }
     ensures parts { HoldsFor time.now hold.now result.0 }

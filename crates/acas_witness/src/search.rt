@@ -105,7 +105,7 @@ fn from_altitude(survey: &Survey) -> Outcome
 }
 
 /// The flight at which all passes end. The low flight is below, and the high flight is not.
-pub(crate) fn through(survey: &Survey) -> Outcome
+pub fn through(survey: &Survey) -> Outcome
     requires first { let low = value (unit (search_of survey.now)) (low_flight (search_of survey.now)) in
         is_below survey.now.half low ≡ true }
     requires last { EndsNotBelow survey.now }

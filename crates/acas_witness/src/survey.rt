@@ -12,7 +12,7 @@ use acas_region::BoxState;
 /// An area under what an advisory asks, with the half height of the puck in ticks, and the times in seconds of the low flight and of
 /// the high flight.
 #[derive(Clone, Copy)]
-pub(crate) struct Survey {
+pub struct Survey {
     pub half: u64,
     pub lo: i64,
     pub hi: i64,

@@ -1,6 +1,6 @@
 use Rattle.std.proofs.Common.{arith}
 use Rattle.std.proofs.lemmas.Int.{ints}
-use Rattle.acas_cell.proofs.Blocks.{rising_between}
+use Rattle.acas_cell.proofs.Spans.{rising_between}
 use Rattle.acas_cell.proofs.areas.between.Goals as goal
 
 pub new-requires : goal.new-requires

@@ -2,8 +2,8 @@ use Rattle.std.proofs.Common.{ℕ, subst, ◌≡◌, ◌+◌, ◌*◌, ◌<◌, 
 use Rattle.acas_spec.specs.Model.{GridData}
 use Rattle.acas_outside.proofs.Appended.{on_err_always}
 use Rattle.acas_cell.specs.Cells.{layer_cells}
-use Rattle.acas_cell.specs.Decisions.{IsSumBelow, most_decisions, no_more}
-use Rattle.acas_cell.proofs.Decided.{one_more_at}
+use Rattle.acas_cell.specs.DecisionCounts.{IsSumBelow, most_decisions, no_more}
+use Rattle.acas_cell.proofs.DecisionCounts.{one_more_at}
 use Rattle.acas_report.specs.Blocks.{IsLayerPrepared}
 use Rattle.acas_report.specs.Plan.{plan_of}
 use Rattle.acas_report.proofs.Steps.{wrote_none, wrote_more, broke_more, room_left}

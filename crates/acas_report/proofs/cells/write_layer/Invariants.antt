@@ -1,7 +1,7 @@
 use Rattle.std.proofs.Common.{◌≡◌, ℕ, ◌+◌, ◌*◌, ◌≤◌}
 use Rattle.acas_outside.specs.Frame.{Emits}
 use Rattle.acas_cell.specs.Cells.{below, block_cells}
-use Rattle.acas_cell.specs.Decisions.{IsSumBelow, most_decisions}
+use Rattle.acas_cell.specs.DecisionCounts.{IsSumBelow, most_decisions}
 use Rattle.acas_report.specs.Plan.{Wrote, plan_of, progress}
 use Rattle.acas_report.proofs.cells.write_layer.Given as goal
 

@@ -10,15 +10,15 @@ use Rattle.acas_report.proofs.regions.write_box.Goals as goal
 
 pub returns-in_err-print-clause-err : goal.returns-in_err-print-clause-err
 returns-in_err-print-clause-err g c =
-    let is : IsRulingAt c.args.model.now c.args.boxes.now c.args.place c.box_verdict-ruling.result =
-    subst (λ (b : AuditedBox). IsRulingOfBox c.args.model.now b c.box_verdict-ruling.result) c.at.ensures c.box_verdict-ruling.ensures in
-    on_err_always _ (broke_name (IsRulingAt c.args.model.now c.args.boxes.now) box_line which.All c.args.place c.box_verdict-ruling.result _ _ _
-    is (broke_shown _ _ _ which.All c.box_verdict-ruling.result _ _ refl (c.bytes.ensures ∙ c.write_box_line.ensures.value) c.in_err-print.ensures.err))
+    let is : IsRulingAt c.args.model.now c.args.boxes.now c.args.place c.ruling-ruling.result =
+    subst (λ (b : AuditedBox). IsRulingOfBox c.args.model.now b c.ruling-ruling.result) c.at.ensures c.ruling-ruling.ensures in
+    on_err_always _ (broke_name (IsRulingAt c.args.model.now c.args.boxes.now) box_line which.All c.args.place c.ruling-ruling.result _ _ _
+    is (broke_shown _ _ _ which.All c.ruling-ruling.result _ _ refl (c.bytes.ensures ∙ c.write_box_line.ensures.value) c.in_err-print.ensures.err))
 
 pub returns-clause-ok : goal.returns-clause-ok
 returns-clause-ok g c =
-    let is : IsRulingAt c.args.model.now c.args.boxes.now c.args.place c.box_verdict-ruling.result =
-    subst (λ (b : AuditedBox). IsRulingOfBox c.args.model.now b c.box_verdict-ruling.result) c.at.ensures c.box_verdict-ruling.ensures in
-    wrote_name (IsRulingAt c.args.model.now c.args.boxes.now) box_line which.All c.args.place c.box_verdict-ruling.result _ _
-    is (prints_shown _ _ _ _ which.All c.box_verdict-ruling.result _ _ refl (c.bytes.ensures ∙ c.write_box_line.ensures.value) c.in_ok-print.ensures.ok)
+    let is : IsRulingAt c.args.model.now c.args.boxes.now c.args.place c.ruling-ruling.result =
+    subst (λ (b : AuditedBox). IsRulingOfBox c.args.model.now b c.ruling-ruling.result) c.at.ensures c.ruling-ruling.ensures in
+    wrote_name (IsRulingAt c.args.model.now c.args.boxes.now) box_line which.All c.args.place c.ruling-ruling.result _ _
+    is (prints_shown _ _ _ _ which.All c.ruling-ruling.result _ _ refl (c.bytes.ensures ∙ c.write_box_line.ensures.value) c.in_ok-print.ensures.ok)
     c.count.ensures.certified c.count.ensures.reported c.count.ensures.clear

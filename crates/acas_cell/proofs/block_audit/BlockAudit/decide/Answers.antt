@@ -3,9 +3,11 @@ use Rattle.acas_spec.specs.Model.{GridData}
 use Rattle.acas_flight.specs.Contact.{IsEndangeredCell}
 use Rattle.acas_cell.specs.Audits.{IsRuledIn, Waits}
 use Rattle.acas_cell.specs.Blocks.{IsBlockOf, all_cells, cells_in}
-use Rattle.acas_cell.specs.Decisions.{AreDecisionsUnder, IsDecidedBy, IsSumBelow}
+use Rattle.acas_cell.specs.DecisionCounts.{IsSumBelow}
+use Rattle.acas_cell.specs.Decisions.{AreDecisionsUnder, IsDecidedBy}
 use Rattle.acas_cell.specs.declared.block.Block.{Block}
-use Rattle.acas_cell.proofs.Decided.{IsDecidedBelow, decided_at_first, decided_next, decided_under, exact_lists, none_at_first, one_more_at, waits_next}
+use Rattle.acas_cell.proofs.Decided.{IsDecidedBelow, decided_at_first, decided_next, decided_under, exact_lists, none_at_first, waits_next}
+use Rattle.acas_cell.proofs.DecisionCounts.{one_more_at}
 use Rattle.acas_cell.proofs.block_audit.BlockAudit.decide.Goals as goal
 
 pub loop-advice-init : goal.loop-advice-init

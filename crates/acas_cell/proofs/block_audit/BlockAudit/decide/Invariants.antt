@@ -1,7 +1,8 @@
 use Rattle.std.proofs.Common.{◌≡◌, ℕ, ◌+◌, ◌*◌, ◌≤◌}
 use Rattle.acas_cell.specs.Audits.{IsAuditOf}
 use Rattle.acas_cell.specs.Blocks.{all_cells, cells_in}
-use Rattle.acas_cell.specs.Decisions.{AreDecisionsUnder, IsSumBelow}
+use Rattle.acas_cell.specs.DecisionCounts.{IsSumBelow}
+use Rattle.acas_cell.specs.Decisions.{AreDecisionsUnder}
 use Rattle.acas_cell.proofs.Decided.{IsDecidedBelow}
 use Rattle.acas_cell.proofs.block_audit.BlockAudit.decide.Given as goal
 

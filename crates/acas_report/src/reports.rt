@@ -1,0 +1,100 @@
+//! The reports of an audit and of a box file, with the rulings of verdicts.
+ghost use Rattle.std.specs.Prelude.{◌≡◌, ◌+◌, ◌≤◌, ◌^◌, ℕ, List, IfOk, IsErrOf};
+ghost use Rattle.acas_base.specs.Advices.{AreAdvicesOf};
+ghost use Rattle.acas_outside.specs.Bytes.{Appends};
+ghost use Rattle.acas_outside.specs.Frame.{Emits};
+ghost use Rattle.acas_cell.specs.Boxes.{AreBoxesOf};
+ghost use Rattle.acas_cell.specs.Decisions.{AreAuditsDecisions};
+ghost use Rattle.acas_report.specs.Regions.{IsRegionsReport, IsRegionsReportBegun};
+ghost use Rattle.acas_report.specs.Report.{IsReport, IsReportBegun};
+
+use crate::counts::{Counts, ReportFault, Which};
+use crate::regions::write_regions_by;
+use crate::report::write_report_by;
+use crate::sources::{ByBlocks, OneByOne};
+use acas_base::{Advices, Model};
+use acas_boxes::Boxes;
+use acas_cell::{BlockAudit, Decisions};
+use acas_outside::Sink;
+use std::alloc::Global;
+
+/// Writes the report of an audit, and answers its counts. It takes all its memory before the first byte goes out.
+pub fn write_report<S: Sink>(
+    alloc: Global,
+    model: &Model,
+    advices: &Advices,
+    sink: &mut S,
+    which: Which,
+) -> Result<Counts, ReportFault>
+    requires { AreAdvicesOf model.now advices.now }
+    ensures report { IfOk result (λ counts. (text : List ℕ)
+        × IsReport model.now advices.now which counts text
+        × Appends (S.written sink.old) (S.written sink.new) text) }
+    ensures part { IsErrOf result ReportFault.Sink →
+        IsReportBegun model.now advices.now which (S.written sink.old) (S.written sink.new) }
+    ensures memory { IsErrOf result ReportFault.Memory → S.written sink.new ≡ S.written sink.old }
+    ensures frame { Emits S.Sink sink.old sink.new (IsErrOf result ReportFault.Sink) }
+{
+    let mut count = Decisions::new();
+    write_report_by(
+        alloc,
+        model,
+        advices,
+        &mut OneByOne,
+        sink,
+        which,
+        &mut count,
+    )
+}
+
+/// Writes the same report, in which whole blocks of cells are decided first, and answers its counts. It takes all its memory before
+/// the first byte goes out: besides that of [`write_report`], four bytes for each cell of one n and present advisory. It counts the
+/// decisions of blocks: with Ok their whole number, and none for want of memory.
+pub fn write_blocks<S: Sink>(
+    alloc: Global,
+    model: &Model,
+    advices: &Advices,
+    sink: &mut S,
+    which: Which,
+    count: &mut Decisions,
+) -> Result<Counts, ReportFault>
+    requires advices { AreAdvicesOf model.now advices.now }
+    requires room { count.old ≤ 2 ^ 63 }
+    ensures report { IfOk result (λ counts. (text : List ℕ)
+        × IsReport model.now advices.now which counts text
+        × Appends (S.written sink.old) (S.written sink.new) text) }
+    ensures part { IsErrOf result ReportFault.Sink →
+        IsReportBegun model.now advices.now which (S.written sink.old) (S.written sink.new) }
+    ensures memory { IsErrOf result ReportFault.Memory → S.written sink.new ≡ S.written sink.old }
+    ensures frame { Emits S.Sink sink.old sink.new (IsErrOf result ReportFault.Sink) }
+    ensures unmoved { IsErrOf result ReportFault.Memory → count.new ≡ count.old }
+    ensures decisions { IfOk result (λ counts. (number : ℕ)
+        × AreAuditsDecisions model.now advices.now number × (count.new ≡ count.old + number)) }
+    ensures rising { count.old ≤ count.new }
+{
+    let Ok(audit) = BlockAudit::make(alloc, model) else {
+        return Err(ReportFault::Memory);
+    };
+    let mut blocks = ByBlocks(audit);
+    write_report_by(alloc, model, advices, &mut blocks, sink, which, count)
+}
+
+/// Writes the report of a box file, and answers its counts, with no clear cells. It takes all its memory before the first byte goes
+/// out.
+pub fn write_regions<S: Sink>(
+    alloc: Global,
+    model: &Model,
+    boxes: &Boxes,
+    sink: &mut S,
+) -> Result<Counts, ReportFault>
+    requires { AreBoxesOf model.now boxes.now }
+    ensures report { IfOk result (λ counts. (text : List ℕ)
+        × IsRegionsReport model.now boxes.now counts text
+        × Appends (S.written sink.old) (S.written sink.new) text) }
+    ensures part { IsErrOf result ReportFault.Sink →
+        IsRegionsReportBegun model.now boxes.now (S.written sink.old) (S.written sink.new) }
+    ensures memory { IsErrOf result ReportFault.Memory → S.written sink.new ≡ S.written sink.old }
+    ensures frame { Emits S.Sink sink.old sink.new (IsErrOf result ReportFault.Sink) }
+{
+    write_regions_by(alloc, model, boxes, &OneByOne, sink)
+}

@@ -1,0 +1,83 @@
+//! Rulings by verdicts: each cell and each box by one of its own, or cells by blocks that are decided first.
+ghost use Rattle.std.specs.Prelude.{◌≡◌};
+ghost use Rattle.acas_cell.specs.Audits.{IsAuditOf};
+ghost use Rattle.acas_cell.specs.Decisions.{AreDecisionsOf};
+ghost use Rattle.acas_report.specs.Ready.{IsReady};
+
+use crate::rulings::{BoxRulings, Rulings};
+use acas_base::{Advices, Model};
+use acas_cell::{
+    AuditBox, BlockAudit, CellName, DecidedBlock, Decisions, Ruling, box_verdict, verdict,
+    witness_of,
+};
+
+/// The source that gives each cell and each box a verdict of its own. It decides no block.
+#[derive(Drop)]
+pub struct OneByOne;
+
+impl Rulings for OneByOne {
+    type Decision = DecidedBlock;
+
+    ghost fits = { λ it m. Unit {0} };
+
+    ghost ready = { λ it m n present. Unit {0} };
+
+    ghost takes = { λ m a n present number. number ≡ 0 };
+
+    fn prepare(
+        &mut self,
+        _model: &Model,
+        _advices: &Advices,
+        _n: u32,
+        _present: u8,
+        _count: &mut Decisions,
+    ) {}
+
+    fn ruling(&self, model: &Model, name: &CellName) -> Ruling {
+        verdict(model, name)
+    }
+}
+
+impl BoxRulings for OneByOne {
+    fn ruling(&self, model: &Model, area: &AuditBox) -> Ruling {
+        box_verdict(model, area)
+    }
+}
+
+/// The source that decides whole blocks of cells first, and takes the rulings of cells from what was decided.
+#[derive(Drop)]
+pub struct ByBlocks(pub BlockAudit);
+
+impl Rulings for ByBlocks {
+    type Decision = DecidedBlock;
+
+    ghost fits = { λ it m. IsAuditOf m it.0 };
+
+    ghost ready = { λ it m n present. IsReady m n present it.0 };
+
+    ghost takes = { AreDecisionsOf };
+
+    fn prepare(
+        &mut self,
+        model: &Model,
+        advices: &Advices,
+        n: u32,
+        present: u8,
+        count: &mut Decisions,
+    ) {
+        self.0.decide(model, advices, n, present, count);
+    }
+
+    fn ruling(&self, model: &Model, name: &CellName) -> Ruling {
+        // Opens the grid: the advice is one of a set's.
+        let _ = model.grid();
+        if self.0.certified(name.i, name.j, name.k).has(name.advice) {
+            return Ruling::Certified;
+        }
+        if self.0.reported(name.i, name.j, name.k).has(name.advice) {
+            return Ruling::Reported(witness_of(model, name));
+        }
+        // The advice is tabled at no corner of the cell, and was not decided.
+        verdict(model, name)
+    }
+}
