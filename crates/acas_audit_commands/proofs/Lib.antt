@@ -1,4 +1,3 @@
 mod Decisions
 mod Files
-pub mod Verdicts
 pub mod Worth

@@ -16,8 +16,8 @@ use Rattle.acas_boxes.specs.Whole.{boxes_of}
 use Rattle.acas_boxes.proofs.Pass.{understood}
 use Rattle.acas_boxes.proofs.Read.{said}
 use Rattle.acas_report.specs.declared.counts.Which.{Which}
-use Rattle.acas_command.specs.Answers.{Agrees, Answers, Completes}
-use Rattle.acas_command.specs.Called.{Called, MayPrint}
+use Rattle.acas_command.specs.Answers.{Agrees, Answers}
+use Rattle.acas_command.specs.Called.{MayPrint}
 use Rattle.acas_command.specs.Calls.{with_input_file}
 use Rattle.acas_command.proofs.Inputs.{rejected-input_file, with_input_file-read}
 use Rattle.acas_command.specs.Outcome.{Outcome, prints, report_cause}
@@ -26,19 +26,15 @@ use Rattle.acas_command.specs.declared.status.Cause.{Cause}
 use Rattle.acas_command.specs.declared.status.Cause.TheVariants.{Input, Table as Refused}
 use Rattle.acas_command.specs.declared.status.FileRole.TheVariants.{Boxes as BoxesFile}
 use Rattle.acas_command.proofs.Behind.{told-map}
-use Rattle.acas_command.proofs.Printing.{by_printing}
+use Rattle.acas_command.proofs.Completed.{completed}
 use Rattle.acas_command.proofs.Refused.{IsNoFileCause, behind-model, not_refused}
 use Rattle.acas_command.proofs.Reports.{IsPrinted, report-may_print, report-printed, report-refused}
 use Rattle.acas_command.proofs.Says.{file-says, read-model, says-model}
 use Rattle.acas_table_file.proofs.Files.{read-table, rejects-table, tells-advices}
 use Rattle.acas_audit_commands.specs.Calls.{CallsForAudit, CallsForRegions, IsAuditBegun, IsAuditText, IsRegionsBegun, IsRegionsText, audit_looks_at, regions_looks_at}
-use Rattle.acas_audit_commands.proofs.Verdicts.{report-of, verdict, verdicts}
-use Rattle.acas_audit_commands.specs.Worth.{AuditIsWorth, IsVerdictOnBox, PrintsAudit, PrintsRegions, RegionsIsWorth, RejectsBoxes}
-
--- a command whose cause may print was completed
-pub completed : (called : Called) (files : Files) (cause : Cause) (before after : Outside) → MayPrint cause → Agrees called files cause before after → Completes called files cause before after
-completed called files cause before after prints a =
-    by_printing (λ c. Agrees called files c before after → Completes called files c before after) cause prints (λ done. done) (λ reported. reported) a
+use Rattle.acas_report.proofs.Verdicts.{report-of, verdict, verdicts}
+use Rattle.acas_audit_commands.specs.Worth.{AuditIsWorth, PrintsAudit, PrintsRegions, RegionsIsWorth, RejectsBoxes}
+use Rattle.acas_report.specs.Verdicts.{IsVerdictOnBox}
 
 -- ---- audits
 

@@ -11,17 +11,12 @@ use Rattle.acas_outside.specs.Files.{Files}
 use Rattle.acas_outside.specs.Outside.{Outside}
 use Rattle.acas_accept.specs.Accepted.{IsAcceptedTable}
 use Rattle.acas_input.specs.declared.fault.InputFault.{InputFault}
-use Rattle.acas_flight.specs.Contact.{IsEndangered}
-use Rattle.acas_flight.specs.State.{IsInBox, IsInCell, State}
-use Rattle.acas_cell.specs.Boxes.{AuditedBox, box_at}
+use Rattle.acas_cell.specs.Boxes.{AuditedBox}
 use Rattle.acas_cell.specs.Corners.{advisory_cells}
-use Rattle.acas_cell.specs.Rulings.{ShowsDanger}
-use Rattle.acas_cell.specs.declared.name.CellName.{CellName}
-use Rattle.acas_cell.specs.declared.ruling.Ruling.{Ruling}
-use Rattle.acas_cell.specs.declared.ruling.Ruling.TheVariants.{Certified, Reported}
 use Rattle.acas_boxes.specs.Text.{IsBoxesText}
 use Rattle.acas_report.specs.Regions.{places, regions_text}
 use Rattle.acas_report.specs.Report.{IsReportOn, clear_cells, report_text}
+use Rattle.acas_report.specs.Verdicts.{IsVerdictOnBox, IsVerdictOnCell}
 use Rattle.acas_report.specs.declared.counts.Counts.{Counts}
 use Rattle.acas_report.specs.declared.counts.Which.{Which}
 use Rattle.acas_table.specs.declared.refusal.TableRefusal.{TableRefusal}
@@ -32,19 +27,6 @@ use Rattle.acas_command.specs.Worth.{IsNotRefused}
 use Rattle.acas_command.specs.declared.status.Cause.{Cause}
 use Rattle.acas_command.specs.declared.status.Cause.TheVariants.{Input, Table as Refused}
 use Rattle.acas_table_file.specs.Worth.{RejectsTable, TellsAdvices}
-
--- certified: the set of states is not endangered under the advisory; reported: the witness shows that it is
-abbrev pub IsVerdict : ModelData → ℕ → (ℕ → State → Type 0) → Ruling → Type 0
-IsVerdict m advisory IsIn Certified = ¬ IsEndangered m advisory IsIn
-IsVerdict m advisory IsIn (Reported w) = ShowsDanger m advisory IsIn w
-
--- of a cell under an advice
-abbrev pub IsVerdictOnCell : ModelData → CellName → Ruling → Type 0
-IsVerdictOnCell m name ruling = IsVerdict m name.advice (IsInCell m name.n name.i name.j name.k) ruling
-
--- of the box at a place
-abbrev pub IsVerdictOnBox : ModelData → List AuditedBox → ℕ → Ruling → Type 0
-IsVerdictOnBox m said place ruling = IsVerdict m (box_at said place).advisory (IsInBox (box_at said place).states) ruling
 
 -- M says a model, T is the text of a table of it whose entries are all sound, and what was printed is a report of that table's advices:
 -- each of its advisory cells is ruled on, in order. The cause says whether one is reported.

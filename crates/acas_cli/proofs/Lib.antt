@@ -1,4 +1,4 @@
-mod KnownForms
+pub mod KnownForms
 mod OtherWords
 mod TwoRuns
 mod NeverWords

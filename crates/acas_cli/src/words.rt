@@ -3,8 +3,8 @@ ghost use Rattle.std.specs.Prelude.{◌≡◌, ◌∷◌, [], map, string_bytes}
 ghost use Rattle.acas_cli.specs.Forms.{HasForm};
 ghost use Rattle.acas_cli.specs.Words.{are_apart, are_file_names, form_of, is_file_name};
 
-use acas_audit_commands::Which;
 use acas_drill::drill_number;
+use acas_report::Which;
 use acas_units::FILE_NAME_BYTES;
 
 /// A command, with the names of its files, which lines an audit prints, and the number of a drill.

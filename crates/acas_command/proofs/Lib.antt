@@ -1,6 +1,7 @@
 mod Digits
 mod Lines
 pub mod Printing
+pub mod Completed
 pub mod Behind
 pub mod Files
 pub mod Refused

@@ -1,5 +1,5 @@
 mod SteppedAxes
-mod WithinLimits
+pub mod WithinLimits
 pub mod Words
 mod Tables
 pub mod Worth

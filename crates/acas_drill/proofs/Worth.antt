@@ -19,8 +19,8 @@ use Rattle.acas_command.proofs.Behind.{told-map}
 use Rattle.acas_command.proofs.Refused.{not_refused}
 use Rattle.acas_command.proofs.Reports.{IsPrinted, report-may_print, report-printed}
 use Rattle.acas_report.specs.declared.counts.Which.TheVariants.{All}
-use Rattle.acas_audit_commands.proofs.Verdicts.{verdicts}
-use Rattle.acas_audit_commands.proofs.Worth.{completed}
+use Rattle.acas_report.proofs.Verdicts.{verdicts}
+use Rattle.acas_command.proofs.Completed.{completed}
 use Rattle.acas_drill.specs.Calls.{CallsForDrill, EndsDrill, IsDrillBegun, IsDrillText}
 use Rattle.acas_drill.specs.DrilledModel.{drilled_model}
 use Rattle.acas_drill.specs.Worth.{DrillIsWorth, PrintsDrill}

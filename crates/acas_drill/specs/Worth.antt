@@ -21,7 +21,7 @@ use Rattle.acas_command.specs.Outcome.{report_cause}
 use Rattle.acas_command.specs.Worth.{IsNotRefused}
 use Rattle.acas_command.specs.declared.status.Cause.{Cause}
 use Rattle.acas_table_file.specs.Worth.{AreTabled}
-use Rattle.acas_audit_commands.specs.Worth.{IsVerdictOnCell}
+use Rattle.acas_report.specs.Verdicts.{IsVerdictOnCell}
 use Rattle.acas_drill.specs.Calls.{EndsDrill}
 use Rattle.acas_drill.specs.DrilledModel.{drilled_model}
 use Rattle.acas_drill.specs.Text.{drill_text}

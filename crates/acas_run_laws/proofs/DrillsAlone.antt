@@ -9,7 +9,7 @@ use Rattle.acas_command.specs.Outcome.{prints}
 use Rattle.acas_command.specs.declared.status.Cause.{Cause}
 use Rattle.acas_command.specs.declared.status.Cause.TheVariants.{Output}
 use Rattle.acas_command.proofs.Reports.{IsPrinted, report-printed}
-use Rattle.acas_audit_commands.proofs.Worth.{completed}
+use Rattle.acas_command.proofs.Completed.{completed}
 use Rattle.acas_drill.specs.Calls.{CallsForDrill, IsDrillBegun, IsDrillText}
 use Rattle.acas_cli.specs.Calls.{AnswersDrill}
 

@@ -6,7 +6,7 @@ ghost use Rattle.acas_cell.specs.Boxes.{AuditedBox, box_at};
 ghost use Rattle.acas_cell.specs.declared.name.CellName.{CellName};
 ghost use Rattle.acas_cell.specs.declared.ruling.Ruling.TheVariants.{Certified, Reported};
 ghost use Rattle.acas_witness.specs.declared.flight.Witness.{Witness};
-ghost use Rattle.acas_audit_commands.specs.Worth.{IsVerdictOnBox, IsVerdictOnCell};
+ghost use Rattle.acas_report.specs.Verdicts.{IsVerdictOnBox, IsVerdictOnCell};
 
 /// A cell that is certified is not endangered, and one that is reported is. So is a box.
 pub fn verdicts_tell_danger()

@@ -1,6 +1,6 @@
 use Rattle.std.proofs.Common.{ap, sym, ◌∙◌}
 use Rattle.std.specs.Io.KnownBytes.{append_known}
-use Rattle.acas_audit_commands.proofs.Worth.{completed}
+use Rattle.acas_command.proofs.Completed.{completed}
 use Rattle.acas_cli.specs.Calls.{CallsFor}
 use Rattle.acas_run_laws.proofs.Causes.{agrees-form, may_print-code}
 use Rattle.acas_run_laws.proofs.EndedRuns.{ended-as}
