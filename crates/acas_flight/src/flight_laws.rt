@@ -1,22 +1,16 @@
 //! Laws of flights under an advisory: cuts, bounds, windows, dangers and extremes. The functions do nothing: each clause is a law.
-ghost use Rattle.std.specs.Prelude.{◌≡◌, ℕ, ◌+◌, ◌-◌, ◌*◌, ◌<◌, ◌≤◌, ◌↔◌, ℤ, pos, ◌*ℤ◌, ◌≤ℤ◌, List, [], ◌∷◌};
+ghost use Rattle.std.specs.Prelude.{◌≡◌, ℕ, ◌-◌, ◌*◌, ◌<◌, ◌≤◌, ◌↔◌, ℤ, pos, ◌*ℤ◌, ◌≤ℤ◌, List, [], ◌∷◌};
 ghost use Rattle.acas_frac.specs.Fraction.{Fraction};
 ghost use Rattle.acas_spec.specs.Limits.{IsModel};
 ghost use Rattle.acas_spec.specs.Model.{ModelData};
 ghost use Rattle.acas_flight.specs.Response.{Demand, Meets, Segment, climb, demand_of, lasting, scaled};
-ghost use Rattle.acas_flight.specs.State.{Box, Interval, IsInBox, IsInCell, State};
+ghost use Rattle.acas_flight.specs.State.{Box, IsInBox, IsInCell, State};
 ghost use Rattle.acas_flight.specs.Contact.{IsEndangeredBox, IsEndangeredCell, IsInContact};
 ghost use Rattle.acas_flight.specs.Parts.{CanBeMet, finer, until};
-ghost use Rattle.acas_flight.specs.Curves.{held, high_pull, highest, low_pull, lowest};
-ghost use Rattle.acas_flight.specs.Window.{IsContactTimeOfBox, IsContactTimeOfCell, IsDuring, IsWindowOfBox, IsWindowOfCell, Times};
+ghost use Rattle.acas_flight.specs.Curves.{high_pull, highest, low_pull, lowest};
+ghost use Rattle.acas_flight.specs.Window.{IsDuring, IsWindowOfBox, IsWindowOfCell, Times};
 ghost use Rattle.acas_flight.specs.Clear.{Area, IsClear, IsEndangeredDuring, area_of_box, area_of_cell};
 ghost use Rattle.acas_flight.specs.Extremes.{IsHighExtreme, IsLowExtreme};
-
-/// What an advisory of a model asks can be met, in numbers over every denominator.
-pub fn advisories_can_be_met()
-    ensures { (m : ModelData) (advisory q : ℕ) → IsModel m → advisory < m.grid.advisories → 0 < q →
-        CanBeMet (scaled q (demand_of m advisory)) }
-{}
 
 /// A response that is cut at a time has the segments before it whole, and of the one at it the part before. It lasts that time, and
 /// where the response meets an advisory it meets it.
@@ -49,25 +43,6 @@ pub fn curves_bound_climbs()
         lowest a v t ≤ℤ (climb v (until t response) *ℤ pos (low_pull a v)) }
     ensures high { (a : Demand) (v : ℤ) (response : List Segment) (t : ℕ) → CanBeMet a → Meets a v response → t ≤ lasting response →
         (climb v (until t response) *ℤ pos (high_pull a v)) ≤ℤ highest a v t }
-{}
-
-/// Holding longer never helps: a curve that rises to its aim is no higher at any time after a longer hold, and one that falls to it
-/// is no lower.
-pub fn holding_longer_never_helps()
-    ensures rising { (v k : ℤ) (b g longer t : ℕ) → v ≤ℤ k → g ≤ longer → held v k b longer t ≤ℤ held v k b g t }
-    ensures falling { (v k : ℤ) (b g longer t : ℕ) → k ≤ℤ v → g ≤ longer → held v k b g t ≤ℤ held v k b longer t }
-{}
-
-/// The times of horizontal contact in numbers. Those of a cell of n seconds go from n to n + 1 and the time through the puck at the
-/// least closing speed. Those of a box go from when the least range comes within the radius at the greatest closing speed to when
-/// the greatest range leaves it at the least.
-pub fn windows_in_numbers()
-    ensures cells { (m : ModelData) (n q t : ℕ) → IsModel m → 0 < q → let slow = m.least_closing in
-        ((n * q ≤ t) × (slow * t ≤ slow * ((n + 1) * q) + 2 * m.radius * q)) ↔ IsContactTimeOfCell m n q t }
-    ensures boxes { (radius near far slow fast q t : ℕ) → 0 < q → near ≤ far → slow ≤ fast →
-        let ranges : Interval = record { least = pos near; greatest = pos far } in
-        let speeds : Interval = record { least = pos slow; greatest = pos fast } in
-        (((near - radius) * q ≤ t * fast) × (t * slow ≤ (far + radius) * q)) ↔ IsContactTimeOfBox radius ranges speeds q t }
 {}
 
 /// A cell is endangered exactly where the area of its corners is endangered during its window, and so is a box.

@@ -1,7 +1,7 @@
 use Rattle.std.proofs.Common.{refl, arith, pos}
 use Rattle.acas_flight.proofs.Windows.{window_of_cell}
 use Rattle.acas_flight.proofs.BoxWindows.{window_of_box}
-use Rattle.acas_flight.proofs.flight_laws.windows_in_numbers.Goals as goal
+use Rattle.acas_flight.proofs.curve_laws.windows_in_numbers.Goals as goal
 
 pub returns : goal.returns
 returns c = record {
