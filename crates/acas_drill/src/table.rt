@@ -14,7 +14,7 @@ use acas_base::Advices;
 use acas_command::ModelFile;
 use acas_outside::MemoryFolder;
 use acas_plane::Turned;
-use acas_step::{Backups, Stencils};
+use acas_step::{Backups, StencilMeans};
 use acas_table::TableWriter;
 use acas_table_commands::{SweepRoom, store_swept};
 use std::alloc::{AllocError, Global};
@@ -77,7 +77,7 @@ fn accepted_advices(
 {
     // Opens the model's limits: the compiled table of such a model is accepted.
     let _ = found.model.grid();
-    match accept::<Stencils, MemoryFolder>(alloc, &found.model, &found.digest, folder, TABLE) {
+    match accept::<StencilMeans, MemoryFolder>(alloc, &found.model, &found.digest, folder, TABLE) {
         Ok(advices) => Ok(advices),
         // No read of such a folder is listed to fail.
         Err(AcceptFault::Failed | AcceptFault::Memory) => Err(AllocError),

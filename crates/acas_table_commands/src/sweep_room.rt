@@ -8,14 +8,14 @@ ghost use Rattle.acas_table_commands.specs.SweepRoom.{IsRoomFor};
 
 use acas_base::Model;
 use acas_plane::{PlaneBlock, Turned};
-use acas_step::{Backups, Stencils};
+use acas_step::{Backups, LayerMeans, StencilMeans};
 use acas_sweep::{LayerSink, SweepFault, backups_are_few, sweep};
 use std::alloc::{AllocError, Global};
 
-/// What a sweep of a model takes: its stencils, a block of two planes, and a byte for the advice of each state.
+/// What a sweep of a model takes: what forms its means, a block of two planes, and a byte for the advice of each state.
 #[derive(Drop)]
 pub struct SweepRoom {
-    pub(crate) stencils: Stencils,
+    pub(crate) means: StencilMeans,
     pub(crate) block: PlaneBlock,
     pub(crate) advice: Vec<u8>,
 }
@@ -26,11 +26,11 @@ impl SweepRoom {
         ensures { IfOk result (λ room. IsRoomFor model.now room) }
     {
         let states = model.grid().states();
-        let stencils = Stencils::make(alloc, model)?;
+        let means = StencilMeans::make(alloc, model)?;
         let block = PlaneBlock::make(alloc, states)?;
         let advice = vec![in alloc; 0u8; states as usize]?;
         Ok(SweepRoom {
-            stencils,
+            means,
             block,
             advice,
         })
@@ -67,7 +67,7 @@ pub(crate) fn sweep_to<S: LayerSink>(
     backups_are_few();
     sweep(
         model,
-        &room.stencils,
+        &room.means,
         &mut room.block,
         &mut room.advice,
         rows,
