@@ -14,7 +14,7 @@ use acas_base::Advices;
 use acas_command::ModelFile;
 use acas_outside::MemoryFolder;
 use acas_plane::Turned;
-use acas_step::{Backups, Stencils};
+use acas_step::{Backups, LayerMeans, StencilMeans};
 use acas_table::TableWriter;
 use acas_table_commands::{SweepRoom, store_swept};
 use std::alloc::{AllocError, Global};
@@ -36,7 +36,7 @@ pub(crate) fn drill_table(alloc: Global, found: &ModelFile) -> Result<DrillTable
     ensures fits { IfOk result (λ table. AreAdvicesOf found.now.model table.advices) }
     ensures tabled { IfOk result (λ table. AreTabled found.now.model (compiled found.now.model) table.advices) }
 {
-    let stencils = Stencils::make(alloc, &found.model)?;
+    let means = StencilMeans::make(alloc, &found.model)?;
     let mut room = SweepRoom::make(alloc, &found.model)?;
     let writer = TableWriter::new(alloc, &found.model, &found.digest)?;
     let mut folder = new_folder(alloc)?;
@@ -45,7 +45,7 @@ pub(crate) fn drill_table(alloc: Global, found: &ModelFile) -> Result<DrillTable
     let mut turned = Turned::new();
     let Ok(bytes) = store_swept(
         found,
-        &stencils,
+        &means,
         &mut room,
         writer,
         &mut folder,
@@ -79,7 +79,7 @@ fn accepted_advices(
 {
     // Opens the model's limits: the compiled table of such a model is accepted.
     let _ = found.model.grid();
-    match accept::<Stencils, MemoryFolder>(alloc, &found.model, &found.digest, folder, TABLE) {
+    match accept::<StencilMeans, MemoryFolder>(alloc, &found.model, &found.digest, folder, TABLE) {
         Ok(advices) => Ok(advices),
         // No read of such a folder is listed to fail.
         Err(AcceptFault::Failed | AcceptFault::Memory) => Err(AllocError),

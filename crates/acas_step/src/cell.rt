@@ -34,20 +34,20 @@ enum End {
     Upper,
 }
 
-// The cell of an axis that holds a number, and the weights of its two ends there: the distance to the other end.
+/// The cell of an axis that holds a number, and the weights of its two ends there: the distance to the other end.
 #[derive(Clone, Copy)]
-pub(crate) struct Ends {
-    pub(crate) cell: u32,
-    pub(crate) lower: u64,
-    pub(crate) upper: u64,
+pub struct Ends {
+    pub cell: u32,
+    pub lower: u64,
+    pub upper: u64,
 }
 
-// The ends on the three axes.
+/// The ends on the three axes.
 #[derive(Clone, Copy)]
-pub(crate) struct Cell {
-    pub(crate) h: Ends,
-    pub(crate) v0: Ends,
-    pub(crate) v1: Ends,
+pub struct Cell {
+    pub h: Ends,
+    pub v0: Ends,
+    pub v1: Ends,
 }
 
 // The ends of the cell that begins at a place.

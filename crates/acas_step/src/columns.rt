@@ -12,7 +12,6 @@ ghost use Rattle.acas_step.specs.declared.layer.Side.{Side};
 use crate::column_sums::fill_sums;
 use crate::grid_columns::vertex_in_column;
 use crate::layer::Side;
-use crate::layer_means::LayerMeans;
 use crate::means::{ColumnMeans, VertexMeans, advisory_count};
 use crate::narrow_means::means_of_sums;
 use crate::raised::{Raised, SideColumn};
@@ -24,7 +23,6 @@ use crate::stencils::Stencils;
 use acas_base::Model;
 use acas_frac::{Down, Up};
 use acas_units::{GREATEST_ADVISORIES, GREATEST_VERTICES, Pair};
-use std::alloc::{AllocError, Global};
 
 // What the means of a column under an advisory are taken from.
 #[derive(Clone, Copy)]
@@ -241,24 +239,5 @@ pub fn fill_column(
             model, stencils, reach, column, &changes, advisory, source, below, &uppers, &lowers,
             means,
         );
-    }
-}
-
-impl LayerMeans for Stencils {
-    ghost fits = { λ stencils m. AreStencilsOf m stencils };
-
-    fn make(alloc: Global, model: &Model) -> Result<Stencils, AllocError> {
-        Stencils::make(alloc, model)
-    }
-
-    fn fill_column(
-        &self,
-        model: &Model,
-        reach: Reach,
-        column: u32,
-        below: &[Pair],
-        means: &mut ColumnMeans,
-    ) {
-        fill_column(model, self, reach, column, below, means);
     }
 }

@@ -6,8 +6,8 @@ ghost use Rattle.acas_step.specs.Divisor.{IsDivisor};
 /// A divisor above 0, with the number of its binary digits below the highest one, and how often it goes into the greatest number of
 /// 64 digits more than these.
 #[derive(Clone, Copy, Debug)]
-pub(crate) struct Divisor {
-    pub(crate) by: u64,
+pub struct Divisor {
+    pub by: u64,
     multiplier: u64,
     shift: u8,
 }
@@ -21,7 +21,7 @@ fn upper_half(x: u64, y: u64) -> u64
 
 impl Divisor {
     /// The divisor of this size.
-    pub(crate) fn new(by: u64) -> Divisor
+    pub fn new(by: u64) -> Divisor
         requires { 0 < by }
         ensures divisor { IsDivisor result }
         ensures by { result.by ≡ by }
@@ -36,7 +36,7 @@ impl Divisor {
     }
 
     /// The quotient of a number by the divisor, rounded down.
-    pub(crate) fn down(self, x: u64) -> u64
+    pub fn down(self, x: u64) -> u64
         requires divisor { IsDivisor self }
         requires room { x < 2 ^ 63 }
         ensures { result ≡ x / self.by }
@@ -45,7 +45,7 @@ impl Divisor {
     }
 
     /// The quotient of a number by the divisor, rounded up.
-    pub(crate) fn up(self, x: u64) -> u64
+    pub fn up(self, x: u64) -> u64
         requires divisor { IsDivisor self }
         requires room { x + self.by ≤ 2 ^ 63 }
         ensures { result ≡ (x + (self.by - 1)) / self.by }

@@ -12,14 +12,14 @@ use acas_units::Pair;
 /// What is found of a layer before its means are formed.
 #[derive(Clone, Copy, Debug, PartialEq, Eq)]
 pub struct Reach {
-    // No value of the layer is larger, up or down, in millionths.
-    pub(crate) size: u64,
+    /// No value of the layer is larger, up or down, in millionths.
+    pub size: u64,
 
-    // Sums of values by weights that are this in all, or less, have 64 bits.
-    pub(crate) widest: u64,
+    /// Sums of values by weights that are this in all, or less, have 64 bits.
+    pub widest: u64,
 
-    // For each advisory the first one under which the layer has the same pairs.
-    pub(crate) likes: Likes,
+    /// For each advisory the first one under which the layer has the same pairs.
+    pub likes: Likes,
 }
 
 // The least and the greatest of 0 and some values, of both sides.

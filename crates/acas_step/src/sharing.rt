@@ -14,7 +14,7 @@ use acas_base::Model;
 use acas_units::{GREATEST_ADVISORIES, Pair};
 
 /// For each advisory by its number the first one under which a layer has the same pairs.
-pub(crate) type Likes = [u8; GREATEST_ADVISORIES as usize];
+pub type Likes = [u8; GREATEST_ADVISORIES as usize];
 
 /// How much the pilot changes an own rate within a second, under each advisory by its number, in ft/min.
 pub(crate) type Changes = [i64; GREATEST_ADVISORIES as usize];

@@ -35,10 +35,10 @@ pub(crate) struct Stencil {
 
 /// The cell of a stencil in units, the number of its lower corner, and its whole weight as a divisor.
 #[derive(Clone, Copy)]
-pub(crate) struct UnitCell {
-    pub(crate) cell: Cell,
-    pub(crate) base: u32,
-    pub(crate) divisor: Divisor,
+pub struct UnitCell {
+    pub cell: Cell,
+    pub base: u32,
+    pub divisor: Divisor,
 }
 
 /// The stencils of a model: for each advisory, vertex and sigma point the cell that a second leads to, and where in it. With them
@@ -48,7 +48,8 @@ pub struct Stencils {
     stencils: Vec<Stencil>,
     units: Units,
     cells: Vec<VertexCell>,
-    pub(crate) total: Divisor,
+    /// The whole weight of the sigma points.
+    pub total: Divisor,
 }
 
 // The stencil of a cell that holds a point, in units of 1.
@@ -306,8 +307,8 @@ impl Stencils {
         cell_of_stencil(grid, self.units, stencil)
     }
 
-    // The same in units, with no division.
-    pub(crate) fn unit_cell(&self, model: &Model, vertex: u32, advisory: u8, sigma: u32) -> UnitCell
+    /// The cell in units to which a sigma point leads from a vertex within a second under an advisory, with no division.
+    pub fn unit_cell(&self, model: &Model, vertex: u32, advisory: u8, sigma: u32) -> UnitCell
         requires stencils { AreStencilsOf model.now self.now }
         requires horizon { 0 < model.now.grid.horizon }
         requires vertex { vertex < vertices model.now.grid }
@@ -321,9 +322,9 @@ impl Stencils {
         unit_cell_of(model.grid(), self.units, above, stencil)
     }
 
-    // The cell in units to which a sigma point leads from a vertex within a second under an advisory, where the rates are in a cell
-    // that is known.
-    pub(crate) fn cell_at_rates(
+    /// The cell in units to which a sigma point leads from a vertex within a second under an advisory, where the rates are in a cell
+    /// that is known.
+    pub fn cell_at_rates(
         &self,
         model: &Model,
         vertex: u32,

@@ -15,7 +15,7 @@ use acas_command::{Cause, put_count, put_text, read_model_file};
 use acas_grid::Grid;
 use acas_outside::{Folder, Sink, emit};
 use acas_plane::Turned;
-use acas_step::{Backups, Stencils};
+use acas_step::{Backups, LayerMeans, StencilMeans};
 use acas_table::TableWriter;
 use acas_units::Line;
 use std::alloc::Global;
@@ -45,12 +45,12 @@ pub fn compile<F: Folder, O: Sink>(
     ensures work { CountsSweep model.now (F.holds folder.old) (ended result) backups.old backups.new turned.old turned.new }
 {
     let found = read_model_file(alloc, model, folder)?;
-    let stencils = Stencils::make(alloc, &found.model)?;
+    let means = StencilMeans::make(alloc, &found.model)?;
     let mut room = SweepRoom::make(alloc, &found.model)?;
     let writer = TableWriter::new(alloc, &found.model, &found.digest)?;
     let mut line = Line::make(alloc)?;
     let length = match store_swept(
-        &found, &stencils, &mut room, writer, folder, table, backups, turned,
+        &found, &means, &mut room, writer, folder, table, backups, turned,
     ) {
         Ok(length) => length,
         Err(_) => return Err(Cause::Folder),

@@ -12,7 +12,7 @@ use crate::table_lines::Pen;
 use acas_command::{Cause, read_model_file};
 use acas_outside::{Folder, Sink};
 use acas_plane::Turned;
-use acas_step::{Backups, Stencils};
+use acas_step::{Backups, LayerMeans, StencilMeans};
 use std::alloc::Global;
 
 /// Prints the compiled table of a model, layer by layer as the sweep goes. It takes all its memory before the first byte goes out. It
@@ -39,11 +39,11 @@ pub fn values<F: Folder, O: Sink>(
 {
     let found = read_model_file(alloc, model, folder)?;
     let mut pen = Pen::make(alloc)?;
-    let stencils = Stencils::make(alloc, &found.model)?;
+    let means = StencilMeans::make(alloc, &found.model)?;
     let mut room = SweepRoom::make(alloc, &found.model)?;
     match print_table(
         &found.model,
-        &stencils,
+        &means,
         &mut room,
         &mut pen,
         out,

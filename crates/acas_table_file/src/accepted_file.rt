@@ -11,7 +11,7 @@ use acas_accept::{AcceptFault, accept};
 use acas_base::Advices;
 use acas_command::{Cause, FileRole, ModelFile};
 use acas_outside::Folder;
-use acas_step::Stencils;
+use acas_step::StencilMeans;
 use std::alloc::Global;
 
 /// Reads and checks the file of a table and gives its advices, or gives the cause that ends every command that reads one.
@@ -30,7 +30,7 @@ pub fn read_table_file<F: Folder>(
     ensures frame { OnlyReads F.Folder folder.old folder.new
         (IsErrOf result Cause.Folder) (IsErrOf result (Cause.Absent FileRole.Table)) }
 {
-    match accept::<Stencils, F>(alloc, &found.model, &found.digest, folder, name) {
+    match accept::<StencilMeans, F>(alloc, &found.model, &found.digest, folder, name) {
         Ok(advices) => Ok(advices),
         Err(AcceptFault::Refused(refusal)) => Err(Cause::Table(refusal)),
         Err(AcceptFault::Absent) => Err(Cause::Absent(FileRole::Table)),

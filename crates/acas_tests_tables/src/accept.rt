@@ -7,7 +7,7 @@ use crate::models::{TIED, model_of};
 use acas_accept::accept;
 use acas_base::{Advices, Model};
 use acas_outside::MemoryFolder;
-use acas_step::Stencils;
+use acas_step::StencilMeans;
 use acas_units::Pair;
 use std::alloc::{AllocError, Global};
 use std::test::Fail;
@@ -31,7 +31,13 @@ fn advices_of(alloc: Global, model: &Model, layers: &Layers) -> Option<Vec<u8>> 
     let bytes = table_of(alloc, model, layers, false)?;
     let mut folder = folder_failing(alloc, &[], 80).ok()?;
     folder.put("t", bytes).ok()?;
-    let advices = accept::<Stencils, MemoryFolder>(alloc, model, &MODEL, &mut folder, "t").ok()?;
+    let advices = accept::<StencilMeans, MemoryFolder>(
+        alloc,
+        model,
+        &MODEL,
+        &mut folder,
+        "t",
+    ).ok()?;
     list_of(alloc, model, &advices).ok()
 }
 

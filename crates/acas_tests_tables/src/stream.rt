@@ -4,7 +4,7 @@ ghost use Rattle.std.specs.Prelude.{⊤};
 use crate::models::{FOUR, NOISY, TIED, model_of};
 use acas_base::Model;
 use acas_plane::{PlaneBlock, Turned};
-use acas_step::{Backups, Stencils};
+use acas_step::{Backups, LayerMeans, StencilMeans};
 use acas_sweep::{LayerFailed, LayerSink, sweep, sweep_list};
 use acas_units::Pair;
 use std::alloc::Global;
@@ -59,7 +59,7 @@ struct Streamed {
 fn sweep_streamed(alloc: Global, model: &Model, fails_at: u32) -> Option<Streamed> {
     let grid = model.grid();
     let states = grid.states();
-    let Ok(stencils) = Stencils::make(alloc, model) else {
+    let Ok(means) = StencilMeans::make(alloc, model) else {
         return None;
     };
     let mut block = PlaneBlock::make(alloc, states).ok()?;
@@ -76,7 +76,7 @@ fn sweep_streamed(alloc: Global, model: &Model, fails_at: u32) -> Option<Streame
     let mut turned = Turned::new();
     let done = sweep(
         model,
-        &stencils,
+        &means,
         &mut block,
         &mut advice,
         &mut rows,
