@@ -24,6 +24,7 @@ mod second;
 mod sharing;
 mod state_means;
 mod stencil_backups;
+mod stencil_corners;
 mod stencil_means;
 mod stencil_values;
 mod stencils;

@@ -11,8 +11,8 @@ use acas_units::{GREATEST_VERTICES, Pair};
 /// A number for each side, raised so that it is not below 0.
 #[derive(Clone, Copy, Debug)]
 pub(crate) struct Raised {
-    pub(crate) upper: u64,
-    pub(crate) lower: u64,
+    pub upper: u64,
+    pub lower: u64,
 }
 
 // A value, raised.

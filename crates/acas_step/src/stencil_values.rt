@@ -4,24 +4,14 @@ ghost use Rattle.acas_spec.specs.Model.{states, vertices};
 ghost use Rattle.acas_grid.specs.States as numbers;
 ghost use Rattle.acas_process.specs.Bounds.{mean_value};
 ghost use Rattle.acas_step.specs.Layer.{AreWithin, layer_values};
-ghost use Rattle.acas_step.specs.Stencils.{AreStencilsOf, AreUsable};
+ghost use Rattle.acas_step.specs.Stencils.{AreStencilsOf};
 
-use crate::cell::CornerSet;
 use crate::layer::Side;
-use crate::led_to::LedTo;
 use crate::stencils::Stencils;
 use crate::values::mean_by;
 use acas_base::Model;
 use acas_frac::Rounding;
 use acas_units::Pair;
-
-impl LedTo for Stencils {
-    ghost serves = { λ stencils m. AreUsable m stencils };
-
-    fn corners_led_to(&self, model: &Model, vertex: u32, advisory: u8, sigma: u32) -> CornerSet {
-        self.corners(model, vertex, advisory, sigma)
-    }
-}
 
 /// The mean as `mean` gives it, by the stencils of the model.
 pub(crate) fn mean_with<R: Rounding>(

@@ -24,7 +24,7 @@ pub(crate) struct Pen {
 
 impl Pen {
     /// A pen that has printed nothing.
-    pub(crate) fn make(alloc: Global) -> Result<Pen, AllocError>
+    pub fn make(alloc: Global) -> Result<Pen, AllocError>
         ensures { IfOk result (λ pen. pen.buffer ≡ []) }
     {
         let line = Line::make(alloc)?;

@@ -119,7 +119,7 @@ impl Survey {
     }
 
     /// The low flight.
-    pub(crate) fn low_plan(&self) -> Plan
+    pub fn low_plan(&self) -> Plan
         ensures point { IsPlanOf (unit (search_of self.now)) (low_flight (search_of self.now)) result }
         ensures flown { CanBeFlown result }
         ensures whole { IsWholePlan result }
@@ -136,7 +136,7 @@ impl Survey {
     }
 
     /// The high flight from a rate of so many steps.
-    pub(crate) fn plan_from(&self, rate: i64) -> Plan
+    pub fn plan_from(&self, rate: i64) -> Plan
         requires { unsigned_abs rate ≤ RATE_STEPS * unsigned_abs GREATEST_RATE }
         ensures point { IsHighPlan self.now rate result }
         ensures flown { CanBeFlown result }
