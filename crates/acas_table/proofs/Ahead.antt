@@ -1,20 +1,19 @@
 -- Bytes at hand, as more are read behind them.
-use Rattle.std.proofs.Common.{◌≡◌, ℕ, zero, suc, ◌+◌, ◌-◌, ◌≤◌, List, [], ◌∷◌, ◌++◌, length, take, drop, Bool, cond, Option, None, Some, Ok, Err, sym, ◌∙◌, ap, subst, arith, append_assoc}
+use Rattle.std.proofs.Common.{◌≡◌, ℕ, zero, suc, ◌+◌, ◌-◌, ◌<◌, ◌≤◌, List, [], ◌∷◌, ◌++◌, length, take, drop, Bool, cond, Option, None, Some, Ok, Err, sym, ◌∙◌, ap, subst, arith, inl, inr, append_assoc}
 use Rattle.std.proofs.Math.Seq.{take-add, take-append-add}
 use Rattle.std.proofs.lemmas.List.{take-take, take-append-le, drop-take, drop-append-le, drop-drop, length-take-le, length-take, take_all}
-use Rattle.std.proofs.lemmas.Bool.{le-ltb}
+use Rattle.std.proofs.lemmas.Bool.{cases_lt, le-ltb, lt-ltb}
 use Rattle.std.specs.FinMap.{get}
+use Rattle.std.specs.Prelude.{⊤}
 use Rattle.acas_outside.specs.Bytes.{IsBytes}
 use Rattle.acas_outside.specs.Files.{Files, Given, Reads}
 use Rattle.acas_table.specs.declared.source.Source.{Source}
-use Rattle.acas_units.specs.declared.pair.Entry.{Entry}
-use Rattle.acas_table.specs.Text.{part, entry_of}
+use Rattle.acas_table.specs.Text.{part}
 use Rattle.sha2.specs.Hashers.{Holds256}
 use Rattle.sha2.specs.Sha256.{sha256}
-use Rattle.acas_table.specs.Faults.{more_fault}
-use Rattle.acas_table.specs.Source.{hashed_place, IsHashed, IsAt, IsAtFile, Moves, GivesMore, Fills, Finds}
-use Rattle.acas_table.specs.declared.source.Miss.{Miss}
-use Rattle.acas_table.specs.declared.source.Miss.TheVariants.{Ends}
+use Rattle.acas_table.specs.Faults.{end_fault, more_fault}
+use Rattle.acas_table.specs.Source.{hashed_place, IsHashed, IsAt, IsAtFile, Moves, Checks, Finds}
+use Rattle.acas_table.specs.declared.fault.TableFault.{TableFault}
 use Rattle.acas_table.specs.declared.fault.TableFault.TheVariants.{Length}
 
 -- a buffer into which bytes were read behind its first ones
@@ -64,11 +63,18 @@ hashed_same old new bytes hasher mark place hashed =
     ap (λ (m : ℕ). part bytes old.mark (m - old.mark)) (sym place) ∙ ap (λ (m : ℕ). part bytes m (hashed_place new - m)) (sym mark) in
     rw hasher (subst (λ (l : List ℕ). Holds256 old.hasher l) same hashed)
 
-more_file : {X : Type 0} (x : X) (file : Option (List ℕ)) (old new : Source) (into : List ℕ) (n at : ℕ) → Reads file at (Ok n) into → at ≡ old.place + (old.to - old.from)
+-- the n bytes at a place are there, or the bytes end before
+pub end_none : (e : ℕ) (bytes : List ℕ) (at n : ℕ) → at + n ≤ length bytes → end_fault e bytes at n ≡ None
+end_none e bytes at n within = ap (λ (b : Bool). cond b (Some (Length e (length bytes))) None) (le-ltb (length bytes) (at + n) within)
+
+pub end_found : (e : ℕ) (bytes : List ℕ) (at n : ℕ) → length bytes < at + n → end_fault e bytes at n ≡ Some (Length e (length bytes))
+end_found e bytes at n short = ap (λ (b : Bool). cond b (Some (Length e (length bytes))) None) (lt-ltb (length bytes) (at + n) short)
+
+more_file : {X : Type 0} (x : X) (file : Option (List ℕ)) (old new : Source) (into : List ℕ) (n at : ℕ) → 0 < n → Reads file at (Ok n) into → at ≡ old.place + (old.to - old.from)
     → new.hashed ≡ old.hashed → new.from ≡ old.from → new.to ≡ old.to + n → new.hasher ≡ old.hasher → Moves old new → take (old.to + n) new.buffer.items ≡ take old.to old.buffer.items ++ take n into
-    → IsAtFile old file → GivesMore {X = X} old file new (Ok x)
-more_file x None old new into n at reads place hashed from to hasher moves grown stands = absurd reads
-more_file x (Some bytes) old new into n at reads place hashed from to hasher moves grown stands =
+    → IsAtFile old file → Checks {X = X} (λ bytes. end_fault old.expected bytes (old.place + (old.to - old.from)) 1) (λ _ _. ⊤) file new (Ok x)
+more_file x None old new into n at some reads place hashed from to hasher moves grown stands = absurd reads
+more_file x (Some bytes) old new into n at some reads place hashed from to hasher moves grown stands =
     let k = old.to - old.hashed in
     let end : old.hashed + k ≡ old.to = omega (arith, old.behind, old.ordered) in
     let fresh : new.to - new.hashed ≡ k + n = omega (arith, old.behind, old.ordered) in
@@ -76,24 +82,27 @@ more_file x (Some bytes) old new into n at reads place hashed from to hasher mov
     let up : at ≡ hashed_place old + k = omega (arith, old.behind, old.ordered, old.marked) in
     let after : take n into ≡ take n (drop (hashed_place old + k) bytes) = reads.bytes ∙ ap (λ (m : ℕ). take n (drop m bytes)) up in
     let whole : take (old.hashed + k + n) new.buffer.items ≡ take (old.hashed + k) old.buffer.items ++ take n into =
-    subst (λ (m : ℕ). take (m + n) new.buffer.items ≡ take m old.buffer.items ++ take n into) (sym end) grown in
-    record {
-      ahead =
-          ap (λ (m : ℕ). part new.buffer.items m (new.to - new.hashed)) hashed
-          ∙ ap (λ (m : ℕ). part new.buffer.items old.hashed m) fresh
-          ∙ ahead_more old.buffer.items new.buffer.items bytes into old.hashed k n (hashed_place old) (omega (arith, old.behind, old.ordered, old.room)) whole stands.ahead after
-          ∙ ap (λ (m : ℕ). part bytes (hashed_place old) m) (sym fresh)
-          ∙ ap (λ (m : ℕ). part bytes m (new.to - new.hashed)) (sym same);
-      within = omega (arith, reads.within, stands.within, old.ordered, moves.place);
-      hashed = hashed_same old new bytes hasher moves.mark same stands.hashed;
-      seen = seen_moves old new bytes moves.place stands.seen;
-    }
+    subst (λ (m : ℕ). take (m + n) new.buffer.items ≡ take m old.buffer.items ++ take n into) (sym end) grown in (
+      end_none old.expected bytes (old.place + (old.to - old.from)) 1 (omega (arith, reads.within, stands.within)),
+      tt,
+      record {
+        ahead =
+            ap (λ (m : ℕ). part new.buffer.items m (new.to - new.hashed)) hashed
+            ∙ ap (λ (m : ℕ). part new.buffer.items old.hashed m) fresh
+            ∙ ahead_more old.buffer.items new.buffer.items bytes into old.hashed k n (hashed_place old) (omega (arith, old.behind, old.ordered, old.room)) whole stands.ahead after
+            ∙ ap (λ (m : ℕ). part bytes (hashed_place old) m) (sym fresh)
+            ∙ ap (λ (m : ℕ). part bytes m (new.to - new.hashed)) (sym same);
+        within = omega (arith, reads.within, stands.within, old.ordered, moves.place);
+        hashed = hashed_same old new bytes hasher moves.mark same stands.hashed;
+        seen = seen_moves old new bytes moves.place stands.seen;
+      },
+    )
 
-pub more_given : {X : Type 0} (x : X) (holds : Option Files) (name : List ℕ) (old new : Source) (into : List ℕ) (n at : ℕ) → Given holds name (λ file. Reads file at (Ok n) into) → at ≡ old.place + (old.to - old.from)
+pub more_given : {X : Type 0} (x : X) (holds : Option Files) (name : List ℕ) (old new : Source) (into : List ℕ) (n at : ℕ) → 0 < n → Given holds name (λ file. Reads file at (Ok n) into) → at ≡ old.place + (old.to - old.from)
     → new.hashed ≡ old.hashed → new.from ≡ old.from → new.to ≡ old.to + n → new.hasher ≡ old.hasher → Moves old new → take (old.to + n) new.buffer.items ≡ take old.to old.buffer.items ++ take n into
-    → Given holds name (λ file. IsAtFile old file → GivesMore {X = X} old file new (Ok x))
-more_given x None name old new into n at reads place hashed from to hasher moves grown = tt
-more_given x (Some files) name old new into n at reads place hashed from to hasher moves grown = more_file x (get files name) old new into n at reads place hashed from to hasher moves grown
+    → Given holds name (λ file. IsAtFile old file → Checks {X = X} (λ bytes. end_fault old.expected bytes (old.place + (old.to - old.from)) 1) (λ _ _. ⊤) file new (Ok x))
+more_given x None name old new into n at some reads place hashed from to hasher moves grown = tt
+more_given x (Some files) name old new into n at some reads place hashed from to hasher moves grown = more_file x (get files name) old new into n at some reads place hashed from to hasher moves grown
 
 -- the first n of the bytes at hand
 pub part-first : (a b : List ℕ) (i j n k : ℕ) → n ≤ k → part a i k ≡ part b j k → part a i n ≡ part b j n
@@ -176,32 +185,29 @@ digest_of old new bytes digest moves hashed finished stands =
     ∙ ap (λ (m : ℕ). sha256 (part bytes new.mark m)) width
     ∙ ap (λ (m : ℕ). sha256 (part bytes m (old.place - old.mark))) moves.mark
 
--- a field that is passed over
-pub passed : (old new : Source) (bytes field : List ℕ) (n : ℕ) → n ≤ old.to - old.from → field ≡ part old.buffer.items old.from n
+-- the first bytes at hand are the next ones
+pub at_hand_first : (s : Source) (bytes : List ℕ) (n : ℕ) → n ≤ s.to - s.from → IsAt s bytes → part s.buffer.items s.from n ≡ part bytes s.place n
+at_hand_first s bytes n filled stands = part-first s.buffer.items bytes s.from s.place n (s.to - s.from) filled (at_hand s bytes stands)
+
+-- bytes that are passed over
+pub passed : (old new : Source) (bytes : List ℕ) (n : ℕ) → n ≤ old.to - old.from → IsBytes (part old.buffer.items old.from n)
     → new.buffer.items ≡ old.buffer.items → new.hashed ≡ old.hashed → new.from ≡ old.from + n → new.to ≡ old.to → new.place ≡ old.place + n → new.mark ≡ old.mark
-    → new.hasher ≡ old.hasher → IsBytes field → IsAt old bytes → (field ≡ part bytes old.place n) × IsAt new bytes
-passed old new bytes field n filled is buffer hashed from to place mark hasher small stands =
+    → new.hasher ≡ old.hasher → IsAt old bytes → IsAt new bytes
+passed old new bytes n filled small buffer hashed from to place mark hasher stands =
     let rest : new.to - new.hashed ≡ old.to - old.hashed = omega arith in
     let up : hashed_place new ≡ hashed_place old = omega (arith, old.behind) in
-    let same : field ≡ part bytes old.place n = is ∙ part-first old.buffer.items bytes old.from old.place n (old.to - old.from) filled (at_hand old bytes stands) in (
-      same,
-      record {
-        ahead =
-            ap (λ (l : List ℕ). part l new.hashed (new.to - new.hashed)) buffer
-            ∙ ap (λ (m : ℕ). part old.buffer.items m (new.to - new.hashed)) hashed
-            ∙ ap (λ (m : ℕ). part old.buffer.items old.hashed m) rest
-            ∙ stands.ahead
-            ∙ ap (λ (m : ℕ). part bytes (hashed_place old) m) (sym rest)
-            ∙ ap (λ (m : ℕ). part bytes m (new.to - new.hashed)) (sym up);
-        within = omega (arith, stands.within);
-        hashed = hashed_same old new bytes hasher mark up stands.hashed;
-        seen = seen_more old new bytes field n place same small stands.seen;
-      },
-    )
-
--- an entry whose field is passed over
-pub entry_passed : {P : Type 0} (entry : Entry) (field found : List ℕ) → entry ≡ entry_of field → (field ≡ found) × P → (entry ≡ entry_of found) × P
-entry_passed entry field found value passes = (value ∙ ap entry_of passes.0, passes.1)
+    record {
+      ahead =
+          ap (λ (l : List ℕ). part l new.hashed (new.to - new.hashed)) buffer
+          ∙ ap (λ (m : ℕ). part old.buffer.items m (new.to - new.hashed)) hashed
+          ∙ ap (λ (m : ℕ). part old.buffer.items old.hashed m) rest
+          ∙ stands.ahead
+          ∙ ap (λ (m : ℕ). part bytes (hashed_place old) m) (sym rest)
+          ∙ ap (λ (m : ℕ). part bytes m (new.to - new.hashed)) (sym up);
+      within = omega (arith, stands.within);
+      hashed = hashed_same old new bytes hasher mark up stands.hashed;
+      seen = seen_more old new bytes (part old.buffer.items old.from n) n place (at_hand_first old bytes n filled stands) small stands.seen;
+    }
 
 -- a source that has read nothing is at the front of every file
 pub at_front : (s : Source) (file : Option (List ℕ)) → s.hashed ≡ 0 → s.from ≡ 0 → s.to ≡ 0 → s.place ≡ 0 → s.mark ≡ 0 → Holds256 s.hasher [] → IsAtFile s file
@@ -216,17 +222,29 @@ at_front s (Some bytes) hashed from to place mark empty =
       seen = subst (λ (k : ℕ). IsBytes (take k bytes)) (sym place) (λ i. omega arith);
     }
 
+-- where bytes are wanted that are not there, the bytes end before
+end_short : (e : ℕ) (bytes : List ℕ) (at n : ℕ) (fault : TableFault) → end_fault e bytes at n ≡ Some fault → length bytes < at + n
+end_short e bytes at n fault found =
+    elim (cases_lt (length bytes) (at + n)) [
+      | inl lt ↦ lt
+      | inr le ↦ absurd (cc (end_none e bytes at n le))
+    ]
+
 -- where the file ends behind what was read, all of it was seen
-ends_file : {X : Type 0} (x : X) (file : Option (List ℕ)) (old new : Source) (found : ℕ) → old.place ≡ old.expected → IsAtFile old file → Fills {X = Unit {0}} old 1 file new (Err (Ends found)) → Finds {X = X} (more_fault old.expected) file (Ok x)
-ends_file x None old new found place stands fills = absurd fills
-ends_file x (Some bytes) old new found place stands fills =
-    let most : length bytes ≤ old.place = omega (arith, fills.0, fills.1) in (
+ends_file : {X : Type 0} (x : X) (file : Option (List ℕ)) (old new : Source) (a b : ℕ) → old.place ≡ old.expected → IsAtFile old file
+    → Checks {X = Unit {0}} (λ bytes. end_fault old.expected bytes old.place 1) (λ _ _. ⊤) file new (Err (Length a b)) → Finds {X = X} (more_fault old.expected) file (Ok x)
+ends_file x None old new a b place stands checks = absurd checks
+ends_file x (Some bytes) old new a b place stands checks =
+    let short : length bytes < old.place + 1 = end_short old.expected bytes old.place 1 (Length a b) checks in
+    let most : length bytes ≤ old.place = omega arith in (
       ap (λ (b : Bool). cond b (Some (Length old.expected (old.expected + 1))) None) (le-ltb old.expected (length bytes) (omega (arith, most, place))),
       subst IsBytes (take_all old.place bytes most) stands.seen,
     )
 
-pub ends_given : {X : Type 0} (x : X) (holds : Option Files) (name : List ℕ) (old new : Source) (miss : Miss) (found : ℕ) → miss ≡ Ends found → old.place ≡ old.expected
-    → Given holds name (λ file. IsAtFile old file → Fills {X = Unit {0}} old 1 file new (Err miss)) → Given holds name (λ file. IsAtFile old file → Finds {X = X} (more_fault old.expected) file (Ok x))
-ends_given x None name old new miss found is place fills = tt
-ends_given x (Some files) name old new miss found is place fills = λ stands.
-    ends_file x (get files name) old new found place stands (subst (λ (m : Miss). Fills {X = Unit {0}} old 1 (get files name) new (Err m)) is (fills stands))
+pub ends_given : {X : Type 0} (x : X) (holds : Option Files) (name : List ℕ) (old new : Source) (fault : TableFault) (a b : ℕ) → fault ≡ Length a b → old.place ≡ old.expected
+    → Given holds name (λ file. IsAtFile old file → Checks {X = Unit {0}} (λ bytes. end_fault old.expected bytes old.place 1) (λ _ _. ⊤) file new (Err fault))
+    → Given holds name (λ file. IsAtFile old file → Finds {X = X} (more_fault old.expected) file (Ok x))
+ends_given x None name old new fault a b is place checks = tt
+ends_given x (Some files) name old new fault a b is place checks = λ stands.
+    ends_file x (get files name) old new a b place stands
+    (subst (λ (f : TableFault). Checks {X = Unit {0}} (λ bytes. end_fault old.expected bytes old.place 1) (λ _ _. ⊤) (get files name) new (Err f)) is (checks stands))

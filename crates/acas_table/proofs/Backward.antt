@@ -6,19 +6,21 @@ use Rattle.std.proofs.lemmas.Bool.{cases_lt, ltb-false, eqb-true}
 use Rattle.std.proofs.lemmas.List.{get_or-take, get_or-drop, get_or_past, length-take, length-drop, length-take-le, take_all, drop_more, append-nil}
 use Rattle.std.proofs.lemmas.Grind.{flat_map-append}
 use Rattle.std.proofs.lemmas.Slice.Eq.{bytes_eq-Decides}
-use Rattle.std.specs.Prelude.{◌==◌, codes, slice_index}
-use Rattle.std.specs.Str.{bytes_eq}
+use Rattle.std.specs.Prelude.{codes, slice_index}
+use Rattle.std.specs.List.{flat_map}
 use Rattle.sha2.specs.Sha256.{sha256}
 use Rattle.acas_table.specs.Shape.{entry_count}
 use Rattle.acas_table.specs.Text.{header, entry_text, layer_text, part, length_1, entry_of, entry_at}
-use Rattle.acas_table.specs.Faults.{first_below, end_fault, field_fault, unless, magic_fault, version_fault, other_model_fault, shape_fault, advice_fault, front_fault, axes_fault, counts_fault, header_fault, entry_fault, kept_fault, digest_fault, rest_fault, tail_fault, first_fault}
+use Rattle.acas_table.specs.Faults.{first_below, end_fault, field_fault, unless, width_of, fault_in, fault_at, widths, fields_fault, header_fields, advice_fault, header_fault, entry_fault, kept_fault, digest_fault, rest_fault, tail_fault, first_fault}
 use Rattle.acas_outside.specs.Bytes.{IsBytes}
 use Rattle.acas_table.specs.Tables.{flat_text, entries_below}
 use Rattle.acas_table.specs.declared.shape.TableShape.{TableShape}
 use Rattle.acas_table.specs.declared.fault.TableFault.{TableFault}
-use Rattle.acas_table.specs.declared.fault.TableFault.TheVariants.{Magic, Version, OtherModel, Shape, Digest}
+use Rattle.acas_table.specs.declared.field.Field.{Field}
+use Rattle.acas_table.specs.declared.field.Field.TheVariants as fields
 use Rattle.acas_table.proofs.Ahead.{part-join}
 use Rattle.acas_table.proofs.Cuts.{first_none, rest_none}
+use Rattle.acas_table.proofs.Fields.{field_text, header_is}
 use Rattle.byteorder.specs.Endian.{little_bytes, little_number}
 use Rattle.byteorder.specs.Numbers.{little_from-lt}
 
@@ -30,7 +32,7 @@ value_is bs long small =
     ap (λ (n : ℕ). little_bytes 8 n) (of_z-to_z w64 (little_number 8 bs) (omega (arith, little_from-lt 0 8 bs small)))
     ∙ le_bytes_8 bs (little_number 8 bs) long small (omega arith)
 
-small_part : (t : List ℕ) (at n : ℕ) → IsBytes t → (i : ℕ) → get_or (part t at n) i 0 < 256
+pub small_part : (t : List ℕ) (at n : ℕ) → IsBytes t → (i : ℕ) → get_or (part t at n) i 0 < 256
 small_part t at n small i =
     elim (cases_lt i n) [
       | inl lt ↦ rw (get_or-take n (drop at t) i 0 lt, get_or-drop at t i 0) (small (at + i))
@@ -66,37 +68,28 @@ number_part t at number small there same =
 glue : (t x y : List ℕ) (k n : ℕ) → part t 0 k ≡ x → part t k n ≡ y → part t 0 (k + n) ≡ x ++ y
 glue t x y k n front next = sym (part-join t 0 k n) ∙ ap (λ (l : List ℕ). l ++ part t (0 + k) n) front ∙ ap (λ (j : ℕ). x ++ part t j n) (omega arith) ∙ ap (λ (l : List ℕ). x ++ l) next
 
-shape_good : (e : ℕ) (t : List ℕ) (place number : ℕ) → IsBytes t → shape_fault e place number t ≡ None → part t (40 + 4 * place) 4 ≡ little_bytes 4 number
-shape_good e t place number small none =
-    let g = good e t (40 + 4 * place) 4 (λ kept. unless (little_number 4 kept == number) (Shape place (little_number 4 kept) number)) none in
-    number_part t (40 + 4 * place) number small g.there (passed_if _ _ g.passes)
+field_good : (e at : ℕ) (field : Field) (t : List ℕ) → IsBytes t → fault_at e at field t ≡ None → part t at (width_of field) ≡ field_text field
+field_good e at fields.Magic t small none = (bytes_eq-Decides (part t at 4) (codes "ACXT")).0 (passed_if _ _ (good e t at 4 (fault_in fields.Magic) none).passes)
+field_good e at (fields.Version expected) t small none =
+    let g = good e t at 4 (fault_in (fields.Version expected)) none in number_part t at expected small g.there (passed_if _ _ g.passes)
+field_good e at (fields.Model digest) t small none = (bytes_eq-Decides (part t at 32) digest).0 (passed_if _ _ (good e t at 32 (fault_in (fields.Model digest)) none).passes)
+field_good e at (fields.Number place expected) t small none =
+    let g = good e t at 4 (fault_in (fields.Number place expected)) none in number_part t at expected small g.there (passed_if _ _ g.passes)
+field_good e at (fields.Digest computed) t small none = (bytes_eq-Decides (part t at 32) computed).0 (passed_if _ _ (good e t at 32 (fault_in (fields.Digest computed)) none).passes)
+
+fields_good : (e at : ℕ) (all : List Field) (t : List ℕ) → IsBytes t → fields_fault e at all t ≡ None → part t at (widths all) ≡ flat_map field_text all
+fields_good e at [] t small none = refl
+fields_good e at (field ∷ rest) t small none =
+    let w = width_of field in
+    let a = first_none (fault_at e at field t) (fields_fault e (at + w) rest t ∷ []) none in
+    let b = first_none (fields_fault e (at + w) rest t) [] a.1 in
+    sym (part-join t at w (widths rest))
+    ∙ ap (λ (l : List ℕ). l ++ part t (at + w) (widths rest)) (field_good e at field t small a.0)
+    ∙ ap (λ (l : List ℕ). field_text field ++ l) (fields_good e (at + w) rest t small b.0)
 
 header_good : (model : List ℕ) (s : TableShape) (t : List ℕ) → IsBytes t → header_fault model s t ≡ None → part t 0 60 ≡ header 1 model s
-unfolding front_fault axes_fault counts_fault header
-header_good model s t small none =
-    let e = length_1 s in
-    let a = first_none (front_fault model s t) (axes_fault s t ∷ counts_fault s t ∷ []) none in
-    let b = first_none (axes_fault s t) (counts_fault s t ∷ []) a.1 in
-    let c = first_none (counts_fault s t) [] b.1 in
-    let m = first_none (magic_fault e t) (version_fault e t ∷ other_model_fault e model t ∷ []) a.0 in
-    let v = first_none (version_fault e t) (other_model_fault e model t ∷ []) m.1 in
-    let d = first_none (other_model_fault e model t) [] v.1 in
-    let x = first_none (shape_fault e 0 s.altitudes t) (shape_fault e 1 s.own_rates t ∷ shape_fault e 2 s.intruder_rates t ∷ []) b.0 in
-    let y = first_none (shape_fault e 1 s.own_rates t) (shape_fault e 2 s.intruder_rates t ∷ []) x.1 in
-    let z = first_none (shape_fault e 2 s.intruder_rates t) [] y.1 in
-    let p = first_none (shape_fault e 3 s.advisories t) (shape_fault e 4 s.horizon t ∷ []) c.0 in
-    let q = first_none (shape_fault e 4 s.horizon t) [] p.1 in
-    let magic = good e t 0 4 (λ found. unless (bytes_eq found (codes "ACXT")) Magic) m.0 in
-    let version = good e t 4 4 (λ found. unless (little_number 4 found == 1) (Version (little_number 4 found))) v.0 in
-    let kept = good e t 8 32 (λ found. unless (bytes_eq found model) (OtherModel found model)) d.0 in
-    let g4 : part t 0 4 ≡ codes "ACXT" = (bytes_eq-Decides (part t 0 4) (codes "ACXT")).0 (passed_if _ _ magic.passes) in
-    let g8 = glue t _ _ 4 4 g4 (number_part t 4 1 small version.there (passed_if _ _ version.passes)) in
-    let g40 = glue t _ _ 8 32 g8 ((bytes_eq-Decides (part t 8 32) model).0 (passed_if _ _ kept.passes)) in
-    let g44 = glue t _ _ 40 4 g40 (shape_good e t 0 s.altitudes small x.0) in
-    let g48 = glue t _ _ 44 4 g44 (shape_good e t 1 s.own_rates small y.0) in
-    let g52 = glue t _ _ 48 4 g48 (shape_good e t 2 s.intruder_rates small z.0) in
-    let g56 = glue t _ _ 52 4 g52 (shape_good e t 3 s.advisories small p.0) in
-    glue t _ _ 56 4 g56 (shape_good e t 4 s.horizon small q.0)
+unfolding header_fault header_fields
+header_good model s t small none = fields_good (length_1 s) 0 (header_fields model s) t small none ∙ sym (header_is model s)
 
 byte_part : (f : List ℕ) (i : ℕ) → i < length f → part f i 1 ≡ slice_index f i ∷ []
 byte_part f i within = ap (λ (l : List ℕ). take 1 l) (drop_more f i 0 within)
@@ -137,9 +130,9 @@ good_is_text model s t small none =
     let c = first_none (tail_fault s t) [] b.1 in
     let d = first_none (digest_fault s t) (rest_fault s t ∷ []) c.0 in
     let r = first_none (rest_fault s t) [] d.1 in
-    let digest = good (length_1 s) t at 32 (λ kept. unless (bytes_eq kept (sha256 (part t 0 at))) (Digest kept (sha256 (part t 0 at)))) d.0 in
+    let there = (good (length_1 s) t at 32 (fault_in (fields.Digest (sha256 (part t 0 at)))) d.0).there in
     let most : length t ≤ length_1 s = rest_none s t r.0 in
     let before = header 1 model s ++ layer_text (entries_below t n) in
     let front : part t 0 at ≡ before = glue t (header 1 model s) (layer_text (entries_below t n)) 60 (17 * n) (header_good model s t small a.0) (entries_good s t n small b.0) in
-    let last : part t at 32 ≡ sha256 before = (bytes_eq-Decides (part t at 32) (sha256 (part t 0 at))).0 (passed_if _ _ digest.passes) ∙ ap sha256 front in
+    let last : part t at 32 ≡ sha256 before = field_good (length_1 s) at (fields.Digest (sha256 (part t 0 at))) t small d.0 ∙ ap sha256 front in
     sym (take_all (at + 32) t (omega arith)) ∙ glue t before (sha256 before) at 32 front last

@@ -2,20 +2,23 @@
 use Rattle.std.proofs.Common.{◌≡◌, ℕ, zero, suc, ◌+◌, ◌*◌, ◌<◌, ◌≤◌, Bool, true, false, cond, ltb, List, [], ◌∷◌, length, take, drop, Option, None, Some, refl, sym, ◌∙◌, ap, subst, arith, inl, inr}
 use Rattle.std.proofs.lemmas.Bool.{cases_lt, ltb-false, le-ltb, lt-ltb}
 use Rattle.std.proofs.lemmas.List.{length-take-le, take-take, drop-take}
-use Rattle.std.specs.Prelude.{◌==◌, codes}
-use Rattle.std.specs.Str.{bytes_eq}
-use Rattle.byteorder.specs.Endian.{little_number}
 use Rattle.sha2.specs.Sha256.{sha256}
 use Rattle.acas_table.specs.Shape.{entry_count}
 use Rattle.acas_table.specs.Text.{part, length_1, entry_of}
-use Rattle.acas_table.specs.Faults.{first, first_below, end_fault, unless, magic_fault, version_fault, other_model_fault, shape_fault, advice_fault, field_fault, front_fault, axes_fault, counts_fault, header_fault, entry_fault, kept_fault, digest_fault, rest_fault, tail_fault, first_fault}
+use Rattle.acas_table.specs.Faults.{first, first_below, end_fault, advice_fault, field_fault, width_of, fault_in, fault_at, widths, fields_fault, header_fields, header_fault, entry_fault, kept_fault, digest_fault, rest_fault, tail_fault, first_fault}
 use Rattle.acas_table.specs.declared.shape.TableShape.{TableShape}
 use Rattle.acas_table.specs.declared.fault.TableFault.{TableFault}
-use Rattle.acas_table.specs.declared.fault.TableFault.TheVariants.{Magic, Version, OtherModel, Shape, Length, Digest}
+use Rattle.acas_table.specs.declared.fault.TableFault.TheVariants.{Length}
+use Rattle.acas_table.specs.declared.field.Field.{Field}
+use Rattle.acas_table.specs.declared.field.Field.TheVariants as fields
 
 pub first_none : {A : Type 0} (o : Option A) (rest : List (Option A)) → first (o ∷ rest) ≡ None → (o ≡ None) × (first rest ≡ None)
 first_none None rest e = (refl, e)
 first_none (Some x) rest e = absurd (cc e)
+
+pub first_one : {A : Type 0} (o : Option A) → first (o ∷ []) ≡ o
+first_one None = refl
+first_one (Some x) = refl
 
 -- of a file that is cut at n bytes, what ends at m is without fault if it is there, and else the file's length is
 pub record Cut (e n m : ℕ) (fault : Option TableFault) : Type 0 where
@@ -70,47 +73,22 @@ cut_three e n l m k a b c x y z lm mk fst snd thd none =
     let u = first_none a (b ∷ c ∷ []) none in
     cut_cons e n l k x (y ∷ z ∷ []) (omega arith) (fst u.0) (λ there. cut_two e n m k b c y z mk (snd there) thd u.1)
 
-cut_magic : (e : ℕ) (bytes : List ℕ) (n : ℕ) → n ≤ length bytes → magic_fault e bytes ≡ None → Cut e n 4 (magic_fault e (take n bytes))
-cut_magic e bytes n within none = cut_field e bytes n 0 4 (λ found. unless (bytes_eq found (codes "ACXT")) Magic) within none
-
-cut_version : (e : ℕ) (bytes : List ℕ) (n : ℕ) → n ≤ length bytes → version_fault e bytes ≡ None → Cut e n 8 (version_fault e (take n bytes))
-cut_version e bytes n within none = cut_field e bytes n 4 4 (λ found. unless (little_number 4 found == 1) (Version (little_number 4 found))) within none
-
-cut_model : (e : ℕ) (model bytes : List ℕ) (n : ℕ) → n ≤ length bytes → other_model_fault e model bytes ≡ None → Cut e n 40 (other_model_fault e model (take n bytes))
-cut_model e model bytes n within none = cut_field e bytes n 8 32 (λ kept. unless (bytes_eq kept model) (OtherModel kept model)) within none
-
-cut_shape : (e place number : ℕ) (bytes : List ℕ) (n : ℕ) → n ≤ length bytes → shape_fault e place number bytes ≡ None → Cut e n (40 + 4 * place + 4) (shape_fault e place number (take n bytes))
-cut_shape e place number bytes n within none = cut_field e bytes n (40 + 4 * place) 4 (λ kept. unless (little_number 4 kept == number) (Shape place (little_number 4 kept) number)) within none
-
-cut_front : (model : List ℕ) (s : TableShape) (bytes : List ℕ) (n : ℕ) → n ≤ length bytes → front_fault model s bytes ≡ None → Cut (length_1 s) n 40 (front_fault model s (take n bytes))
-unfolding front_fault
-cut_front model s bytes n within none =
-    let e = length_1 s in
-    cut_three e n 4 8 40 (magic_fault e bytes) (version_fault e bytes) (other_model_fault e model bytes) (magic_fault e (take n bytes)) (version_fault e (take n bytes)) (other_model_fault e model (take n bytes)) (omega arith) (omega arith)
-    (cut_magic e bytes n within) (λ _. cut_version e bytes n within) (λ _. cut_model e model bytes n within) none
-
-cut_axes : (s : TableShape) (bytes : List ℕ) (n : ℕ) → n ≤ length bytes → axes_fault s bytes ≡ None → Cut (length_1 s) n 52 (axes_fault s (take n bytes))
-unfolding axes_fault
-cut_axes s bytes n within none =
-    let e = length_1 s in
+-- fields that follow one another
+cut_fields : (e at : ℕ) (all : List Field) (bytes : List ℕ) (n : ℕ) → at ≤ n → n ≤ length bytes → fields_fault e at all bytes ≡ None → Cut e n (at + widths all) (fields_fault e at all (take n bytes))
+cut_fields e at [] bytes n start within none = record { whole = λ le. refl; ends = λ lt. absurd (omega arith) }
+cut_fields e at (field ∷ rest) bytes n start within none =
     let c = take n bytes in
-    cut_three e n 44 48 52 (shape_fault e 0 s.altitudes bytes) (shape_fault e 1 s.own_rates bytes) (shape_fault e 2 s.intruder_rates bytes)
-    (shape_fault e 0 s.altitudes c) (shape_fault e 1 s.own_rates c) (shape_fault e 2 s.intruder_rates c) (omega arith) (omega arith)
-    (cut_shape e 0 s.altitudes bytes n within) (λ _. cut_shape e 1 s.own_rates bytes n within) (λ _. cut_shape e 2 s.intruder_rates bytes n within) none
-
-cut_counts : (s : TableShape) (bytes : List ℕ) (n : ℕ) → n ≤ length bytes → counts_fault s bytes ≡ None → Cut (length_1 s) n 60 (counts_fault s (take n bytes))
-unfolding counts_fault
-cut_counts s bytes n within none =
-    let e = length_1 s in
-    let c = take n bytes in
-    cut_two e n 56 60 (shape_fault e 3 s.advisories bytes) (shape_fault e 4 s.horizon bytes) (shape_fault e 3 s.advisories c) (shape_fault e 4 s.horizon c) (omega arith)
-    (cut_shape e 3 s.advisories bytes n within) (λ _. cut_shape e 4 s.horizon bytes n within) none
+    let w = width_of field in
+    let a = first_none (fault_at e at field bytes) (fields_fault e (at + w) rest bytes ∷ []) none in
+    let b = first_none (fields_fault e (at + w) rest bytes) [] a.1 in
+    let end : at + w + widths rest ≡ at + widths (field ∷ rest) = omega arith in
+    subst (λ (m : ℕ). Cut e n m (fields_fault e at (field ∷ rest) c)) end
+    (cut_cons e n (at + w) (at + w + widths rest) (fault_at e at field c) (fields_fault e (at + w) rest c ∷ []) (omega arith) (cut_field e bytes n at w (fault_in field) within a.0)
+    (λ there. cut_last e n (at + w + widths rest) (fields_fault e (at + w) rest c) (cut_fields e (at + w) rest bytes n there within b.0)))
 
 cut_header : (model : List ℕ) (s : TableShape) (bytes : List ℕ) (n : ℕ) → n ≤ length bytes → header_fault model s bytes ≡ None → Cut (length_1 s) n 60 (header_fault model s (take n bytes))
-cut_header model s bytes n within none =
-    let c = take n bytes in
-    cut_three (length_1 s) n 40 52 60 (front_fault model s bytes) (axes_fault s bytes) (counts_fault s bytes) (front_fault model s c) (axes_fault s c) (counts_fault s c) (omega arith) (omega arith)
-    (cut_front model s bytes n within) (λ _. cut_axes s bytes n within) (λ _. cut_counts s bytes n within) none
+unfolding header_fault header_fields
+cut_header model s bytes n within none = cut_fields (length_1 s) 0 (header_fields model s) bytes n (omega arith) within none
 
 cut_entry : (s : TableShape) (bytes : List ℕ) (n i : ℕ) → n ≤ length bytes → entry_fault s bytes i ≡ None → Cut (length_1 s) n (60 + 17 * i + 17) (entry_fault s (take n bytes) i)
 unfolding entry_fault
@@ -127,7 +105,7 @@ cut_entries s bytes n (suc k) header within none =
 
 cut_kept : (s : TableShape) (computed bytes : List ℕ) (n : ℕ) → n ≤ length bytes → kept_fault s computed bytes ≡ None → Cut (length_1 s) n (60 + 17 * entry_count s + 32) (kept_fault s computed (take n bytes))
 unfolding kept_fault
-cut_kept s computed bytes n within none = cut_field (length_1 s) bytes n (60 + 17 * entry_count s) 32 (λ kept. unless (bytes_eq kept computed) (Digest kept computed)) within none
+cut_kept s computed bytes n within none = cut_field (length_1 s) bytes n (60 + 17 * entry_count s) 32 (fault_in (fields.Digest computed)) within none
 
 pub rest_none : (s : TableShape) (bytes : List ℕ) → rest_fault s bytes ≡ None → length bytes ≤ length_1 s
 unfolding rest_fault

@@ -2,12 +2,13 @@
 use Rattle.std.proofs.Common.{◌≡◌, ℕ, zero, suc, ◌+◌, ◌<◌, List, [], ◌∷◌, Option, None, Some, Result, Ok, Err, ◌-◌, ◌*◌, refl, sym, ◌∙◌, ap, subst, arith, add-one}
 use Rattle.sha2.specs.Sha256.{sha256}
 use Rattle.acas_table.specs.Shape.{entry_count}
-use Rattle.acas_table.specs.Text.{part}
-use Rattle.acas_table.specs.Faults.{first, first_below, header_fault, entry_fault, kept_fault, digest_fault, tail_fault, first_fault}
+use Rattle.acas_table.specs.Text.{part, length_1}
+use Rattle.acas_table.specs.Faults.{first, first_below, header_fault, entry_fault, fault_at, kept_fault, digest_fault, tail_fault, first_fault}
 use Rattle.std.specs.FinMap.{get}
 use Rattle.acas_outside.specs.Files.{Files, Given}
-use Rattle.acas_table.specs.Source.{IsAt, IsAtFile, Checks, Finds}
+use Rattle.acas_table.specs.Source.{IsAt, IsAtFile, Blames, Checks, Finds, StandsAt}
 use Rattle.acas_table.proofs.Backward.{good_is_text}
+use Rattle.acas_table.proofs.Cuts.{first_one}
 use Rattle.acas_table.specs.Reader.{reader_state, HasRead, Starts, GivesEntry, Finishes}
 use Rattle.acas_table.specs.declared.reader.TableReader.{TableReader}
 use Rattle.std.specs.Prelude.{IfSome, IsErrOf}
@@ -16,6 +17,7 @@ use Rattle.std.proofs.lemmas.Bool.{cases_lt}
 use Rattle.acas_units.specs.declared.pair.Entry.{Entry}
 use Rattle.acas_table.specs.declared.source.Source.{Source}
 use Rattle.acas_table.specs.declared.shape.TableShape.{TableShape}
+use Rattle.acas_table.specs.declared.field.Field.TheVariants as fields
 use Rattle.acas_table.specs.declared.fault.TableFault.{TableFault}
 use Rattle.acas_table.specs.declared.fault.TableFault.TheVariants.{Magic, Version, OtherModel, Shape, Length, Advice, Digest, Failed, Absent, Memory}
 
@@ -47,7 +49,7 @@ starts_with P model s (Some bytes) new (Length a b) checks = header_both model s
 starts_with P model s (Some bytes) new (Advice a b d) checks = header_both model s bytes _ checks
 starts_with P model s (Some bytes) new (Digest a b) checks = header_both model s bytes _ checks
 starts_with P model s (Some bytes) new Failed checks = tt
-starts_with P model s (Some bytes) new Absent checks = checks
+starts_with P model s (Some bytes) new Absent checks = absurd (cc checks)
 starts_with P model s (Some bytes) new Memory checks = tt
 
 pub starts_given : {X : Type 0} (P : X → List ℕ → Type 0) (holds : Option Files) (name model : List ℕ) (s : TableShape) (old new : Source) (fault : TableFault) → Given holds name (λ file. IsAtFile old file → Checks {X = X} (header_fault model s) P file new (Err fault))
@@ -57,48 +59,35 @@ starts_given P (Some files) name model s old new fault checks front = starts_wit
 
 checks_same : {X : Type 0} (P : X → List ℕ → Type 0) (f g : List ℕ → Option TableFault) (bytes : List ℕ) (new : Source) (result : Result X TableFault) → f bytes ≡ g bytes → Checks f P (Some bytes) new result → Checks g P (Some bytes) new result
 checks_same P f g bytes new (Ok x) same checks = (sym same ∙ checks.0, checks.1, checks.2)
-checks_same P f g bytes new (Err Magic) same checks = sym same ∙ checks
-checks_same P f g bytes new (Err (Version a)) same checks = sym same ∙ checks
-checks_same P f g bytes new (Err (OtherModel a b)) same checks = sym same ∙ checks
-checks_same P f g bytes new (Err (Shape a b d)) same checks = sym same ∙ checks
-checks_same P f g bytes new (Err (Length a b)) same checks = sym same ∙ checks
-checks_same P f g bytes new (Err (Advice a b d)) same checks = sym same ∙ checks
-checks_same P f g bytes new (Err (Digest a b)) same checks = sym same ∙ checks
-checks_same P f g bytes new (Err Failed) same checks = tt
-checks_same P f g bytes new (Err Absent) same checks = checks
-checks_same P f g bytes new (Err Memory) same checks = sym same ∙ checks
+checks_same P f g bytes new (Err fault) same checks = subst (λ (o : Option TableFault). Blames (Some o) fault) same checks
 
 -- of a file that is not held, no fault is looked at
 checks_none : {X : Type 0} (P : X → List ℕ → Type 0) (f g : List ℕ → Option TableFault) (new : Source) (result : Result X TableFault) → Checks f P None new result → Checks g P None new result
 checks_none P f g new (Ok x) checks = checks
-checks_none P f g new (Err Magic) checks = checks
-checks_none P f g new (Err (Version a)) checks = checks
-checks_none P f g new (Err (OtherModel a b)) checks = checks
-checks_none P f g new (Err (Shape a b d)) checks = checks
-checks_none P f g new (Err (Length a b)) checks = checks
-checks_none P f g new (Err (Advice a b d)) checks = checks
-checks_none P f g new (Err (Digest a b)) checks = checks
-checks_none P f g new (Err Failed) checks = tt
-checks_none P f g new (Err Absent) checks = checks
-checks_none P f g new (Err Memory) checks = checks
+checks_none P f g new (Err fault) checks = checks
 
-digest_file : {X : Type 0} (P : X → List ℕ → Type 0) (file : Option (List ℕ)) (s : TableShape) (old new : Source) (computed : List ℕ) (result : Result X TableFault)
-    → ((bytes : List ℕ) → IsAt old bytes → computed ≡ sha256 (part bytes old.mark (old.place - old.mark))) → old.mark ≡ 0 → old.place ≡ 60 + 17 * entry_count s
-    → IsAtFile old file → Checks (kept_fault s computed) P file new result → Checks (digest_fault s) P file new result
-digest_file P None s old new computed result digest mark place stands checks = checks_none P (kept_fault s computed) (digest_fault s) new result checks
-digest_file P (Some bytes) s old new computed result digest mark place stands checks =
-    let width : old.place - old.mark ≡ 60 + 17 * entry_count s = omega arith in
+digest_file : {X : Type 0} (P : X → List ℕ → Type 0) (file : Option (List ℕ)) (s : TableShape) (old mid new : Source) (computed : List ℕ) (result : Result X TableFault)
+    → ((bytes : List ℕ) → IsAt old bytes → computed ≡ sha256 (part bytes old.mark (old.place - old.mark))) → old.mark ≡ 0 → StandsAt s old (60 + 17 * entry_count s) → mid.place ≡ old.place → mid.expected ≡ old.expected
+    → IsAtFile old file → Checks (fault_at mid.expected mid.place (fields.Digest computed)) P file new result → Checks (digest_fault s) P file new result
+unfolding kept_fault
+digest_file P None s old mid new computed result digest mark stands place expected at checks = checks_none P (fault_at mid.expected mid.place (fields.Digest computed)) (digest_fault s) new result checks
+digest_file P (Some bytes) s old mid new computed result digest mark stands place expected at checks =
+    let width : old.place - old.mark ≡ 60 + 17 * entry_count s = omega (arith, stands.place) in
     let is : computed ≡ sha256 (part bytes 0 (60 + 17 * entry_count s)) =
-    digest bytes stands ∙ ap (λ (m : ℕ). sha256 (part bytes m (old.place - old.mark))) mark ∙ ap (λ (m : ℕ). sha256 (part bytes 0 m)) width in
-    checks_same P (kept_fault s computed) (digest_fault s) bytes new result (ap (λ (d : List ℕ). kept_fault s d bytes) is) checks
+    digest bytes at ∙ ap (λ (m : ℕ). sha256 (part bytes m (old.place - old.mark))) mark ∙ ap (λ (m : ℕ). sha256 (part bytes 0 m)) width in
+    checks_same P (fault_at mid.expected mid.place (fields.Digest computed)) (digest_fault s) bytes new result
+    (ap (λ (e : ℕ). fault_at e mid.place (fields.Digest computed) bytes) (expected ∙ stands.expected)
+    ∙ ap (λ (k : ℕ). fault_at (length_1 s) k (fields.Digest computed) bytes) (place ∙ stands.place)
+    ∙ ap (λ (d : List ℕ). kept_fault s d bytes) is)
+    checks
 
 pub digest_given : {X : Type 0} (P : X → List ℕ → Type 0) (holds : Option Files) (name : List ℕ) (s : TableShape) (old mid new : Source) (computed : List ℕ) (result : Result X TableFault)
     → ((bytes : List ℕ) → IsAt old bytes → computed ≡ sha256 (part bytes old.mark (old.place - old.mark))) → ((file : Option (List ℕ)) → IsAtFile old file → IsAtFile mid file)
-    → old.mark ≡ 0 → old.place ≡ 60 + 17 * entry_count s
-    → Given holds name (λ file. IsAtFile mid file → Checks (kept_fault s computed) P file new result) → Given holds name (λ file. IsAtFile old file → Checks (digest_fault s) P file new result)
-digest_given P None name s old mid new computed result digest stays mark place checks = tt
-digest_given P (Some files) name s old mid new computed result digest stays mark place checks = λ stands.
-    digest_file P (get files name) s old new computed result digest mark place stands (checks (stays (get files name) stands))
+    → old.mark ≡ 0 → StandsAt s old (60 + 17 * entry_count s) → mid.place ≡ old.place → mid.expected ≡ old.expected
+    → Given holds name (λ file. IsAtFile mid file → Checks (fault_at mid.expected mid.place (fields.Digest computed)) P file new result) → Given holds name (λ file. IsAtFile old file → Checks (digest_fault s) P file new result)
+digest_given P None name s old mid new computed result digest stays mark stands place expected checks = tt
+digest_given P (Some files) name s old mid new computed result digest stays mark stands place expected checks = λ at.
+    digest_file P (get files name) s old mid new computed result digest mark stands place expected at (checks (stays (get files name) at))
 
 -- among the first n
 pub found_below : {A : Type 0} (f : ℕ → Option A) (n i : ℕ) (fault : A) → i < n → first_below f i ≡ None → f i ≡ Some fault → first_below f n ≡ Some fault
@@ -126,10 +115,6 @@ found_in_entry model s bytes i fault header none within here =
     ∙ ap (λ (o : Option TableFault). first (o ∷ tail_fault s bytes ∷ [])) (found_below (entry_fault s bytes) (entry_count s) i fault within none here)
 
 -- at the end
-first_one : (o : Option TableFault) → first (o ∷ []) ≡ o
-first_one None = refl
-first_one (Some fault) = refl
-
 pub found_at_end : (model : List ℕ) (s : TableShape) (bytes : List ℕ) → header_fault model s bytes ≡ None → first_below (entry_fault s bytes) (entry_count s) ≡ None → first_fault model s bytes ≡ tail_fault s bytes
 unfolding first_fault
 found_at_end model s bytes header none =

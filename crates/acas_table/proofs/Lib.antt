@@ -7,6 +7,8 @@ pub mod Stored
 pub mod Flat
 pub mod Ahead
 pub mod Cuts
+pub mod Fields
+pub mod Passed
 pub mod EntryLaws
 pub mod TextLaws
 pub mod Backward

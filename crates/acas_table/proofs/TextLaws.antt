@@ -1,10 +1,10 @@
 -- The text of a table has no fault.
-use Rattle.std.proofs.Common.{◌≡◌, ℕ, zero, suc, ◌+◌, ◌*◌, ◌^◌, ◌<◌, ◌≤◌, Bool, true, cond, List, [], ◌∷◌, ◌++◌, length, get_or, take, Option, None, Some, refl, sym, ◌∙◌, ap, subst, arith, append_assoc, length-append, eq-eqb}
+use Rattle.std.proofs.Common.{◌≡◌, ℕ, zero, suc, ◌+◌, ◌*◌, ◌^◌, ◌<◌, ◌≤◌, Bool, true, cond, List, [], ◌∷◌, ◌++◌, length, get_or, take, drop, Option, None, Some, refl, sym, ◌∙◌, ap, subst, arith, append_assoc, length-append, eq-eqb}
 use Rattle.std.proofs.Math.Seq.{drop-append-add}
 use Rattle.std.proofs.lemmas.Bool.{le-ltb}
 use Rattle.std.proofs.lemmas.List.{take_at, drop_at, append-nil, ext_get_or}
 use Rattle.std.proofs.lemmas.Slice.Eq.{bytes_eq-Decides}
-use Rattle.std.specs.Prelude.{◌==◌, codes}
+use Rattle.std.specs.List.{flat_map}
 use Rattle.std.specs.Str.{bytes_eq}
 use Rattle.byteorder.specs.Endian.{little_bytes, little_number}
 use Rattle.byteorder.specs.Numbers.{little_number-reads_back}
@@ -13,11 +13,14 @@ use Rattle.acas_units.specs.declared.pair.Entry.{Entry}
 use Rattle.acas_table.specs.Shape.{entry_count}
 use Rattle.acas_table.specs.Text.{header, entry_text, layer_text, part, length_1, entry_of}
 use Rattle.acas_table.specs.Tables.{IsTable, flat_text, no_entry}
-use Rattle.acas_table.specs.Faults.{first, first_below, field_fault, unless, magic_fault, version_fault, other_model_fault, shape_fault, advice_fault, front_fault, axes_fault, counts_fault, header_fault, entry_fault, kept_fault, rest_fault, tail_fault, first_fault}
+use Rattle.acas_table.specs.Faults.{first, first_below, field_fault, unless, width_of, fault_in, fields_fault, header_fields, advice_fault, header_fault, entry_fault, kept_fault, rest_fault, tail_fault, first_fault}
 use Rattle.acas_table.specs.declared.shape.TableShape.{TableShape}
 use Rattle.acas_table.specs.declared.fault.TableFault.{TableFault}
-use Rattle.acas_table.specs.declared.fault.TableFault.TheVariants.{Magic, Version, OtherModel, Shape, Length, Digest}
+use Rattle.acas_table.specs.declared.fault.TableFault.TheVariants.{Length}
+use Rattle.acas_table.specs.declared.field.Field.{Field}
+use Rattle.acas_table.specs.declared.field.Field.TheVariants as fields
 use Rattle.acas_table.proofs.EntryLaws.{entry_again}
+use Rattle.acas_table.proofs.Fields.{field_text, header_is}
 
 length_digest : (h : List ℕ) (n : ℕ) → length (digest_bytes h n) ≡ 4 * n
 unfolding digest_bytes
@@ -68,56 +71,59 @@ same_bytes x = (bytes_eq-Decides x x).1 refl
 number_back : (x : ℕ) → x < 2 ^ 32 → little_number 4 (little_bytes 4 x) ≡ x
 number_back x fits = little_number-reads_back 4 x [] (omega arith)
 
--- all that follows the magic, the version and the digest of the model
-abbrev shape_text : TableShape → List ℕ → List ℕ
-shape_text s rest = little_bytes 4 s.altitudes ++ (little_bytes 4 s.own_rates ++ (little_bytes 4 s.intruder_rates ++ (little_bytes 4 s.advisories ++ (little_bytes 4 s.horizon ++ rest))))
+-- a field that can be written
+abbrev IsField : Field → Type 0
+IsField fields.Magic = Unit {0}
+IsField (fields.Version expected) = expected < 2 ^ 32
+IsField (fields.Model digest) = length digest ≡ 32
+IsField (fields.Number place expected) = expected < 2 ^ 32
+IsField (fields.Digest computed) = length computed ≡ 32
 
-regroup : (c v m a b d e h r : List ℕ) → c ++ v ++ m ++ a ++ b ++ d ++ e ++ h ++ r ≡ c ++ (v ++ (m ++ (a ++ (b ++ (d ++ (e ++ (h ++ r)))))))
-regroup c v m a b d e h r = simp append_assoc
+abbrev AreFields : List Field → Type 0
+AreFields [] = Unit {0}
+AreFields (field ∷ rest) = IsField field × AreFields rest
 
-header_then : (model : List ℕ) (s : TableShape) (rest : List ℕ) → header 1 model s ++ rest ≡ codes "ACXT" ++ (little_bytes 4 1 ++ (model ++ shape_text s rest))
-unfolding header
-header_then model s rest = regroup (codes "ACXT") (little_bytes 4 1) model (little_bytes 4 s.altitudes) (little_bytes 4 s.own_rates) (little_bytes 4 s.intruder_rates) (little_bytes 4 s.advisories) (little_bytes 4 s.horizon) rest
+length_field : (field : Field) → IsField field → length (field_text field) ≡ width_of field
+length_field fields.Magic fits = refl
+length_field (fields.Version expected) fits = refl
+length_field (fields.Model digest) fits = fits
+length_field (fields.Number place expected) fits = refl
+length_field (fields.Digest computed) fits = fits
+
+field_again : (field : Field) → IsField field → fault_in field (field_text field) ≡ None
+field_again fields.Magic fits = refl
+field_again (fields.Version expected) fits = good_if _ _ (eq-eqb _ expected (number_back expected fits))
+field_again (fields.Model digest) fits = good_if _ _ (same_bytes digest)
+field_again (fields.Number place expected) fits = good_if _ _ (eq-eqb _ expected (number_back expected fits))
+field_again (fields.Digest computed) fits = good_if _ _ (same_bytes computed)
+
+-- fields that were written one after another
+fields_again : (e at : ℕ) (all : List Field) (t before rest : List ℕ) → AreFields all → t ≡ before ++ (flat_map field_text all ++ rest) → length before ≡ at → fields_fault e at all t ≡ None
+fields_again e at [] t before rest fit is long = refl
+fields_again e at (field ∷ more) t before rest fit is long =
+    let w = width_of field in
+    let here = field_text field in
+    let behind = flat_map field_text more ++ rest in
+    let width : length (field_text field) ≡ width_of field = length_field field fit.0 in
+    let apart : t ≡ before ++ (field_text field ++ (flat_map field_text more ++ rest)) = is ∙ ap (λ (l : List ℕ). before ++ l) (append_assoc here (flat_map field_text more) rest) in
+    let within : at + width_of field ≤ length t = omega (arith, ap length apart, length-append before (here ++ behind), length-append here behind, width, long) in
+    let found : part t at (width_of field) ≡ field_text field =
+    ap (λ (l : List ℕ). part l at w) apart ∙ ap (λ (k : ℕ). part (before ++ (here ++ behind)) k w) (omega arith) ∙ part_skip before (here ++ behind) at 0 w long ∙ part_here here behind w width in
+    ap (λ (o : Option TableFault). first (o ∷ fields_fault e (at + w) more t ∷ [])) (good_field e t at w here (fault_in field) within found (field_again field fit.0))
+    ∙ ap (λ (o : Option TableFault). first (o ∷ [])) (fields_again e (at + w) more t (before ++ here) rest fit.1 (apart ∙ sym (append_assoc before here behind)) (length-append before here ∙ omega (arith, width, long)))
 
 length_header : (model : List ℕ) (s : TableShape) → length model ≡ 32 → length (header 1 model s) ≡ 60
+unfolding header_fields
 length_header model s long =
-    ap length (sym (append-nil (header 1 model s)) ∙ header_then model s []) ∙ omega (arith, length-append model (shape_text s []), long)
-
-shape_part : (model : List ℕ) (s : TableShape) (rest : List ℕ) (m : ℕ) → length model ≡ 32 → part (header 1 model s ++ rest) (40 + m) 4 ≡ part (shape_text s rest) m 4
-shape_part model s rest m long =
-    ap (λ (l : List ℕ). part l (40 + m) 4) (header_then model s rest)
-    ∙ ap (λ (k : ℕ). part (codes "ACXT" ++ (little_bytes 4 1 ++ (model ++ shape_text s rest))) k 4) (omega arith)
-    ∙ part_skip (codes "ACXT" ++ little_bytes 4 1) (model ++ shape_text s rest) 8 (32 + m) 4 refl
-    ∙ part_skip model (shape_text s rest) 32 m 4 long
-
-good_shape : (model : List ℕ) (s : TableShape) (rest : List ℕ) (place number : ℕ) → length model ≡ 32 → place < 5 → number < 2 ^ 32 → part (shape_text s rest) (4 * place) 4 ≡ little_bytes 4 number
-    → shape_fault (length_1 s) place number (header 1 model s ++ rest) ≡ None
-good_shape model s rest place number long five fits is =
-    good_field (length_1 s) (header 1 model s ++ rest) (40 + 4 * place) 4 (little_bytes 4 number) (λ kept. unless (little_number 4 kept == number) (Shape place (little_number 4 kept) number))
-    (omega (arith, length-append (header 1 model s) rest, length_header model s long)) (shape_part model s rest (4 * place) long ∙ is)
-    (good_if (little_number 4 (little_bytes 4 number) == number) _ (eq-eqb _ number (number_back number fits)))
+    ap length (header_is model s) ∙ omega (arith, length-append model (flat_map field_text (drop 3 (header_fields model s))), long)
 
 good_header : (model : List ℕ) (s : TableShape) (es : List Entry) (rest : List ℕ) → IsTable model s es → header_fault model s (header 1 model s ++ rest) ≡ None
-unfolding front_fault axes_fault counts_fault
+unfolding header_fault header_fields
 good_header model s es rest table =
-    let t = header 1 model s ++ rest in
-    let long : 60 ≤ length (header 1 model s ++ rest) = omega (arith, length-append (header 1 model s) rest, length_header model s table.digest_is) in
-    let magic : magic_fault (length_1 s) t ≡ None =
-    good_field (length_1 s) t 0 4 (codes "ACXT") (λ found. unless (bytes_eq found (codes "ACXT")) Magic) (omega arith) (ap (λ (l : List ℕ). part l 0 4) (header_then model s rest)) refl in
-    let version : version_fault (length_1 s) t ≡ None =
-    good_field (length_1 s) t 4 4 (little_bytes 4 1) (λ found. unless (little_number 4 found == 1) (Version (little_number 4 found))) (omega arith) (ap (λ (l : List ℕ). part l 4 4) (header_then model s rest)) refl in
-    let kept : other_model_fault (length_1 s) model t ≡ None =
-    good_field (length_1 s) t 8 32 model (λ kept. unless (bytes_eq kept model) (OtherModel kept model)) (omega arith)
-    (ap (λ (l : List ℕ). part l 8 32) (header_then model s rest) ∙ part_here model (shape_text s rest) 32 table.digest_is) (good_if (bytes_eq model model) _ (same_bytes model)) in
-    let front = ap (λ (o : Option TableFault). first (o ∷ version_fault (length_1 s) t ∷ other_model_fault (length_1 s) model t ∷ [])) magic
-    ∙ ap (λ (o : Option TableFault). first (o ∷ other_model_fault (length_1 s) model t ∷ [])) version ∙ ap (λ (o : Option TableFault). first (o ∷ [])) kept in
-    let axes = ap (λ (o : Option TableFault). first (o ∷ shape_fault (length_1 s) 1 s.own_rates t ∷ shape_fault (length_1 s) 2 s.intruder_rates t ∷ [])) (good_shape model s rest 0 s.altitudes table.digest_is (omega arith) (omega (arith, table.shape.altitudes)) refl)
-    ∙ ap (λ (o : Option TableFault). first (o ∷ shape_fault (length_1 s) 2 s.intruder_rates t ∷ [])) (good_shape model s rest 1 s.own_rates table.digest_is (omega arith) (omega (arith, table.shape.own_rates)) refl)
-    ∙ ap (λ (o : Option TableFault). first (o ∷ [])) (good_shape model s rest 2 s.intruder_rates table.digest_is (omega arith) (omega (arith, table.shape.intruder_rates)) refl) in
-    let counts = ap (λ (o : Option TableFault). first (o ∷ shape_fault (length_1 s) 4 s.horizon t ∷ [])) (good_shape model s rest 3 s.advisories table.digest_is (omega arith) (omega (arith, table.shape.advisories)) refl)
-    ∙ ap (λ (o : Option TableFault). first (o ∷ [])) (good_shape model s rest 4 s.horizon table.digest_is (omega arith) (omega (arith, table.shape.horizon)) refl) in
-    ap (λ (o : Option TableFault). first (o ∷ axes_fault s t ∷ counts_fault s t ∷ [])) front
-    ∙ ap (λ (o : Option TableFault). first (o ∷ counts_fault s t ∷ [])) axes ∙ ap (λ (o : Option TableFault). first (o ∷ [])) counts
+    let fits = table.shape in
+    let numbers : AreFields (drop 3 (header_fields model s)) =
+    (omega (arith, fits.altitudes), (omega (arith, fits.own_rates), (omega (arith, fits.intruder_rates), (omega (arith, fits.advisories), (omega (arith, fits.horizon), tt))))) in
+    fields_again (length_1 s) 0 (header_fields model s) (header 1 model s ++ rest) [] rest (tt, (omega arith, (table.digest_is, numbers))) (ap (λ (l : List ℕ). l ++ rest) (header_is model s)) refl
 
 length_text : (model : List ℕ) (s : TableShape) (es : List Entry) → IsTable model s es → length (flat_text model s es) ≡ length_1 s
 length_text model s es table =
@@ -167,8 +173,8 @@ good_tail model s es table =
     ap (λ (l : List ℕ). take 32 l) (drop_at before (sha256 before) at all) ∙ ap (λ (l : List ℕ). take 32 l) (sym (append-nil (sha256 before))) ∙ take_at (sha256 before) [] 32 (length-sha256 before) in
     let digest : kept_fault s (sha256 (part t 0 at)) t ≡ None =
     ap (λ (p : List ℕ). kept_fault s (sha256 p) t) front
-    ∙ good_field (length_1 s) t at 32 (sha256 before) (λ kept. unless (bytes_eq kept (sha256 before)) (Digest kept (sha256 before))) (omega (arith, length_text model s es table)) behind
-    (good_if (bytes_eq (sha256 before) (sha256 before)) _ (same_bytes (sha256 before))) in
+    ∙ good_field (length_1 s) t at 32 (sha256 before) (fault_in (fields.Digest (sha256 before))) (omega (arith, length_text model s es table)) behind
+    (field_again (fields.Digest (sha256 before)) (length-sha256 before)) in
     let rest : rest_fault s t ≡ None =
     ap (λ (b : Bool). cond b (Some (Length (length_1 s) (length_1 s + 1))) None) (le-ltb (length_1 s) (length t) (omega (arith, length_text model s es table))) in
     ap (λ (o : Option TableFault). first (o ∷ rest_fault s t ∷ [])) digest ∙ ap (λ (o : Option TableFault). first (o ∷ [])) rest

@@ -6,6 +6,8 @@ use Rattle.byteorder.specs.Endian.{little_number}
 use Rattle.acas_table.specs.Shape.{entry_count}
 use Rattle.acas_table.specs.Text.{part, length_1, entry_of}
 use Rattle.acas_table.specs.declared.shape.TableShape.{TableShape}
+use Rattle.acas_table.specs.declared.field.Field.{Field}
+use Rattle.acas_table.specs.declared.field.Field.TheVariants as fields
 use Rattle.acas_table.specs.declared.fault.TableFault.{TableFault}
 use Rattle.acas_table.specs.declared.fault.TableFault.TheVariants.{Magic, Version, OtherModel, Shape, Length, Advice, Digest}
 
@@ -32,47 +34,54 @@ unless good fault = if good then None else Some fault
 abbrev pub field_fault : ℕ → List ℕ → ℕ → ℕ → (List ℕ → Option TableFault) → Option TableFault
 field_fault expected bytes at n fault = first (end_fault expected bytes at n ∷ fault (part bytes at n) ∷ [])
 
-abbrev pub magic_fault : ℕ → List ℕ → Option TableFault
-magic_fault expected bytes =
-    field_fault expected bytes 0 4 (λ found. unless (bytes_eq found (codes "ACXT")) Magic)
+-- how many bytes a field has
+abbrev pub width_of : Field → ℕ
+width_of fields.Magic = 4
+width_of (fields.Version expected) = 4
+width_of (fields.Model digest) = 32
+width_of (fields.Number place expected) = 4
+width_of (fields.Digest computed) = 32
 
-abbrev pub version_fault : ℕ → List ℕ → Option TableFault
-version_fault expected bytes =
-    field_fault expected bytes 4 4 (λ found. unless (little_number 4 found == 1) (Version (little_number 4 found)))
+-- the fault of a field that has the found bytes
+abbrev pub fault_in : Field → List ℕ → Option TableFault
+fault_in fields.Magic found = unless (bytes_eq found (codes "ACXT")) Magic
+fault_in (fields.Version expected) found =
+    unless (little_number 4 found == expected) (Version (little_number 4 found))
+fault_in (fields.Model digest) found = unless (bytes_eq found digest) (OtherModel found digest)
+fault_in (fields.Number place expected) found =
+    unless (little_number 4 found == expected) (Shape place (little_number 4 found) expected)
+fault_in (fields.Digest computed) found = unless (bytes_eq found computed) (Digest found computed)
 
-abbrev pub other_model_fault : ℕ → List ℕ → List ℕ → Option TableFault
-other_model_fault expected digest bytes =
-    field_fault expected bytes 8 32 (λ kept. unless (bytes_eq kept digest) (OtherModel kept digest))
+-- the fault of a field at a place
+abbrev pub fault_at : ℕ → ℕ → Field → List ℕ → Option TableFault
+fault_at expected at field bytes = field_fault expected bytes at (width_of field) (fault_in field)
 
--- the number at one of the five places of the shape
-abbrev pub shape_fault : ℕ → ℕ → ℕ → List ℕ → Option TableFault
-shape_fault expected place number bytes =
-    field_fault expected bytes (40 + 4 * place) 4
-    (λ kept. unless (little_number 4 kept == number) (Shape place (little_number 4 kept) number))
+-- how many bytes some fields have
+abbrev pub widths : List Field → ℕ
+widths [] = 0
+widths (field ∷ rest) = width_of field + widths rest
 
-unfoldable pub front_fault : List ℕ → TableShape → List ℕ → Option TableFault
-front_fault digest s bytes =
-    first (
-    magic_fault (length_1 s) bytes
-    ∷ version_fault (length_1 s) bytes
-    ∷ other_model_fault (length_1 s) digest bytes
-    ∷ [])
+-- the first fault of fields that follow one another from a place on
+abbrev pub fields_fault : ℕ → ℕ → List Field → List ℕ → Option TableFault
+fields_fault expected at [] bytes = None
+fields_fault expected at (field ∷ rest) bytes =
+    first (fault_at expected at field bytes ∷ fields_fault expected (at + width_of field) rest bytes ∷ [])
 
-unfoldable pub axes_fault : TableShape → List ℕ → Option TableFault
-axes_fault s bytes =
-    first (
-    shape_fault (length_1 s) 0 s.altitudes bytes
-    ∷ shape_fault (length_1 s) 1 s.own_rates bytes
-    ∷ shape_fault (length_1 s) 2 s.intruder_rates bytes
-    ∷ [])
+-- the fields of the header
+unfoldable pub header_fields : List ℕ → TableShape → List Field
+header_fields digest s =
+    fields.Magic
+    ∷ fields.Version 1
+    ∷ fields.Model digest
+    ∷ fields.Number 0 s.altitudes
+    ∷ fields.Number 1 s.own_rates
+    ∷ fields.Number 2 s.intruder_rates
+    ∷ fields.Number 3 s.advisories
+    ∷ fields.Number 4 s.horizon
+    ∷ []
 
-unfoldable pub counts_fault : TableShape → List ℕ → Option TableFault
-counts_fault s bytes =
-    first (shape_fault (length_1 s) 3 s.advisories bytes ∷ shape_fault (length_1 s) 4 s.horizon bytes ∷ [])
-
-abbrev pub header_fault : List ℕ → TableShape → List ℕ → Option TableFault
-header_fault digest s bytes =
-    first (front_fault digest s bytes ∷ axes_fault s bytes ∷ counts_fault s bytes ∷ [])
+unfoldable pub header_fault : List ℕ → TableShape → List ℕ → Option TableFault
+header_fault digest s bytes = fields_fault (length_1 s) 0 (header_fields digest s) bytes
 
 -- the advice of an entry, by its number: 255 in layer 0, and an advisory's number above it
 abbrev pub advice_fault : TableShape → ℕ → ℕ → Option TableFault
@@ -87,8 +96,7 @@ entry_fault s bytes i =
 -- the digest at the end, where the bytes before it have this one
 unfoldable pub kept_fault : TableShape → List ℕ → List ℕ → Option TableFault
 kept_fault s computed bytes =
-    field_fault (length_1 s) bytes (60 + 17 * entry_count s) 32
-    (λ kept. unless (bytes_eq kept computed) (Digest kept computed))
+    fault_at (length_1 s) (60 + 17 * entry_count s) (fields.Digest computed) bytes
 
 abbrev pub digest_fault : TableShape → List ℕ → Option TableFault
 digest_fault s bytes = kept_fault s (sha256 (part bytes 0 (60 + 17 * entry_count s))) bytes

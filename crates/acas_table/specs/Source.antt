@@ -1,16 +1,17 @@
 -- A source that stands at a place of a file.
-use Rattle.std.specs.Prelude.{◌≡◌, ℕ, ◌+◌, ◌-◌, ◌<◌, ◌≤◌, List, length, take, Option, Some, None, Result, Ok, Err, ⊤}
+use Rattle.std.specs.Prelude.{◌≡◌, ℕ, ◌+◌, ◌-◌, ◌≤◌, List, length, take, Option, Some, None, Result, Ok, Err, IsErrOf, ⊤}
+use Rattle.std.specs.Option.{option_map}
 use Rattle.sha2.specs.Hashers.{Holds256}
 use Rattle.acas_outside.specs.Bytes.{IsBytes}
 use Rattle.acas_outside.specs.Counts.{raised}
+use Rattle.acas_outside.specs.Files.{Given}
+use Rattle.acas_outside.specs.Frame.{OnlyReads}
 use Rattle.acas_outside.specs.declared.folder.Folder.{Ghosts as FolderMeanings}
-use Rattle.acas_table.specs.Text.{part}
-use Rattle.acas_table.specs.Faults.{end_fault}
+use Rattle.acas_table.specs.Text.{part, length_1}
+use Rattle.acas_table.specs.declared.shape.TableShape.{TableShape}
 use Rattle.acas_table.specs.declared.fault.TableFault.{TableFault}
 use Rattle.acas_table.specs.declared.fault.TableFault.TheVariants as faults
 use Rattle.acas_table.specs.declared.source.Source.{Source}
-use Rattle.acas_table.specs.declared.source.Miss.{Miss}
-use Rattle.acas_table.specs.declared.source.Miss.TheVariants.{Ends, Absent, Failed}
 
 -- the place before which the digest has taken in all
 abbrev pub hashed_place : Source → ℕ
@@ -36,6 +37,15 @@ pub record TakesMore {F : Type 0} (d : FolderMeanings F) (old new : F) (before n
   pub later : bytes_taken before ≤ bytes_taken now
   pub taken : d.taken new ≡ raised (d.taken old) (bytes_taken now - bytes_taken before)
 
+-- a call that reads on in the file under a name: it takes no memory, says that the file is not held only where it is
+-- not, and tells of a read that failed or missed
+pub record ReadsTable {F X : Type 0} (d : FolderMeanings F) (old new : F) (name : List ℕ) (before now : Source)
+    (result : Result X TableFault) : Type 0 where
+  pub memory : IsErrOf result faults.Memory → ⊥
+  pub not_held : IsErrOf result faults.Absent → Given (d.holds old) name (λ file. file ≡ None)
+  pub taken : TakesMore d old new before now
+  pub frame : OnlyReads d old new (IsErrOf result faults.Failed) (IsErrOf result faults.Absent)
+
 -- the source is at its place in these bytes, and has in its buffer their next ones, behind those that the digest lacks
 pub record IsAt (s : Source) (bytes : List ℕ) : Type 0 where
   pub ahead : part s.buffer.items s.hashed (s.to - s.hashed) ≡ part bytes (hashed_place s) (s.to - s.hashed)
@@ -55,43 +65,25 @@ pub record Moves (old new : Source) : Type 0 where
   pub expected : new.expected ≡ old.expected
   pub mark : new.mark ≡ old.mark
 
--- one read: there is more, or the file ends behind the bytes at hand
-abbrev pub GivesMore : {X : Type 0} → Source → Option (List ℕ) → Source → Result X Miss → Type 0
-GivesMore old None new (Ok x) = ⊥
-GivesMore old (Some bytes) new (Ok x) = IsAt new bytes
-GivesMore old None new (Err (Ends found)) = ⊥
-GivesMore old (Some bytes) new (Err (Ends found)) = (found ≡ length bytes) × (found ≡ bytes_taken old)
-GivesMore old file new (Err Failed) = ⊤
-GivesMore old file new (Err Absent) = file ≡ None
-
--- so many bytes are at hand, or the file ends before
-abbrev pub Fills : {X : Type 0} → Source → ℕ → Option (List ℕ) → Source → Result X Miss → Type 0
-Fills old n None new (Ok x) = ⊥
-Fills old n (Some bytes) new (Ok x) = IsAt new bytes
-Fills old n None new (Err (Ends found)) = ⊥
-Fills old n (Some bytes) new (Err (Ends found)) = (found ≡ length bytes) × (found < old.place + n)
-Fills old n file new (Err Failed) = ⊤
-Fills old n file new (Err Absent) = file ≡ None
-
--- the n bytes at a place, or the file ends before
-abbrev pub GivesField : ℕ → ℕ → ℕ → Option (List ℕ) → Source → Result (List ℕ) TableFault → Type 0
-GivesField expected at n None new (Ok field) = ⊥
-GivesField expected at n (Some bytes) new (Ok field) =
-    (end_fault expected bytes at n ≡ None) × (field ≡ part bytes at n) × IsAt new bytes
-GivesField expected at n file new (Err faults.Failed) = ⊤
-GivesField expected at n file new (Err faults.Absent) = file ≡ None
-GivesField expected at n None new (Err fault) = ⊥
-GivesField expected at n (Some bytes) new (Err fault) = end_fault expected bytes at n ≡ Some fault
+-- a fault is answered: a read failed, there is no file, or this was found in the bytes of the file
+abbrev pub Blames : Option (Option TableFault) → TableFault → Type 0
+Blames found faults.Failed = ⊤
+Blames found faults.Absent = found ≡ None
+Blames None fault = ⊥
+Blames (Some found) fault = found ≡ Some fault
 
 -- what was read has no fault, or its fault is answered
 abbrev pub Checks : {X : Type 0} → (List ℕ → Option TableFault) → (X → List ℕ → Type 0)
     → Option (List ℕ) → Source → Result X TableFault → Type 0
 Checks fault P None new (Ok x) = ⊥
 Checks fault P (Some bytes) new (Ok x) = (fault bytes ≡ None) × P x bytes × IsAt new bytes
-Checks fault P file new (Err faults.Failed) = ⊤
-Checks fault P file new (Err faults.Absent) = file ≡ None
-Checks fault P None new (Err f) = ⊥
-Checks fault P (Some bytes) new (Err f) = fault bytes ≡ Some f
+Checks fault P file new (Err f) = Blames (option_map fault file) f
+
+-- the source is of a table of a shape, and stands at this place
+pub record StandsAt (s : TableShape) (source : Source) (at : ℕ) : Type 0 where
+  pub place : source.place ≡ at
+  pub limit : source.limit ≡ length_1 s + 1
+  pub expected : source.expected ≡ length_1 s
 
 -- n bytes are read, and what the source knows of the file stays
 pub record Steps (old new : Source) (n : ℕ) : Type 0 where
@@ -105,7 +97,4 @@ abbrev pub Finds : {X : Type 0} → (List ℕ → Option TableFault) → Option 
     → Result X TableFault → Type 0
 Finds fault None (Ok x) = ⊥
 Finds fault (Some bytes) (Ok x) = (fault bytes ≡ None) × IsBytes bytes
-Finds fault file (Err faults.Failed) = ⊤
-Finds fault file (Err faults.Absent) = file ≡ None
-Finds fault None (Err f) = ⊥
-Finds fault (Some bytes) (Err f) = fault bytes ≡ Some f
+Finds fault file (Err f) = Blames (option_map fault file) f

@@ -4,6 +4,7 @@
 mod body;
 mod encoding;
 mod fault;
+mod field;
 mod header;
 mod laws;
 mod parts;

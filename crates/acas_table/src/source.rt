@@ -2,22 +2,14 @@
 //!
 //! The digest takes in large pieces: what was read stays in the buffer until more bytes are wanted or the digest is.
 ghost use Rattle.std.specs.Prelude.{◌≡◌, ◌≤◌, ◌<◌, ◌+◌, ◌-◌, ◌^◌, length, IfOk};
-ghost use Rattle.acas_outside.specs.Bytes.{IsBytes};
 
 use crate::encoding::decode_entry;
 use crate::fault::TableFault;
+use crate::field::Field;
 use acas_outside::{Folder, ReadMiss};
 use acas_units::Entry;
 use sha2::{Digest, Sha256};
 use std::alloc::{AllocError, Global};
-
-/// Why the next bytes were not given.
-#[derive(Clone, Copy, Debug, PartialEq, Eq)]
-pub enum Miss {
-    Ends { found: u64 },
-    Absent,
-    Failed,
-}
 
 /// How many bytes one read asks for.
 const PIECE: usize = 65_535;
@@ -46,13 +38,13 @@ pub struct Source {
 }
 
 impl Source {
-    ghost use Rattle.std.specs.Prelude.{◌≡◌, ◌≤◌, ◌<◌, ◌+◌, ◌-◌, ◌^◌, List, ℕ, None, IsTrue, IsErrOf, OnErr, OnOk, IfOk, Option, length, ⊤};
+    ghost use Rattle.std.specs.Prelude.{◌≡◌, ◌≤◌, ◌<◌, ◌+◌, ◌-◌, ◌^◌, List, ℕ, IsTrue, OnErr, OnOk, IfOk, Option, length, ⊤};
     ghost use Rattle.sha2.specs.Sha256.{sha256};
     ghost use Rattle.acas_table.specs.Text.{entry_of, part};
-    ghost use Rattle.acas_table.specs.Faults.{end_fault, more_fault};
+    ghost use Rattle.acas_table.specs.Faults.{end_fault, fault_at, fields_fault, more_fault, width_of, widths};
     ghost use Rattle.acas_outside.specs.Files.{Given};
-    ghost use Rattle.acas_outside.specs.Frame.{OnlyReads};
-    ghost use Rattle.acas_table.specs.Source.{IsAt, IsAtFile, Moves, GivesMore, Fills, GivesField, Checks, Finds, Takes, TakesMore, bytes_taken};
+    ghost use Rattle.acas_outside.specs.Bytes.{IsBytes};
+    ghost use Rattle.acas_table.specs.Source.{IsAt, IsAtFile, Moves, Checks, Finds, ReadsTable, Steps, bytes_taken};
 
     /// A source at the front of a file that is to have so many bytes.
     pub fn new(alloc: Global, expected: u64) -> Result<Source, AllocError>
@@ -78,54 +70,56 @@ impl Source {
     }
 
     // Reads more bytes behind those at hand.
-    fn more<F: Folder>(&mut self, folder: &mut F, name: &str) -> Result<(), Miss>
+    fn more<F: Folder>(&mut self, folder: &mut F, name: &str) -> Result<(), TableFault>
         requires served { IsTrue (F.serves folder.old name.now) }
         requires room { self.old.to < length self.old.buffer.items }
         requires limit { bytes_taken self.old < self.old.limit }
         ensures given { Given (F.holds folder.old) name.now (λ file. IsAtFile self.old file →
-            GivesMore self.old file self.new result) }
+            Checks (λ bytes. end_fault self.old.expected bytes (bytes_taken self.old) 1) (λ _ _. ⊤)
+            file self.new result) }
         ensures grows { OnOk result (self.old.to < self.new.to) }
         ensures none { OnErr result (self.new.to ≡ self.old.to) }
         ensures same { Moves self.old self.new }
         ensures from { self.new.from ≡ self.old.from }
         ensures hashed { self.new.hashed ≡ self.old.hashed }
-        ensures not_held { IsErrOf result Miss.Absent →
-            Given (F.holds folder.old) name.now (λ file. file ≡ None) }
-        ensures taken { Takes F.Folder folder.old folder.new (bytes_taken self.old) (bytes_taken self.new) }
-        ensures frame { OnlyReads F.Folder folder.old folder.new
-            (IsErrOf result Miss.Failed) (IsErrOf result Miss.Absent) }
+        ensures reads { ReadsTable F.Folder folder.old folder.new name.now self.old self.new result }
     {
         let at = self.place + (self.to - self.from) as u64;
         let room = (self.buffer.len() - self.to).min((self.limit - at) as usize);
         let end = self.to + room;
         match folder.read(name, at, &mut self.buffer[self.to..end]) {
-            Ok(0) => Err(Miss::Ends { found: at }),
+            Ok(0) => Err(TableFault::Length {
+                expected: self.expected,
+                found: at,
+            }),
             Ok(count) => {
                 self.to += count;
                 Ok(())
             }
-            Err(ReadMiss::Absent) => Err(Miss::Absent),
-            Err(ReadMiss::Failed) => Err(Miss::Failed),
+            Err(ReadMiss::Absent) => Err(TableFault::Absent),
+            Err(ReadMiss::Failed) => Err(TableFault::Failed),
         }
     }
 
     // Sees that so many bytes are at hand.
     #[inline(always)]
-    fn fill<F: Folder>(&mut self, folder: &mut F, name: &str, wanted: usize) -> Result<(), Miss>
+    fn fill<F: Folder>(
+        &mut self,
+        folder: &mut F,
+        name: &str,
+        wanted: usize,
+    ) -> Result<(), TableFault>
         requires served { IsTrue (F.serves folder.old name.now) }
         requires some { 0 < wanted }
         requires small { wanted ≤ 64 }
         requires limit { self.old.place + wanted ≤ self.old.limit }
         ensures given { Given (F.holds folder.old) name.now (λ file. IsAtFile self.old file →
-            Fills self.old wanted file self.new result) }
+            Checks (λ bytes. end_fault self.old.expected bytes self.old.place wanted) (λ _ _. ⊤)
+            file self.new result) }
         ensures filled { OnOk result (wanted ≤ self.new.to - self.new.from) }
         ensures short { OnErr result (self.new.to - self.new.from < wanted) }
         ensures same { Moves self.old self.new }
-        ensures not_held { IsErrOf result Miss.Absent →
-            Given (F.holds folder.old) name.now (λ file. file ≡ None) }
-        ensures taken { Takes F.Folder folder.old folder.new (bytes_taken self.old) (bytes_taken self.new) }
-        ensures frame { OnlyReads F.Folder folder.old folder.new
-            (IsErrOf result Miss.Failed) (IsErrOf result Miss.Absent) }
+        ensures reads { ReadsTable F.Folder folder.old folder.new name.now self.old self.new result }
     {
         if self.to - self.from >= wanted {
             return Ok(());
@@ -135,21 +129,23 @@ impl Source {
 
     // Reads on until so many bytes are at hand. It is called once for many fields.
     #[inline(never)]
-    fn refill<F: Folder>(&mut self, folder: &mut F, name: &str, wanted: usize) -> Result<(), Miss>
+    fn refill<F: Folder>(
+        &mut self,
+        folder: &mut F,
+        name: &str,
+        wanted: usize,
+    ) -> Result<(), TableFault>
         requires served { IsTrue (F.serves folder.old name.now) }
         requires short { self.old.to - self.old.from < wanted }
         requires small { wanted ≤ 64 }
         requires limit { self.old.place + wanted ≤ self.old.limit }
         ensures given { Given (F.holds folder.old) name.now (λ file. IsAtFile self.old file →
-            Fills self.old wanted file self.new result) }
+            Checks (λ bytes. end_fault self.old.expected bytes self.old.place wanted) (λ _ _. ⊤)
+            file self.new result) }
         ensures filled { OnOk result (wanted ≤ self.new.to - self.new.from) }
         ensures short { OnErr result (self.new.to - self.new.from < wanted) }
         ensures same { Moves self.old self.new }
-        ensures not_held { IsErrOf result Miss.Absent →
-            Given (F.holds folder.old) name.now (λ file. file ≡ None) }
-        ensures taken { Takes F.Folder folder.old folder.new (bytes_taken self.old) (bytes_taken self.new) }
-        ensures frame { OnlyReads F.Folder folder.old folder.new
-            (IsErrOf result Miss.Failed) (IsErrOf result Miss.Absent) }
+        ensures reads { ReadsTable F.Folder folder.old folder.new name.now self.old self.new result }
     {
         self.hash();
         self.shift();
@@ -187,64 +183,71 @@ impl Source {
         self.hashed = self.from;
     }
 
-    // Sees that so many bytes are at hand, or says why they are not.
-    #[inline(always)]
-    fn ready<F: Folder>(
+    // Bytes that are at hand.
+    fn at_hand(&self, count: usize) -> &[u8]
+        requires { count ≤ self.now.to - self.now.from }
+        ensures long { length result.now ≡ count }
+        ensures value { (bytes : List ℕ) → IsAt self.now bytes → result.now ≡ part bytes self.now.place count }
+        ensures is { result.now ≡ part self.now.buffer.items self.now.from count }
+    {
+        &self.buffer[self.from..self.from + count]
+    }
+
+    // Passes over bytes that are at hand.
+    fn pass(&mut self, count: usize)
+        requires there { count ≤ self.old.to - self.old.from }
+        requires bytes { IsBytes (part self.old.buffer.items self.old.from count) }
+        ensures at { (bytes : List ℕ) → IsAt self.old bytes → IsAt self.new bytes }
+        ensures steps { Steps self.old self.new count }
+        ensures taken { bytes_taken self.new ≡ bytes_taken self.old }
+    {
+        self.from += count;
+        self.place += count as u64;
+    }
+
+    /// Checks the next field of the file, which the digest takes in.
+    pub fn check<F: Folder>(
         &mut self,
+        field: &Field,
         folder: &mut F,
         name: &str,
-        wanted: usize,
     ) -> Result<(), TableFault>
         requires served { IsTrue (F.serves folder.old name.now) }
-        requires some { 0 < wanted }
-        requires small { wanted ≤ 64 }
-        requires limit { self.old.place + wanted ≤ self.old.limit }
+        requires limit { self.old.place + width_of field.now ≤ self.old.limit }
         ensures given { Given (F.holds folder.old) name.now (λ file. IsAtFile self.old file →
-            Checks (λ bytes. end_fault self.old.expected bytes self.old.place wanted) (λ _ _. ⊤)
-            file self.new result) }
-        ensures filled { OnOk result (wanted ≤ self.new.to - self.new.from) }
-        ensures same { Moves self.old self.new }
-        ensures memory { IsErrOf result TableFault.Memory → ⊥ }
-        ensures not_held { IsErrOf result TableFault.Absent →
-            Given (F.holds folder.old) name.now (λ file. file ≡ None) }
-        ensures taken { TakesMore F.Folder folder.old folder.new self.old self.new }
-        ensures frame { OnlyReads F.Folder folder.old folder.new
-            (IsErrOf result TableFault.Failed) (IsErrOf result TableFault.Absent) }
+            Checks (fault_at self.old.expected self.old.place field.now) (λ _ _. ⊤) file self.new result) }
+        ensures steps { OnOk result (Steps self.old self.new (width_of field.now)) }
+        ensures reads { ReadsTable F.Folder folder.old folder.new name.now self.old self.new result }
     {
-        match self.fill(folder, name, wanted) {
-            Ok(()) => Ok(()),
-            Err(Miss::Ends { found }) => Err(TableFault::Length {
-                expected: self.expected,
-                found,
-            }),
-            Err(Miss::Absent) => Err(TableFault::Absent),
-            Err(Miss::Failed) => Err(TableFault::Failed),
+        let width = field.width();
+        self.fill(folder, name, width)?;
+        let fault = field.fault(self.at_hand(width));
+        self.pass(width);
+        match fault {
+            Some(fault) => Err(fault),
+            None => Ok(()),
         }
     }
 
-    /// The next bytes of the file, which the digest takes in.
-    pub fn field<const N: usize, F: Folder>(
+    /// Checks fields that follow one another.
+    pub fn check_all<F: Folder>(
         &mut self,
+        fields: &[Field],
         folder: &mut F,
         name: &str,
-    ) -> Result<[u8; N], TableFault>
+    ) -> Result<(), TableFault>
         requires served { IsTrue (F.serves folder.old name.now) }
-        requires some { 0 < N }
-        requires small { N ≤ 64 }
-        requires limit { self.old.place + N ≤ self.old.limit }
+        requires some { 0 < length fields.now }
+        requires limit { self.old.place + widths fields.now ≤ self.old.limit }
         ensures given { Given (F.holds folder.old) name.now (λ file. IsAtFile self.old file →
-            GivesField self.old.expected self.old.place N file self.new result) }
-        ensures place { IfOk result (λ field. self.new.place ≡ self.old.place + N) }
-        ensures mark { self.new.mark ≡ self.old.mark }
-        ensures memory { IsErrOf result TableFault.Memory → ⊥ }
-        ensures not_held { IsErrOf result TableFault.Absent →
-            Given (F.holds folder.old) name.now (λ file. file ≡ None) }
-        ensures taken { TakesMore F.Folder folder.old folder.new self.old self.new }
-        ensures frame { OnlyReads F.Folder folder.old folder.new
-            (IsErrOf result TableFault.Failed) (IsErrOf result TableFault.Absent) }
+            Checks (fields_fault self.old.expected self.old.place fields.now) (λ _ _. ⊤) file self.new result) }
+        ensures steps { OnOk result (Steps self.old self.new (widths fields.now)) }
+        ensures reads { ReadsTable F.Folder folder.old folder.new name.now self.old self.new result }
     {
-        self.ready(folder, name, N)?;
-        Ok(self.pass())
+        for field in fields {
+            self.check(field, folder, name)?;
+        }
+        Ok(())
     }
 
     /// The next entry of the file, which the digest takes in.
@@ -254,17 +257,13 @@ impl Source {
         ensures given { Given (F.holds folder.old) name.now (λ file. IsAtFile self.old file →
             Checks (λ bytes. end_fault self.old.expected bytes self.old.place 17)
             (λ entry bytes. entry ≡ entry_of (part bytes self.old.place 17)) file self.new result) }
-        ensures place { IfOk result (λ entry. self.new.place ≡ self.old.place + 17) }
-        ensures mark { self.new.mark ≡ self.old.mark }
-        ensures memory { IsErrOf result TableFault.Memory → ⊥ }
-        ensures not_held { IsErrOf result TableFault.Absent →
-            Given (F.holds folder.old) name.now (λ file. file ≡ None) }
-        ensures taken { TakesMore F.Folder folder.old folder.new self.old self.new }
-        ensures frame { OnlyReads F.Folder folder.old folder.new
-            (IsErrOf result TableFault.Failed) (IsErrOf result TableFault.Absent) }
+        ensures steps { OnOk result (Steps self.old self.new 17) }
+        ensures reads { ReadsTable F.Folder folder.old folder.new name.now self.old self.new result }
     {
-        self.ready(folder, name, ENTRY)?;
-        Ok(self.pass_entry())
+        self.fill(folder, name, ENTRY)?;
+        let entry = decode_entry(self.at_hand(ENTRY));
+        self.pass(ENTRY);
+        Ok(entry)
     }
 
     /// Sees that no byte follows the expected ones.
@@ -275,56 +274,16 @@ impl Source {
         ensures given { Given (F.holds folder.old) name.now (λ file. IsAtFile self.old file →
             Finds (more_fault self.old.expected) file result) }
         ensures all { OnOk result (bytes_taken self.new ≡ self.old.expected) }
-        ensures memory { IsErrOf result TableFault.Memory → ⊥ }
-        ensures not_held { IsErrOf result TableFault.Absent →
-            Given (F.holds folder.old) name.now (λ file. file ≡ None) }
-        ensures taken { TakesMore F.Folder folder.old folder.new self.old self.new }
-        ensures frame { OnlyReads F.Folder folder.old folder.new
-            (IsErrOf result TableFault.Failed) (IsErrOf result TableFault.Absent) }
+        ensures reads { ReadsTable F.Folder folder.old folder.new name.now self.old self.new result }
     {
         match self.fill(folder, name, 1) {
             Ok(()) => Err(TableFault::Length {
                 expected: self.expected,
                 found: self.expected + 1,
             }),
-            Err(Miss::Ends { .. }) => Ok(()),
-            Err(Miss::Absent) => Err(TableFault::Absent),
-            Err(Miss::Failed) => Err(TableFault::Failed),
+            Err(TableFault::Length { .. }) => Ok(()),
+            Err(fault) => Err(fault),
         }
-    }
-
-    // Passes over bytes that are at hand.
-    fn pass<const N: usize>(&mut self) -> [u8; N]
-        requires { N ≤ self.old.to - self.old.from }
-        ensures given { (bytes : List ℕ) → IsAt self.old bytes →
-            (result ≡ part bytes self.old.place N) × IsAt self.new bytes }
-        ensures taken { bytes_taken self.new ≡ bytes_taken self.old }
-        ensures place { self.new.place ≡ self.old.place + N }
-        ensures limit { self.new.limit ≡ self.old.limit }
-        ensures expected { self.new.expected ≡ self.old.expected }
-        ensures mark { self.new.mark ≡ self.old.mark }
-    {
-        let field = array_of(&self.buffer[self.from..self.from + N]);
-        self.from += N;
-        self.place += N as u64;
-        field
-    }
-
-    // Passes over an entry that is at hand.
-    fn pass_entry(&mut self) -> Entry
-        requires { 17 ≤ self.old.to - self.old.from }
-        ensures given { (bytes : List ℕ) → IsAt self.old bytes →
-            (result ≡ entry_of (part bytes self.old.place 17)) × IsAt self.new bytes }
-        ensures taken { bytes_taken self.new ≡ bytes_taken self.old }
-        ensures place { self.new.place ≡ self.old.place + 17 }
-        ensures limit { self.new.limit ≡ self.old.limit }
-        ensures expected { self.new.expected ≡ self.old.expected }
-        ensures mark { self.new.mark ≡ self.old.mark }
-    {
-        let entry = decode_entry(&self.buffer[self.from..self.from + ENTRY]);
-        self.from += ENTRY;
-        self.place += ENTRY as u64;
-        entry
     }
 
     /// The digest of what was read since the mark, which moves up to here.
@@ -348,15 +307,4 @@ fn room(alloc: Global) -> Result<Vec<u8>, AllocError>
     ensures { IfOk result (λ v. length v.items ≡ PIECE) }
 {
     vec![in alloc; 0u8; PIECE]
-}
-
-// The bytes of a slice of that length.
-fn array_of<const N: usize>(bytes: &[u8]) -> [u8; N]
-    requires { length bytes.now ≡ N }
-    ensures value { result ≡ bytes.now }
-    ensures bytes { IsBytes result }
-{
-    let mut array = [0u8; N];
-    array.copy_from_slice(bytes);
-    array
 }
