@@ -1,5 +1,5 @@
 -- States of encounters, an encounter and a course of it.
-use Rattle.std.specs.Prelude.{ℕ, nat_eq, ℤ, pos, [], ◌∷◌}
+use Rattle.std.specs.Prelude.{ℕ, nat_eq, ℤ, pos, false, [], ◌∷◌}
 use Rattle.acas_spec.specs.declared.place.Point.{Point}
 use Rattle.acas_encounter.specs.Encounter.{EncounterData}
 use Rattle.acas_second.specs.declared.second.Second.{Second}
@@ -30,3 +30,15 @@ encounter = record {
 -- clear of conflict is issued and then climb, and of the seconds that of number 1 alone is in contact
 abbrev pub course : Course
 course = record { advice = λ k. k; contact = λ k. nat_eq k 1 }
+
+-- one second that starts after clear of conflict, a foot farther away than any layer advises
+abbrev pub far_away : EncounterData
+far_away = record {
+  start = record { advisory = 0; range = pos 1001; closing = pos 250; altitude = pos 60; own = pos 5; intruder = pos 7 };
+  own = pos 0 ∷ [];
+  intruder = pos 0 ∷ [];
+}
+
+-- the same advice is issued in each second, and none is in contact
+abbrev pub apart_under : ℕ → Course
+apart_under advice = record { advice = λ k. advice; contact = λ k. false }

@@ -1,7 +1,9 @@
 //! The cells of the model, what is tabled at their corners, and the advisory cells.
 ghost use Rattle.std.specs.Prelude.{◌≡◌, [], ◌∷◌, true, false};
+ghost use Rattle.std.specs.declared.cmp.Ordering.TheVariants.{Equal, Greater, Less};
 ghost use Rattle.acas_cell.specs.Cells.{IsCellOf, cell_at, cells_of};
 ghost use Rattle.acas_cell.specs.Corners.{advice_at_vertex, advisory_cells, corner_advices, corners, is_advised, is_at_corner, is_clear_cell, names_at};
+ghost use Rattle.acas_cell.specs.Order.{by_numbers, numbers, places};
 ghost use Rattle.acas_cell_examples.specs.Tabled.{stacked, tabled, under_climb, vertex};
 
 /// For each of 2 seconds and of 2 present advisories there are 2 cells, one above the other.
@@ -45,4 +47,15 @@ pub fn corners_are_advised()
 pub fn advisory_cells_are_listed()
     ensures { advisory_cells stacked tabled
         ≡ under_climb 0 0 0 ∷ under_climb 0 0 1 ∷ under_climb 0 1 1 ∷ under_climb 1 0 0 ∷ [] }
+{}
+
+/// A name has six numbers, and the first that differs decides: the seconds before the present advisory, and the advice at last.
+pub fn names_are_ordered()
+    ensures numbers { numbers (record { n = 1; present = 2; i = 3; j = 4; k = 5; advice = 6 })
+        ≡ 1 ∷ 2 ∷ 3 ∷ 4 ∷ 5 ∷ 6 ∷ [] }
+    ensures places { places (cell_at 1 2 3 4 5) ≡ 1 ∷ 2 ∷ 3 ∷ 4 ∷ 5 ∷ [] }
+    ensures seconds { by_numbers (under_climb 0 1 1) (under_climb 1 0 0) ≡ Less }
+    ensures present { by_numbers (under_climb 0 1 0) (under_climb 0 0 1) ≡ Greater }
+    ensures advice { by_numbers (under_climb 0 0 1) (record (under_climb 0 0 1) { advice = 2 }) ≡ Less }
+    ensures same { by_numbers (under_climb 0 0 1) (under_climb 0 0 1) ≡ Equal }
 {}

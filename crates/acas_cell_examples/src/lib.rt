@@ -13,14 +13,14 @@ mod seconds;
 pub use blocks::{blocks_are_halved, blocks_have_areas, sets_hold_advices};
 pub use cells::{
     advisory_cells_are_listed, cells_are_listed, cells_are_those_of_a_model_or_not,
-    corners_are_advised,
+    corners_are_advised, names_are_ordered,
 };
 pub use decisions::{blocks_are_decided, decided_numbers_are_one, decisions_are_summed};
 pub use issue::{
     advices_are_issued, issued_advices_are_one, layers_advise_or_not, vertices_are_nearest_or_not,
 };
 pub use replays::{
-    contacts_are_counted, lines_are_worked_out, states_are_audited_or_not,
+    contacts_are_counted, last_seconds_are_issued, lines_are_worked_out, states_are_audited_or_not,
     states_follow_one_another,
 };
 pub use rulings::{danger_is_shown_or_not, rulings_are_by_the_rule};

@@ -2,10 +2,10 @@
 ghost use Rattle.std.specs.Prelude.{◌≡◌, pos, codes, true, false};
 ghost use Rattle.acas_second.specs.declared.second.Second.{Second};
 ghost use Rattle.acas_replay.specs.Audited.{IsAudited, IsOfCells, flight_state, own_climb};
-ghost use Rattle.acas_replay.specs.Replay.{contacts, counts_line, line_of, replay_text, second_at, second_line, state_at};
+ghost use Rattle.acas_replay.specs.Replay.{IsCourse, contacts, counts_line, line_of, replay_text, second_at, second_line, state_at};
 ghost use Rattle.acas_replay.specs.States.{second_from, start_of, state_after};
 ghost use Rattle.acas_flight_examples.specs.Numbers.{minus, state};
-ghost use Rattle.acas_cell_examples.specs.Encounters.{at, course, encounter, point};
+ghost use Rattle.acas_cell_examples.specs.Encounters.{apart_under, at, course, encounter, far_away, point};
 ghost use Rattle.acas_cell_examples.specs.Tabled.{stacked, tabled};
 
 /// The encounter starts under climb. In its first second the range of 1000 ft closes by 250; the intruder, 2 ft/min faster, gains 4
@@ -30,6 +30,11 @@ pub fn contacts_are_counted()
     ensures not_the_first { contacts course 1 ≡ 0 }
     ensures the_second { contacts course 2 ≡ 1 }
     ensures no_more { contacts course 3 ≡ 1 }
+{}
+
+/// Far away nothing advises, so that a course with climb in its only second, which is its last, is none.
+pub fn last_seconds_are_issued()
+    ensures { IsCourse stacked tabled far_away (apart_under 1) → ⊥ }
 {}
 
 /// A line has each number once, in its place.

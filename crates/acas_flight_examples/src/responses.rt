@@ -1,11 +1,14 @@
 //! Segments and responses under the advisory climb of the small model, which asks for 1000 to 2000 ft/min.
 ghost use Rattle.std.specs.Prelude.{◌≡◌, pos, [], ◌∷◌};
+ghost use Rattle.acas_flight.specs.Parts.{finer, until};
 ghost use Rattle.acas_flight.specs.Response.{Follows, Holds, Meets, climb, climb_within, demand_of, lasting, rate_after, scaled};
 ghost use Rattle.acas_flight_examples.specs.Flown.{climbing, small};
 ghost use Rattle.acas_flight_examples.specs.Numbers.{minus, segment};
 
 /// From 1000 ft/min, 3 s at 100 ft/min per second end at 1300: the mean of 1150 for 3 s is 57.5 ft, which are 6900 ticks. Then 2 s at
-/// -50 end at 1200: the mean of 1250 for 2 s is 5000 ticks. Over 3 the rates are times 9, the pulls and the delay times 3.
+/// -50 end at 1200: the mean of 1250 for 2 s is 5000 ticks. Over 3 the rates are times 9, the pulls and the delay times 3. In numbers
+/// over 3 times the denominator each duration and each acceleration is times 3. The first 4 s are the 3 s and 1 s at -50, and the first
+/// 3 s are the first segment.
 pub fn climbs_are_worked_out()
     ensures rate { rate_after (pos 1000) (segment 3 (pos 100)) ≡ pos 1300 }
     ensures first { climb_within (pos 1000) (segment 3 (pos 100)) ≡ pos 6900 }
@@ -14,6 +17,11 @@ pub fn climbs_are_worked_out()
     ensures asked { demand_of small 1 ≡ climbing }
     ensures over_three { scaled 3 climbing
         ≡ record { lo = pos 9000; hi = pos 18_000; pull = 300; limit = 600; delay = 6 } }
+    ensures finer { finer 3 (segment 3 (pos 100) ∷ segment 2 (minus 50) ∷ [])
+        ≡ segment 9 (pos 300) ∷ segment 6 (minus 150) ∷ [] }
+    ensures cut { until 4 (segment 3 (pos 100) ∷ segment 2 (minus 50) ∷ [])
+        ≡ segment 3 (pos 100) ∷ segment 1 (minus 50) ∷ [] }
+    ensures cut_between { until 3 (segment 3 (pos 100) ∷ segment 2 (minus 50) ∷ []) ≡ segment 3 (pos 100) ∷ [] }
 {}
 
 /// From 500 ft/min a pilot pulls up by 100 to 200 ft/min per second, to at most 2000: at 200 that is reached after 7.5 s, which is 15
