@@ -8,12 +8,11 @@ import sys
 from pathlib import Path
 from typing import IO, Sequence
 
-from acas_study.description import Study, read_study
+from acas_study.description import Study, check_columns, read_study
 from acas_study.files import write_changed
-from acas_study.rows import COUNTED
 from acas_study.steps import PLAN
 from acas_study.words import TOP
-from acas_table import Fault
+from acas_texts import Fault
 
 FOLDERS = ("models", "tables", "checks", "reports", "rows", "pictures")
 PROCESSORS = ("-c", "--cores", "-j", "--jobs", "--profile")
@@ -42,17 +41,6 @@ def prepare(study: Study, results: Path) -> None:
     models = {model.name: model.values for model in study.models}
     plan = {"varied": study.varied, "models": models, "across": study.across, "up": study.up}
     write_changed(results / PLAN, (json.dumps(plan, indent=1) + "\n").encode())
-
-
-def check_columns(study: Study, source: str) -> None:
-    """Refuses a trade over what is no column of numbers."""
-    for key, column in (("across", study.across), ("up", study.up)):
-        if column in study.varied:
-            numbers = [model.values[study.varied.index(column)] for model in study.models]
-            if all(number.lstrip("-").isdigit() for number in numbers):
-                continue
-        if column not in COUNTED:
-            raise Fault(source, f"key trade.{key}", f"{column} is no column of numbers; those are {', '.join(COUNTED)}")
 
 
 def lock(results: Path) -> IO[bytes]:
