@@ -183,7 +183,7 @@ def refuse_undone(code: int, results: Path, log: Path) -> None:
     said = text_of(log)
     failed = re.findall(r"(?m)^Error in rule \w+:\n(?: {4}.*\n)*? {4}output: (.*)$", said)
     # of the steps of a job that the cluster lost, in any order, that of the row is the last one
-    failed += re.findall(r"(?m)^Error in group .*\n(?: {4}.*\n)*? {12}output: (rows/.*)$", said)
+    failed += re.findall(r"(?m)^Error in group .*\n(?: {4}.*\n)*? {12}output: (rows/[^,\n]*)", said)
     for output in dict.fromkeys(failed):
         print(f"study: not made: {output}", file=sys.stderr)
     if failed or code < 0:
