@@ -2,18 +2,22 @@
 import argparse
 import fcntl
 import json
+import os
+import pwd
 import re
+import shutil
 import subprocess
 import sys
+import time
 from pathlib import Path
 from typing import IO, Sequence
 
-from acas_study.description import Study, read_study
+from acas_study import scheduler
+from acas_study.description import Study, check_columns, read_study
 from acas_study.files import write_changed
-from acas_study.rows import COUNTED
 from acas_study.steps import PLAN
 from acas_study.words import TOP
-from acas_table import Fault
+from acas_texts import Fault
 
 FOLDERS = ("models", "tables", "checks", "reports", "rows", "pictures")
 PROCESSORS = ("-c", "--cores", "-j", "--jobs", "--profile")
@@ -31,6 +35,8 @@ get_argument_parser().parse_args(sys.argv[1:])
 """Ends with 2, and a last line that says why, where words are none of Snakemake's."""
 EVERY = 0.5
 """So many seconds pass between two looks at how far a run is."""
+LONGEST_END = 30
+"""So many seconds a cancelled job may take to end."""
 
 
 def prepare(study: Study, results: Path) -> None:
@@ -42,17 +48,6 @@ def prepare(study: Study, results: Path) -> None:
     models = {model.name: model.values for model in study.models}
     plan = {"varied": study.varied, "models": models, "across": study.across, "up": study.up}
     write_changed(results / PLAN, (json.dumps(plan, indent=1) + "\n").encode())
-
-
-def check_columns(study: Study, source: str) -> None:
-    """Refuses a trade over what is no column of numbers."""
-    for key, column in (("across", study.across), ("up", study.up)):
-        if column in study.varied:
-            numbers = [model.values[study.varied.index(column)] for model in study.models]
-            if all(number.lstrip("-").isdigit() for number in numbers):
-                continue
-        if column not in COUNTED:
-            raise Fault(source, f"key trade.{key}", f"{column} is no column of numbers; those are {', '.join(COUNTED)}")
 
 
 def lock(results: Path) -> IO[bytes]:
@@ -76,6 +71,43 @@ def snakemake_words(results: Path, program: Path, title: str, others: Sequence[s
     return [*words, *others, "--config", f"acas={program}", f"title={title}"]
 
 
+def with_profile(others: Sequence[str], environment: dict[str, str]) -> list[str]:
+    """The further words, with the whole path of a profile that is a folder here or in this repository; the scripts of the profile are
+    told of it by the environment."""
+    words = [part for word in others for part in (word.split("=", 1) if word.startswith("--profile=") else [word])]
+    for place, word in enumerate(words[:-1]):
+        if word == "--profile":
+            for folder in (Path(words[place + 1]), TOP / words[place + 1]):
+                if (folder / "config.yaml").is_file():
+                    words[place + 1] = environment[scheduler.PROFILE] = str(folder.resolve())
+                    return words
+    return words
+
+
+def user_name() -> str:
+    """The name of the user, for which an executor of Snakemake's asks the variable USER; where there is none, the number."""
+    try:
+        return pwd.getpwuid(os.getuid()).pw_name
+    except KeyError:
+        return str(os.getuid())
+
+
+def cancel_left(results: Path) -> None:
+    """Cancels the jobs that a run has left which was killed itself, since this one does their steps."""
+    numbers = []
+    for number, record in scheduler.left(results):
+        profile = Path(record["profile"])
+        if scheduler.is_known(number, profile):
+            scheduler.cancel([number], profile)
+            numbers.append((number, profile))
+    until = time.monotonic() + LONGEST_END
+    while any(scheduler.is_known(*job) for job in numbers) and time.monotonic() < until:
+        time.sleep(EVERY)
+    shutil.rmtree(results / scheduler.JOBS, ignore_errors=True)
+    if numbers:
+        print(f"study: {len(numbers)} {'job' if len(numbers) == 1 else 'jobs'} of a run before {'is' if len(numbers) == 1 else 'are'} cancelled", file=sys.stderr)
+
+
 def build(program: Path) -> None:
     """Has the program built before many processes call it."""
     example = TOP / "examples" / "a.toml"
@@ -95,13 +127,14 @@ def refusal_of(others: Sequence[str]) -> str | None:
     return " ".join(looked.stderr.strip().splitlines()[-1].removeprefix("snakemake: error:").split())
 
 
-def wait_for(words: list[str], held: IO[bytes], log: Path) -> int:
+def wait_for(words: list[str], held: IO[bytes], log: Path, environment: dict[str, str]) -> int:
     """The exit code of a command, which holds the lock too, and all of whose words go to a file.
 
     Where both are interrupted it is waited for, since it ends by itself.
     """
     is_interrupted = False
-    with open(log, "wb") as file, subprocess.Popen(words, pass_fds=[held.fileno()], stdout=file, stderr=file) as running:
+    how = {"pass_fds": [held.fileno()], "env": environment}
+    with open(log, "wb") as file, subprocess.Popen(words, stdout=file, stderr=file, **how) as running:
         while running.poll() is None:
             try:
                 running.wait(EVERY)
@@ -149,6 +182,8 @@ def refuse_undone(code: int, results: Path, log: Path) -> None:
     """Says which files were not made where steps failed, and else the last line of Snakemake's."""
     said = text_of(log)
     failed = re.findall(r"(?m)^Error in rule \w+:\n(?: {4}.*\n)*? {4}output: (.*)$", said)
+    # of the steps of a job that the cluster lost, in any order, that of the row is the last one
+    failed += re.findall(r"(?m)^Error in group .*\n(?: {4}.*\n)*? {12}output: (rows/[^,\n]*)", said)
     for output in dict.fromkeys(failed):
         print(f"study: not made: {output}", file=sys.stderr)
     if failed or code < 0:
@@ -169,10 +204,13 @@ def run(chosen: argparse.Namespace, others: Sequence[str]) -> int:
     build(program)
     results.mkdir(parents=True, exist_ok=True)
     log = chosen.results / LOG
+    environment = {"USER": user_name()} | os.environ
     with lock(results) as held:
+        cancel_left(results)
         prepare(study, results)
         print(f"study: {len(study.models)} models; what Snakemake says goes to {log}", file=sys.stderr)
-        code = wait_for(snakemake_words(results, program, chosen.study.name, others), held, log)
+        words = snakemake_words(results, program, chosen.study.name, with_profile(others, environment))
+        code = wait_for(words, held, log, environment)
     if code != 0:
         refuse_undone(code, chosen.results, log)
     if is_done(study, results):

@@ -2,7 +2,7 @@
 import os
 from pathlib import Path
 
-from acas_table import Fault
+from acas_texts import Fault
 
 
 def write_whole(path: Path, content: bytes) -> None:

@@ -6,9 +6,10 @@ from acas_pictures.canvas import save
 from acas_pictures.policy import draw_policy
 from acas_pictures.slices import Slice
 from acas_pictures.verdicts import draw_verdicts
+from acas_study.columns import COUNTED
 from acas_study.files import write_whole
 from acas_study.page import page_of
-from acas_study.rows import COUNTED, counts_of, read_row, text_of_rows
+from acas_study.rows import counts_of, read_row, text_of_rows
 from acas_study.trade import Point, draw_trade
 from acas_table import Fault, Model, Report, Table, check_origin, read_model, read_report, read_table
 from acas_table.replay import nearest

@@ -3,7 +3,7 @@ import json
 import re
 from typing import Any
 
-from acas_table import Fault
+from acas_texts import Cause, Fault
 
 STEP = re.compile(r"([A-Za-z0-9_-]+)((?:\[[0-9]*\])*)")
 
@@ -30,16 +30,17 @@ def _value(value: Any) -> str:
     return json.dumps(value, default=str)
 
 
-def set_key(document: dict[str, Any], path: str, value: Any, source: str) -> None:
-    """Sets a key by its path, as `pilot.pull` or `advisory[1].costs[2]`; `advisory[]` is every table of the list."""
+def set_key(document: dict[str, Any], path: str, value: Any, source: str, at: tuple[str | int, ...] = ()) -> None:
+    """Sets a key by its path, as `pilot.pull` or `advisory[1].costs[2]`; `advisory[]` is every table of the list. `at` is the way to
+    the path in the file of a study."""
     steps: list[str | int | None] = []
     for part in path.split("."):
         match = STEP.fullmatch(part)
         if match is None:
-            raise Fault(source, f"key {path}", "is no path: NAME, NAME[PLACE] or NAME[], joined by points")
+            raise Fault(source, f"key {path}", "is no path: NAME, NAME[PLACE] or NAME[], joined by points", Cause("no_path", at))
         steps.append(match[1])
         steps += [int(place) if place else None for place in re.findall(r"\[([0-9]*)\]", match[2])]
-    _set(document, steps, value, Fault(source, f"key {path}", "is not in the model"))
+    _set(document, steps, value, Fault(source, f"key {path}", "is not in the model", Cause("absent_key", at, (path, document))))
 
 
 def _set(inside: Any, steps: list, value: Any, absent: Fault) -> None:

@@ -4,7 +4,7 @@
 regions`, and `read_replay` what `acas replay` prints. `read_report_of` and `read_replay_of` read the file of one, which has to be of a
 model and a table. What is not as it has to be is a `Fault`, which names the field.
 """
-from acas_table.fault import Fault
+from acas_texts import Fault
 from acas_table.flight import Flight, Segment
 from acas_table.model import Advisory, Model, SigmaPoint, read_model
 from acas_table.origin import check_origin, read_replay_of, read_report_of

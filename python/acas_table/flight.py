@@ -3,7 +3,7 @@ from dataclasses import dataclass
 from fractions import Fraction
 from typing import Iterable, NamedTuple
 
-from acas_table.fault import Fault
+from acas_texts import Fault
 from acas_table.model import Advisory, Model
 from acas_table.words import Words
 

@@ -4,7 +4,7 @@ import warnings
 from pathlib import Path
 
 from acas_origin import Origin, beside, digest_of, origin_of
-from acas_table.fault import Fault
+from acas_texts import Fault
 from acas_table.model import Model
 from acas_table.replay import Replay, check_replay, read_replay
 from acas_table.report import Progress, Report, numbered, read_report

@@ -5,7 +5,7 @@ from fractions import Fraction
 
 import numpy as np
 
-from acas_table.fault import Fault
+from acas_texts import Fault
 from acas_table.flight import TICKS_PER_FOOT
 from acas_table.model import Model
 from acas_table.table import Table

@@ -6,7 +6,7 @@ from typing import Callable
 
 import numpy as np
 
-from acas_table.fault import Fault
+from acas_texts import Fault
 from acas_table.flight import TICKS_PER_FOOT, Flight, check_flight, read_flight
 from acas_table.model import AXES, Advisory, Model
 from acas_table.words import Words, lines_of

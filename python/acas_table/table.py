@@ -6,7 +6,7 @@ from dataclasses import dataclass
 
 import numpy as np
 
-from acas_table.fault import Fault
+from acas_texts import Fault
 from acas_table.model import GREATEST_ENTRIES, Model
 
 ENTRY = np.dtype([("upper", "<i8"), ("lower", "<i8"), ("advice", "u1")])

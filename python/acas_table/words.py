@@ -2,7 +2,7 @@
 from fractions import Fraction
 from typing import Iterator
 
-from acas_table.fault import Fault
+from acas_texts import Fault
 
 
 def lines_of(text: str, source: str) -> Iterator["Words"]:

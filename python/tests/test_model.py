@@ -51,13 +51,27 @@ def test_broken_models_have_the_faults_of_the_program(text, fault):
 @pytest.mark.parametrize("piece", [
     ("weight = 1", "weight = 1001"), ("own = 0", "own = -5001"), ("horizon = 0", "horizon = 121"),
     ('name = "level"', 'name = "clear"'), ("greatest = 500", "greatest = 499"), ("costs = [0]", "costs = [0, 1]"),
-    ("altitude = [0, 200]", f"altitude = {list(range(129))}\nzoom = 1"),
+    ("altitude = [0, 200]", f"altitude = {list(range(129))}\nzoom = 1"), ('choices = ["clear"]', 'choices = ["clear "]'),
+    ("costs = [0]", 'costs = ["0", 1]'), ('choices = ["clear"]', 'choices = ["clear", 1]'),
 ])
 def test_the_program_refuses_the_same(acas, changed, piece):
     path = changed("a.toml", piece)
     with pytest.raises(Fault) as raised:
         read_model(path)
     assert acas.run("values", path).stderr == f"acas: model refused: {str(raised.value).removeprefix(f'{path}: ')}\n"
+
+
+def test_texts_of_the_programs_toml(acas, changed):
+    """A byte order mark, and an inline table over lines with a comma at its end."""
+    bare = "\n[puck]\nradius = 500\nhalf_height = 1\n"
+    path = changed("b.toml", ("version = 1", "\ufeffversion = 1"))
+    text = path.read_text(encoding="utf-8")
+    path.write_text("\ufeff" + text.replace("\ufeff", ""), encoding="utf-8")
+    assert read_model(path).horizon == 2 and acas.run("values", path).returncode == 0
+    assert bare in text
+    inline = "puck = {\n  radius = 500, # ft\n  half_height = 1,\n}\n"
+    path.write_text(inline + text.replace("\ufeff", "").replace(bare, "\n"), encoding="utf-8")
+    assert read_model(path).half_height == 1 and acas.run("values", path).returncode == 0
 
 
 def test_too_long(tmp_path):

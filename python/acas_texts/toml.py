@@ -1,11 +1,14 @@
-"""What the program takes for a TOML document, as a reader of its own that can say on which line a text is none.
+"""What the program takes for a TOML document, as a reader of its own that can say on which line a text is none, and where each key
+and each item stands.
 
 It is TOML 1.1 with the program's limits: at most 80 arrays and inline tables within one another and 80 parts in a key, whole
-numbers of 64 bits, floats that are finite. Python's tomllib reads TOML 1.0 and has other limits. `schema/test PROGRAM` compares
-it with the program.
+numbers of 64 bits, floats that are finite. Python's tomllib reads TOML 1.0 and has other limits. `schema/test-texts PROGRAM` and
+`schema/test-faults PROGRAM` compare it with the program.
 """
-import datetime
 import re
+from bisect import bisect_left
+
+from acas_texts.scalars import NUMBER, matches, value_of
 
 GREATEST_BYTES = 1000000
 DEPTH = 80
@@ -18,110 +21,40 @@ BLANK = re.compile(r"(?:[ \t\n]|\r\n|#[^\x00-\x08\x0a-\x1f\x7f]*(?=\n|\r|\Z))*")
 PLAIN = {'"': re.compile(r'[^\x00-\x08\x0a-\x1f\x7f"\\]+'), "'": re.compile(r"[^\x00-\x08\x0a-\x1f\x7f']+")}
 ESCAPES = {"b": "\b", "e": "\x1b", "f": "\f", "n": "\n", "r": "\r", "t": "\t", '"': '"', "\\": "\\"}
 HEX_DIGITS = {"x": 2, "u": 4, "U": 8}
-RADICES = {"0x": (16, "0-9A-Fa-f"), "0o": (8, "0-7"), "0b": (2, "01")}
-# The form of a number of any size.
-DIGITS = "[0-9](?:_?[0-9])*"
-NUMBER = re.compile(f"[+-]?(?:0|[1-9](?:_?[0-9])*)(?:\\.{DIGITS})?(?:[eE][+-]?{DIGITS})?|0x[0-9A-Fa-f_]+|0o[0-7_]+|0b[01_]+")
-DECIMAL = re.compile(r"(?:0|[1-9][0-9]*)(\.[0-9]+)?([eE][+-]?[0-9]+)?")
-DATE = r"(?P<date>[0-9]{4}-[0-9]{2}-[0-9]{2})"
-TIME = r"(?P<hour>[0-9]{2}):(?P<minute>[0-9]{2})(?::(?P<second>[0-9]{2})(?:\.[0-9]+)?)?"
-OFFSET = r"(?:[Zz]|[+-](?P<hours>[0-9]{2}):(?P<minutes>[0-9]{2}))"
-MOMENT = re.compile(f"{DATE}(?:[Tt ]{TIME}{OFFSET}?)?")
-TIME_OF_DAY = re.compile(TIME)
 
 
-class Fault(Exception):
-    """Why a text is no TOML document, and on which line, counted from 1."""
+class NotToml(Exception):
+    """Why bytes are no TOML document, on which line, counted from 1, and what to do there."""
 
-    def __init__(self, line, message):
+    def __init__(self, line, message, advice=""):
         super().__init__(f"line {line}: {message}")
         self.line = line
-
-
-class Moment(str):
-    """A date, a time or both, as it is written."""
+        self.message = message
+        self.advice = advice
 
 
 class Table(dict):
-    """A table, and what made it: a header that passes through it, a dotted key, a header of its own, or a value."""
+    """A table; what made it: a header that passes through it, a dotted key, a header of its own, or a value; and the lines on which it
+    and its keys begin."""
 
-    def __init__(self, origin):
+    def __init__(self, origin, line=1):
         super().__init__()
         self.origin = origin
+        self.line = line
+        self.lines = {}
 
 
-class Tables(list):
+class Array(list):
+    """A list, and the lines on which it and its items begin."""
+
+    def __init__(self, line):
+        super().__init__()
+        self.line = line
+        self.lines = []
+
+
+class Tables(Array):
     """A list of tables that headers in double brackets made."""
-
-
-def matches(pattern, word):
-    return re.fullmatch(pattern, word, re.ASCII) is not None
-
-
-def whole_of(digits, radix, is_negative):
-    """The whole number of these digits where 64 bits with a sign hold it, or None."""
-    digits = digits.lstrip("0") or "0"
-    number = int(digits, radix) if len(digits) <= 64 else 2**64
-    if is_negative:
-        number = -number
-    return number if -(2**63) <= number < 2**63 else None
-
-
-def number_of(word):
-    """The number that a word writes, or None."""
-    radix, digits = RADICES.get(word[:2], (10, "0-9"))
-    if re.search(f"(?<![{digits}])_|_(?![{digits}])", word):
-        return None
-    word = word.replace("_", "")
-    if radix != 10:
-        return whole_of(word[2:], radix, False) if matches(f"[{digits}]+", word[2:]) else None
-    is_negative, size = word[:1] == "-", word[1:] if word[:1] in ("-", "+") else word
-    if size in ("inf", "nan"):
-        return float(word)
-    found = DECIMAL.fullmatch(size)
-    if not found:
-        return None
-    if found[1] is None and found[2] is None:
-        return whole_of(size, 10, is_negative)
-    number = float(word)
-    return number if abs(number) != float("inf") else None
-
-
-def is_time(found):
-    """Whether the numbers of a time are in their ranges; a minute may have a leap second."""
-    second, offset = found["second"] or "0", found.groupdict()
-    hours, minutes = offset.get("hours") or "0", offset.get("minutes") or "0"
-    return int(found["hour"]) < 24 and int(found["minute"]) < 60 and int(second) < 61 and int(hours) < 24 and int(minutes) < 60
-
-
-def is_date(text):
-    """Whether there is such a day. The year 0 has the days of the year 400."""
-    year, month, day = (int(part) for part in text.split("-"))
-    try:
-        datetime.date(year or 400, month, day)
-    except ValueError:
-        return False
-    return True
-
-
-def moment_of(word):
-    """The date, the time or both that a word writes, or None."""
-    if word[2:3] == ":":
-        found = TIME_OF_DAY.fullmatch(word)
-        return Moment(word) if found and is_time(found) else None
-    found = MOMENT.fullmatch(word)
-    if not found or not is_date(found["date"]) or (found["hour"] and not is_time(found)):
-        return None
-    return Moment(word)
-
-
-def value_of(word):
-    """The value that a word writes, or None."""
-    if word in ("true", "false"):
-        return word == "true"
-    if re.match("[0-9]+[-:]", word, re.ASCII):
-        return moment_of(word)
-    return number_of(word)
 
 
 class Reader:
@@ -130,10 +63,14 @@ class Reader:
     def __init__(self, text):
         self.text = text
         self.place = 0
+        self.newlines = [found.start() for found in re.finditer("\n", text)]
 
-    def fault(self, message, place=None):
-        place = self.place if place is None else place
-        return Fault(self.text.count("\n", 0, place) + 1, message)
+    def line_of(self, place):
+        """The line of a place, counted from 1."""
+        return bisect_left(self.newlines, place) + 1
+
+    def fault(self, message, advice, place=None):
+        return NotToml(self.line_of(self.place if place is None else place), message, advice)
 
     def next(self, piece):
         return self.text.startswith(piece, self.place)
@@ -172,13 +109,13 @@ class Reader:
             if code < 0xD800 or 0xE000 <= code <= 0x10FFFF:
                 self.place += len(digits)
                 return chr(code)
-        raise self.fault("no such escape", start)
+        raise self.fault("no such escape", "write a backslash as `\\\\`, or the text between two '", start)
 
     def closes(self, delimiter):
         """Whether a string of several lines ends here, at a delimiter: three of them do, and up to two before them are text."""
         count = len(re.compile(delimiter + "*").match(self.text, self.place)[0])
         if count > 5:
-            raise self.fault("too many quotes")
+            raise self.fault("too many quotes", "three end the text; two more at most may stand before them")
         self.place += 3 if count == 3 else 1
         return count == 3
 
@@ -205,9 +142,9 @@ class Reader:
                 parts.append(self.text[self.place])
                 self.place += 1
             elif self.place == len(self.text) or self.next("\n") or self.next("\r\n"):
-                raise self.fault("a text is not closed", start)
+                raise self.fault("a text is not closed", f"end it with {delimiter * (3 if is_multiline else 1)}", start)
             else:
-                raise self.fault("a character that no text may have")
+                raise self.fault("a character that no text may have", "take it out; an escape such as \\u0007 stands for it between two \"")
 
     def key(self):
         """The parts of a key, and the white space behind it."""
@@ -218,20 +155,20 @@ class Reader:
             else:
                 part = self.skip(BARE)
                 if not part:
-                    raise self.fault("a key is wanted")
+                    raise self.fault("a key is wanted", "write a name of letters, digits, `_` and `-`, or one between quotes")
                 parts.append(part)
             self.skip(WHITE)
             if not self.take("."):
                 return parts
             if len(parts) == DEPTH:
-                raise self.fault("a key of more than 80 parts", start)
+                raise self.fault("a key of more than 80 parts", "write fewer", start)
             self.skip(WHITE)
 
     def pair(self, depth):
         """A key with its value, and the place of the key."""
         start, parts = self.place, self.key()
         if not self.take("="):
-            raise self.fault("`=` is wanted behind a key")
+            raise self.fault("`=` is wanted behind a key", "write KEY = VALUE, or # before a remark")
         self.skip(WHITE)
         return parts, self.value(depth), start
 
@@ -247,8 +184,10 @@ class Reader:
         if value is not None:
             return value
         if not word:
-            raise self.fault("a value is wanted", start)
-        raise self.fault(f"`{word[:40]}` {'is beyond 64 bits' if NUMBER.fullmatch(word) else 'is no value'}", start)
+            raise self.fault("a value is wanted", "write it in the line of its key: a number, a text between quotes, a list in [ ]", start)
+        if NUMBER.fullmatch(word):
+            raise self.fault(f"`{word[:40]}` is beyond 64 bits", "write a smaller number", start)
+        raise self.fault(f"`{word[:40]}` is no value", "put a text between quotes; a number has no unit and no leading zeros", start)
 
     def value(self, depth):
         """A value with so many arrays and inline tables within one another."""
@@ -256,47 +195,56 @@ class Reader:
         if not is_list and not self.next("{"):
             return self.scalar()
         if depth == 0:
-            raise self.fault("more than 80 arrays and inline tables within one another")
-        start, closing, found = self.place, "]" if is_list else "}", [] if is_list else Table("dotted")
+            raise self.fault("more than 80 arrays and inline tables within one another", "nest them less")
+        start, closing = self.place, "]" if is_list else "}"
+        found = Array(self.line_of(start)) if is_list else Table("dotted", self.line_of(start))
         self.place += 1
         while True:
             self.skip(BLANK)
             if self.take(closing):
                 return found if is_list else closed(found)
             if self.place == len(self.text):
-                raise self.fault(f"`{closing}` is wanted for what is opened here", start)
+                raise self.fault(f"`{closing}` is wanted for what is opened here", "close it", start)
             if is_list:
+                found.lines.append(self.line_of(self.place))
                 found.append(self.value(depth - 1))
             else:
                 parts, value, place = self.pair(depth - 1)
                 self.put(found, parts, value, place)
             self.skip(BLANK)
             if not self.take(",") and not self.next(closing):
-                raise self.fault(f"`,` or `{closing}` is wanted")
+                raise self.fault(f"`,` or `{closing}` is wanted", "put a comma between two of them")
 
     def put(self, table, parts, value, place):
         """Puts a value at a dotted key, which passes through no table that a header or a value made."""
         for part in parts[:-1]:
             if part not in table:
-                table[part] = Table("dotted")
-            table = table[part]
+                table[part] = Table("dotted", self.line_of(place))
+                table.lines[part] = self.line_of(place)
+            line, table = table.lines[part], table[part]
             if not isinstance(table, Table) or table.origin not in ("implicit", "dotted"):
-                raise self.fault(f"`{part}` cannot be added to", place)
+                raise self.fault(f"`{part}` cannot be added to", f"write its keys where it is made, in line {line}", place)
             table.origin = "dotted"
         if parts[-1] in table:
-            raise self.fault(f"`{parts[-1]}` is there twice", place)
+            raise self.twice(table, parts[-1], place)
         table[parts[-1]] = value
+        table.lines[parts[-1]] = self.line_of(place)
+
+    def twice(self, table, key, place):
+        advice = f"line {table.lines[key]} has it too: take one of the two out"
+        return self.fault(f"`{key}` is there twice", advice, place)
 
     def through(self, table, parts, place):
         """The table to which a header's parts lead; it passes through tables, and into the last element of a list of them."""
         for part in parts:
             if part not in table:
-                table[part] = Table("implicit")
-            table = table[part]
+                table[part] = Table("implicit", self.line_of(place))
+                table.lines[part] = self.line_of(place)
+            line, table = table.lines[part], table[part]
             if isinstance(table, Tables):
                 table = table[-1]
             elif not isinstance(table, Table) or table.origin == "value":
-                raise self.fault(f"`{part}` is no table of a header", place)
+                raise self.fault(f"`{part}` is no table of a header", f"write its keys where it is made, in line {line}", place)
         return table
 
     def header(self, document):
@@ -307,19 +255,22 @@ class Reader:
         self.skip(WHITE)
         parts = self.key()
         if not self.take("]]" if is_list else "]"):
-            raise self.fault(f"`{']]' if is_list else ']'}` is wanted behind a header")
+            raise self.fault(f"`{']]' if is_list else ']'}` is wanted behind a header", "close it")
         table, last = self.through(document, parts[:-1], place), parts[-1]
         known = table.get(last)
+        line = self.line_of(place)
         if is_list and (last not in table or isinstance(known, Tables)):
-            table.setdefault(last, Tables()).append(Table("header"))
+            table.setdefault(last, Tables(line)).append(Table("header", line))
+            table[last].lines.append(line)
+            table.lines.setdefault(last, line)
             return table[last][-1]
         if not is_list and last not in table:
-            table[last] = Table("header")
+            table[last], table.lines[last] = Table("header", line), line
             return table[last]
         if not is_list and isinstance(known, Table) and known.origin == "implicit":
-            known.origin = "header"
+            known.origin, known.line = "header", line
             return known
-        raise self.fault(f"`{last}` is there twice", place)
+        raise self.twice(table, last, place)
 
     def document(self):
         document = table = Table("header")
@@ -334,7 +285,7 @@ class Reader:
                 self.put(table, parts, value, place)
             self.skip(WHITE)
             if self.place < len(self.text) and not any(self.next(piece) for piece in ("#", "\n", "\r")):
-                raise self.fault("the line goes on where it is to end")
+                raise self.fault("the line goes on where it is to end", "begin another line, or write # before a remark")
 
 
 def closed(table):
@@ -347,9 +298,17 @@ def closed(table):
 
 
 def read(content):
-    """The document that bytes are; a Fault where they are none."""
+    """The document that bytes are, a Table; NotToml where they are none."""
     try:
         text = content.decode("utf-8")
     except UnicodeDecodeError as error:
-        raise Fault(content.count(b"\n", 0, error.start) + 1, "not UTF-8") from None
+        line = content.count(b"\n", 0, error.start) + 1
+        raise NotToml(line, "not UTF-8", "store the file in UTF-8, or take the character out") from None
     return Reader(text.removeprefix("\ufeff")).document()
+
+
+def plain(value):
+    """A value without what is known of its lines: tables as dict, lists as list."""
+    if isinstance(value, dict):
+        return {key: plain(item) for key, item in value.items()}
+    return [plain(item) for item in value] if isinstance(value, list) else value
