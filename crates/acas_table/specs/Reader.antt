@@ -1,11 +1,13 @@
 -- A reader that has read the front of a file.
-use Rattle.std.specs.Prelude.{◌≡◌, ℕ, List, Bool, false, Option, Some, None, IfSome, Result, Ok, Err, IsErrOf, ⊤}
+use Rattle.std.specs.Prelude.{◌≡◌, ℕ, ◌+◌, ◌≤◌, List, Bool, false, Option, Some, None, IfSome, Result, Ok, Err, IsErrOf, ⊤}
 use Rattle.acas_outside.specs.Files.{Files, Given}
+use Rattle.acas_outside.specs.Frame.{OnlyReads}
+use Rattle.acas_outside.specs.declared.folder.Folder.{Ghosts as FolderMeanings}
 use Rattle.acas_units.specs.declared.pair.Entry.{Entry}
-use Rattle.acas_table.specs.Text.{entry_at}
+use Rattle.acas_table.specs.Text.{entry_at, length_1}
 use Rattle.acas_table.specs.Faults.{header_fault, entry_fault, first_below, tail_fault, first_fault}
 use Rattle.acas_table.specs.Shape.{entry_count}
-use Rattle.acas_table.specs.Source.{IsAt, bytes_taken}
+use Rattle.acas_table.specs.Source.{IsAt, Takes, bytes_taken}
 use Rattle.acas_table.specs.Tables.{entries_below, flat_text}
 use Rattle.acas_table.specs.declared.shape.TableShape.{TableShape}
 use Rattle.acas_table.specs.declared.reader.TableReader.{TableReader}
@@ -92,3 +94,16 @@ FindsNow old result fault = (old.fault ≡ None) × IsErrOf result fault
 abbrev pub kept : {X : Type 0} → Result X TableFault → Option TableFault
 kept (Ok x) = None
 kept (Err fault) = Some fault
+
+-- what a call of a reader leaves: it keeps the fault of its answer and answers it again, it takes at most one byte more
+-- than the table's length, it takes no memory, and says that the file is not held only where it is not
+pub record Leaves {F X : Type 0} (d : FolderMeanings F) (old new : F) (name : List ℕ) (before now : ReaderState)
+    (result : Result X TableFault) : Type 0 where
+  pub fault : now.fault ≡ kept result
+  pub again : IfSome before.fault (λ fault. result ≡ Err fault)
+  pub shape : now.shape ≡ before.shape
+  pub taken : Takes d old new before.taken now.taken
+  pub most : now.taken ≤ length_1 now.shape + 1
+  pub memory : FindsNow before result Memory → ⊥
+  pub not_held : FindsNow before result Absent → Given (d.holds old) name (λ file. file ≡ None)
+  pub frame : OnlyReads d old new (FindsNow before result Failed) (FindsNow before result Absent)

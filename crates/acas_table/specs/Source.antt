@@ -1,5 +1,5 @@
 -- A source that stands at a place of a file.
-use Rattle.std.specs.Prelude.{◌≡◌, ℕ, ◌+◌, ◌-◌, ◌≤◌, List, length, take, Option, Some, None, Result, Ok, Err, IsErrOf, ⊤}
+use Rattle.std.specs.Prelude.{◌≡◌, ℕ, ◌+◌, ◌-◌, ◌<◌, ◌≤◌, List, length, take, Option, Some, None, Result, Ok, Err, IsErrOf, OnOk, OnErr, ⊤}
 use Rattle.std.specs.Option.{option_map}
 use Rattle.sha2.specs.Hashers.{Holds256}
 use Rattle.acas_outside.specs.Bytes.{IsBytes}
@@ -8,6 +8,7 @@ use Rattle.acas_outside.specs.Files.{Given}
 use Rattle.acas_outside.specs.Frame.{OnlyReads}
 use Rattle.acas_outside.specs.declared.folder.Folder.{Ghosts as FolderMeanings}
 use Rattle.acas_table.specs.Text.{part, length_1}
+use Rattle.acas_table.specs.Faults.{end_fault}
 use Rattle.acas_table.specs.declared.shape.TableShape.{TableShape}
 use Rattle.acas_table.specs.declared.fault.TableFault.{TableFault}
 use Rattle.acas_table.specs.declared.fault.TableFault.TheVariants as faults
@@ -84,6 +85,16 @@ pub record StandsAt (s : TableShape) (source : Source) (at : ℕ) : Type 0 where
   pub place : source.place ≡ at
   pub limit : source.limit ≡ length_1 s + 1
   pub expected : source.expected ≡ length_1 s
+
+-- so many bytes are at hand, or the file ends before
+pub record Fills {F X : Type 0} (d : FolderMeanings F) (old new : F) (name : List ℕ) (before now : Source) (wanted : ℕ)
+    (result : Result X TableFault) : Type 0 where
+  pub given : Given (d.holds old) name (λ file. IsAtFile before file →
+      Checks (λ bytes. end_fault before.expected bytes before.place wanted) (λ _ _. ⊤) file now result)
+  pub filled : OnOk result (wanted ≤ now.to - now.from)
+  pub short : OnErr result (now.to - now.from < wanted)
+  pub same : Moves before now
+  pub reads : ReadsTable d old new name before now result
 
 -- n bytes are read, and what the source knows of the file stays
 pub record Steps (old new : Source) (n : ℕ) : Type 0 where

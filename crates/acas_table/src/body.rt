@@ -81,9 +81,9 @@ fn check_digest<F: Folder>(
     folder: &mut F,
     name: &str,
 ) -> Result<(), TableFault>
+    requires mark { source.old.mark ≡ 0 }
     requires served { IsTrue (F.serves folder.old name.now) }
     requires stands { StandsAt shape.now source.old (60 + 17 * entry_count shape.now) }
-    requires mark { source.old.mark ≡ 0 }
     ensures given { Given (F.holds folder.old) name.now (λ file. IsAtFile source.old file →
         Checks (digest_fault shape.now) (λ _ _. ⊤) file source.new result) }
     ensures steps { OnOk result (source.new.place ≡ source.old.place + 32) }

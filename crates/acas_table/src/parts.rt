@@ -13,10 +13,10 @@ use acas_units::{GREATEST_ENTRIES, Pair};
 pub fn append_layer<F: Folder>(
     pieces: &mut Pieces,
     version: u32,
-    folder: &mut F,
-    name: &str,
     pairs: &[Pair],
     advice: &[u8],
+    folder: &mut F,
+    name: &str,
 ) -> Result<(), Failed>
     requires served { IsTrue (F.serves folder.old name.now) }
     requires held { Given (F.holds folder.old) name.now (λ file. IsSome file) }
@@ -32,7 +32,7 @@ pub fn append_layer<F: Folder>(
         OnOk result (Holds pieces.new (next_base version m (layer_of pairs.now advice.now))) }
     ensures frame { OnlyWrites F.Folder folder.old folder.new (IsErr result) }
 {
-    pieces.layer(folder, name, pairs, advice)?;
+    pieces.layer(pairs, advice, folder, name)?;
     if version == 1 {
         return Ok(());
     }

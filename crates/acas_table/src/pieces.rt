@@ -26,7 +26,7 @@ impl Pieces {
     ghost use Rattle.sha2.specs.Sha256.{sha256};
     ghost use Rattle.acas_outside.specs.Files.{Given, Grows, GrowsPart};
     ghost use Rattle.acas_outside.specs.Frame.{OnlyWrites};
-    ghost use Rattle.acas_table.specs.Pieces.{Holds};
+    ghost use Rattle.acas_table.specs.Pieces.{Appends, Holds};
     ghost use Rattle.acas_table.specs.Text.{layer_text, layer_of};
 
     /// Room for pieces that follow these bytes.
@@ -42,13 +42,10 @@ impl Pieces {
     }
 
     // Appends some bytes.
-    fn bytes<F: Folder>(&mut self, folder: &mut F, name: &str, bytes: &[u8]) -> Result<(), Failed>
+    fn bytes<F: Folder>(&mut self, bytes: &[u8], folder: &mut F, name: &str) -> Result<(), Failed>
         requires served { IsTrue (F.serves folder.old name.now) }
         requires held { Given (F.holds folder.old) name.now (λ file. IsSome file) }
-        ensures hashed { (m : List ℕ) → Holds self.old m → OnOk result (Holds self.new (m ++ bytes.now)) }
-        ensures ok { OnOk result (Grows (F.holds folder.old) (F.holds folder.new) name.now bytes.now) }
-        ensures err { OnErr result (GrowsPart (F.holds folder.old) (F.holds folder.new) name.now bytes.now) }
-        ensures frame { OnlyWrites F.Folder folder.old folder.new (IsErr result) }
+        ensures { Appends F.Folder folder.old folder.new name.now bytes.now self.old self.new result }
     {
         self.hasher.update(bytes);
         write_piece(folder, name, bytes)
@@ -66,37 +63,32 @@ impl Pieces {
         ensures frame { OnlyWrites F.Folder folder.old folder.new (IsErr result) }
     {
         let digest = self.hasher.finalize_reset();
-        self.bytes(folder, name, &digest)
+        self.bytes(&digest, folder, name)
     }
 
     /// Appends the entries of a layer.
     pub fn layer<F: Folder>(
         &mut self,
-        folder: &mut F,
-        name: &str,
         pairs: &[Pair],
         advice: &[u8],
+        folder: &mut F,
+        name: &str,
     ) -> Result<(), Failed>
         requires served { IsTrue (F.serves folder.old name.now) }
         requires held { Given (F.holds folder.old) name.now (λ file. IsSome file) }
         requires long { length advice.now ≡ length pairs.now }
         requires bound { length pairs.now ≤ GREATEST_ENTRIES }
-        ensures hashed { (m : List ℕ) → Holds self.old m →
-            OnOk result (Holds self.new (m ++ layer_text (layer_of pairs.now advice.now))) }
-        ensures ok { OnOk result (Grows (F.holds folder.old) (F.holds folder.new) name.now
-            (layer_text (layer_of pairs.now advice.now))) }
-        ensures err { OnErr result (GrowsPart (F.holds folder.old) (F.holds folder.new) name.now
-            (layer_text (layer_of pairs.now advice.now))) }
-        ensures frame { OnlyWrites F.Folder folder.old folder.new (IsErr result) }
+        ensures { let text = layer_text (layer_of pairs.now advice.now) in
+            Appends F.Folder folder.old folder.new name.now text self.old self.new result }
     {
         let mut at = 0;
         while at < pairs.len() {
             let count = (pairs.len() - at).min(STATES);
             self.piece(
-                folder,
-                name,
                 &pairs[at..at + count],
                 &advice[at..at + count],
+                folder,
+                name,
             )?;
             at += count;
         }
@@ -106,22 +98,17 @@ impl Pieces {
     // Appends one piece of a layer.
     fn piece<F: Folder>(
         &mut self,
-        folder: &mut F,
-        name: &str,
         pairs: &[Pair],
         advice: &[u8],
+        folder: &mut F,
+        name: &str,
     ) -> Result<(), Failed>
         requires served { IsTrue (F.serves folder.old name.now) }
         requires held { Given (F.holds folder.old) name.now (λ file. IsSome file) }
         requires long { length advice.now ≡ length pairs.now }
         requires bound { length pairs.now ≤ 3855 }
-        ensures hashed { (m : List ℕ) → Holds self.old m →
-            OnOk result (Holds self.new (m ++ layer_text (layer_of pairs.now advice.now))) }
-        ensures ok { OnOk result (Grows (F.holds folder.old) (F.holds folder.new) name.now
-            (layer_text (layer_of pairs.now advice.now))) }
-        ensures err { OnErr result (GrowsPart (F.holds folder.old) (F.holds folder.new) name.now
-            (layer_text (layer_of pairs.now advice.now))) }
-        ensures frame { OnlyWrites F.Folder folder.old folder.new (IsErr result) }
+        ensures { let text = layer_text (layer_of pairs.now advice.now) in
+            Appends F.Folder folder.old folder.new name.now text self.old self.new result }
     {
         encode_entries(&mut self.buffer, pairs, advice);
         let bytes = &self.buffer[..17 * pairs.len()];

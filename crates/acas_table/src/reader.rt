@@ -35,14 +35,14 @@ pub struct TableReader {
 }
 
 impl TableReader {
-    ghost use Rattle.std.specs.Prelude.{◌≡◌, ◌≤◌, ◌<◌, ◌+◌, List, ℕ, None, Err, false, is_ok, IsTrue, IsErrOf, IfOk, OnOk, OnErr, IfSome};
+    ghost use Rattle.std.specs.Prelude.{◌≡◌, ◌≤◌, ◌<◌, ◌+◌, List, ℕ, false, is_ok, IsTrue, IsErrOf, IfOk, OnOk, OnErr};
     ghost use Rattle.acas_outside.specs.Counts.{raised};
     ghost use Rattle.acas_outside.specs.Files.{Given};
     ghost use Rattle.acas_outside.specs.Frame.{OnlyReads};
     ghost use Rattle.acas_table.specs.Shape.{entry_count, shape_of};
     ghost use Rattle.acas_table.specs.Text.{length_1};
     ghost use Rattle.acas_table.specs.Source.{Takes};
-    ghost use Rattle.acas_table.specs.Reader.{reader_state, IsNew, HasRead, Told, Starts, GivesEntry, Finishes, FindsNow, kept};
+    ghost use Rattle.acas_table.specs.Reader.{reader_state, IsNew, HasRead, Leaves, Told, Starts, GivesEntry, Finishes};
 
     /// Reads the header of a table for a model, whose text has this digest.
     pub fn start<F: Folder>(
@@ -111,18 +111,8 @@ impl TableReader {
         ensures count { IfOk result (λ _. (reader_state self.new).given ≡ (reader_state self.old).given + 1) }
         ensures same_count { OnErr result ((reader_state self.new).given ≡ (reader_state self.old).given) }
         ensures done { (reader_state self.new).done ≡ false }
-        ensures fault { (reader_state self.new).fault ≡ kept result }
-        ensures again { IfSome (reader_state self.old).fault (λ fault. result ≡ Err fault) }
-        ensures shape { (reader_state self.new).shape ≡ (reader_state self.old).shape }
-        ensures taken { Takes F.Folder folder.old folder.new
-            (reader_state self.old).taken (reader_state self.new).taken }
-        ensures most { (reader_state self.new).taken ≤ length_1 (reader_state self.new).shape + 1 }
-        ensures memory { FindsNow (reader_state self.old) result TableFault.Memory → ⊥ }
-        ensures not_held { FindsNow (reader_state self.old) result TableFault.Absent →
-            Given (F.holds folder.old) name.now (λ file. file ≡ None) }
-        ensures frame { OnlyReads F.Folder folder.old folder.new
-            (FindsNow (reader_state self.old) result TableFault.Failed)
-            (FindsNow (reader_state self.old) result TableFault.Absent) }
+        ensures leaves { Leaves F.Folder folder.old folder.new name.now
+            (reader_state self.old) (reader_state self.new) result }
     {
         if let Some(fault) = self.fault {
             return Err(fault);
@@ -148,20 +138,10 @@ impl TableReader {
             HasRead digest self.old bytes → Finishes digest (reader_state self.old).shape bytes result) }
         ensures count { (reader_state self.new).given ≡ (reader_state self.old).given }
         ensures done { (reader_state self.new).done ≡ is_ok result }
-        ensures fault { (reader_state self.new).fault ≡ kept result }
-        ensures again { IfSome (reader_state self.old).fault (λ fault. result ≡ Err fault) }
-        ensures shape { (reader_state self.new).shape ≡ (reader_state self.old).shape }
-        ensures taken { Takes F.Folder folder.old folder.new
-            (reader_state self.old).taken (reader_state self.new).taken }
         ensures all_taken { OnOk result
             ((reader_state self.new).taken ≡ length_1 (reader_state self.new).shape) }
-        ensures most { (reader_state self.new).taken ≤ length_1 (reader_state self.new).shape + 1 }
-        ensures memory { FindsNow (reader_state self.old) result TableFault.Memory → ⊥ }
-        ensures not_held { FindsNow (reader_state self.old) result TableFault.Absent →
-            Given (F.holds folder.old) name.now (λ file. file ≡ None) }
-        ensures frame { OnlyReads F.Folder folder.old folder.new
-            (FindsNow (reader_state self.old) result TableFault.Failed)
-            (FindsNow (reader_state self.old) result TableFault.Absent) }
+        ensures leaves { Leaves F.Folder folder.old folder.new name.now
+            (reader_state self.old) (reader_state self.new) result }
     {
         if let Some(fault) = self.fault {
             return Err(fault);

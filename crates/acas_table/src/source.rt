@@ -44,7 +44,7 @@ impl Source {
     ghost use Rattle.acas_table.specs.Faults.{end_fault, fault_at, fields_fault, more_fault, width_of, widths};
     ghost use Rattle.acas_outside.specs.Files.{Given};
     ghost use Rattle.acas_outside.specs.Bytes.{IsBytes};
-    ghost use Rattle.acas_table.specs.Source.{IsAt, IsAtFile, Moves, Checks, Finds, ReadsTable, Steps, bytes_taken};
+    ghost use Rattle.acas_table.specs.Source.{IsAt, IsAtFile, Moves, Checks, Fills, Finds, ReadsTable, Steps, bytes_taken};
 
     /// A source at the front of a file that is to have so many bytes.
     pub fn new(alloc: Global, expected: u64) -> Result<Source, AllocError>
@@ -113,13 +113,7 @@ impl Source {
         requires some { 0 < wanted }
         requires small { wanted ≤ 64 }
         requires limit { self.old.place + wanted ≤ self.old.limit }
-        ensures given { Given (F.holds folder.old) name.now (λ file. IsAtFile self.old file →
-            Checks (λ bytes. end_fault self.old.expected bytes self.old.place wanted) (λ _ _. ⊤)
-            file self.new result) }
-        ensures filled { OnOk result (wanted ≤ self.new.to - self.new.from) }
-        ensures short { OnErr result (self.new.to - self.new.from < wanted) }
-        ensures same { Moves self.old self.new }
-        ensures reads { ReadsTable F.Folder folder.old folder.new name.now self.old self.new result }
+        ensures { Fills F.Folder folder.old folder.new name.now self.old self.new wanted result }
     {
         if self.to - self.from >= wanted {
             return Ok(());
@@ -139,13 +133,7 @@ impl Source {
         requires short { self.old.to - self.old.from < wanted }
         requires small { wanted ≤ 64 }
         requires limit { self.old.place + wanted ≤ self.old.limit }
-        ensures given { Given (F.holds folder.old) name.now (λ file. IsAtFile self.old file →
-            Checks (λ bytes. end_fault self.old.expected bytes self.old.place wanted) (λ _ _. ⊤)
-            file self.new result) }
-        ensures filled { OnOk result (wanted ≤ self.new.to - self.new.from) }
-        ensures short { OnErr result (self.new.to - self.new.from < wanted) }
-        ensures same { Moves self.old self.new }
-        ensures reads { ReadsTable F.Folder folder.old folder.new name.now self.old self.new result }
+        ensures { Fills F.Folder folder.old folder.new name.now self.old self.new wanted result }
     {
         self.hash();
         self.shift();

@@ -142,7 +142,7 @@ impl TableWriter {
         ensures frame { OnlyWrites F.Folder folder.old folder.new (IsErr result) }
     {
         self.phase = Phase::Failed;
-        append_layer(&mut self.pieces, self.version, folder, name, pairs, advice)?;
+        append_layer(&mut self.pieces, self.version, pairs, advice, folder, name)?;
         self.phase = Phase::Started;
         self.given += 1;
         Ok(())

@@ -35,7 +35,7 @@ keep-requires-clause-advice g c = λ some.
 pub returns-in-Ok-check_at-clause-check : goal.returns-in-Ok-check_at-clause-check
 returns-in-Ok-check_at-clause-check g c =
     let m = c.args.model.now in
-    let on : IsOn c.args.self.now.reader c.entry.new.self = record { shape = c.in-Ok.ensures.shape; given = c.in-Ok.ensures.count; no_fault = c.in-Ok.ensures.fault; not_done = c.in-Ok.ensures.done } in
+    let on : IsOn c.args.self.now.reader c.entry.new.self = record { shape = c.in-Ok.ensures.leaves.shape; given = c.in-Ok.ensures.count; no_fault = c.in-Ok.ensures.leaves.fault; not_done = c.in-Ok.ensures.done } in
     let keeps : Keeps c.args.self.now c.entry.new.self c.keep.new.self c.args.n c.args.state c.in-Ok.entry =
     record { reader = c.keep.ensures.reader; means = c.keep.ensures.means; pairs = c.keep.ensures.pairs; advices = c.keep.ensures.advices } in
     check_next m c.args.self.now c.entry.new.self c.keep.new.self c.args.n c.args.state c.in-Ok.entry c.requires.check c.requires.n c.requires.state on keeps
