@@ -24,9 +24,10 @@ pub use searches::{
     searches_are_worked_out,
 };
 pub use states::{
-    fractions_are_compared, states_are_in_boxes_or_not, states_are_in_cells_or_not,
-    states_are_seconds_away_or_not,
+    fractions_are_compared, rates_are_on_their_own_axes, states_are_in_boxes_or_not,
+    states_are_in_cells_or_not, states_are_seconds_away_or_not,
 };
 pub use windows::{
-    other_times_are_no_windows, times_are_during_a_window_or_not, windows_of_cells_are_exact,
+    other_times_are_no_windows, times_are_during_a_window_or_not, times_are_of_contact_or_not,
+    windows_of_cells_are_exact,
 };
