@@ -34,6 +34,10 @@ small = record {
   contact = pos 1;
 }
 
+-- the same, where intruders fly at 0 to 300 ft/min
+abbrev pub slow_intruders : ModelData
+slow_intruders = record small { grid = record small.grid { v1 = pos 0 ∷ pos 300 ∷ [] } }
+
 -- what climb asks
 abbrev pub climbing : Demand
 climbing = record { lo = pos 1000; hi = pos 2000; pull = 100; limit = 200; delay = 2 }

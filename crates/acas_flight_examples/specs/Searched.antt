@@ -4,7 +4,7 @@ use Rattle.acas_passes.specs.Flights.{Flight, flight}
 use Rattle.acas_passes.specs.Passes.{Pass, moving_down}
 use Rattle.acas_passes.specs.Search.{Search, passes}
 use Rattle.acas_flight_examples.specs.Flown.{climbing, near_area}
-use Rattle.acas_flight_examples.specs.Numbers.{over}
+use Rattle.acas_flight_examples.specs.Numbers.{from_to, over}
 
 -- from 500 ft/min to 1000, with 100 ft/min per second after a hold of 2 s; the intruder starts at 1200 ticks and flies at 100 ft/min
 abbrev pub after_a_hold : ℕ → Flight
@@ -40,6 +40,10 @@ stepping way step = record { point = lasting_for; way = way; step = step }
 -- the area is searched from 1/2 s to 7/3 s
 abbrev pub searched : Search
 searched = record { demand = climbing; area = near_area; low = over (pos 1) 2; high = over (pos 7) 3 }
+
+-- the same, where own rates go on to 2500 ft/min, past what climb asks
+abbrev pub past_hi : Search
+past_hi = record searched { area = record near_area { own = from_to (pos 500) (pos 2500) } }
 
 -- the square of its unit, and an eighth of that
 abbrev pub square : ℕ

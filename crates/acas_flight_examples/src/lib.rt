@@ -20,13 +20,14 @@ pub use passes::{
 };
 pub use responses::{climbs_are_worked_out, responses_meet_or_not, segments_follow_or_not};
 pub use searches::{
-    flights_are_from_an_area_or_not, passes_of_a_search_are_worked_out, responses_are_worked_out,
-    searches_are_worked_out,
+    flights_are_from_an_area_or_not, own_rates_have_their_own_pull,
+    passes_of_a_search_are_worked_out, responses_are_worked_out, searches_are_worked_out,
 };
 pub use states::{
-    fractions_are_compared, states_are_in_boxes_or_not, states_are_in_cells_or_not,
-    states_are_seconds_away_or_not,
+    fractions_are_compared, rates_are_on_their_own_axes, states_are_in_boxes_or_not,
+    states_are_in_cells_or_not, states_are_seconds_away_or_not,
 };
 pub use windows::{
-    other_times_are_no_windows, times_are_during_a_window_or_not, windows_of_cells_are_exact,
+    other_times_are_no_windows, times_are_during_a_window_or_not, times_are_of_contact_or_not,
+    windows_of_cells_are_exact,
 };

@@ -3,10 +3,10 @@ ghost use Rattle.std.specs.Prelude.{◌≡◌, pos, neg_ℤ, ◌*◌, [], ◌∷
 ghost use Rattle.acas_flight.specs.Values.{IsOver};
 ghost use Rattle.acas_passes.specs.Flights.{Flight, flight};
 ghost use Rattle.acas_passes.specs.Responses.{IsApproachFor, IsFlightFrom, IsHoldFor, IsResponse, IsToward, acceleration, fine, scale};
-ghost use Rattle.acas_passes.specs.Search.{grain, high_flight, high_time, low_flight, low_time, over_square, pull_step, rate_step, time_step, unit};
+ghost use Rattle.acas_passes.specs.Search.{grain, high_flight, high_time, low_flight, low_time, over_square, own_pass, pull_step, rate_step, time_step, unit};
 ghost use Rattle.acas_flight_examples.specs.Flown.{climbing, near_area};
 ghost use Rattle.acas_flight_examples.specs.Numbers.{minus, over, segment, times};
-ghost use Rattle.acas_flight_examples.specs.Searched.{after_a_hold, eighth, searched, seconds, square, steps, ways};
+ghost use Rattle.acas_flight_examples.specs.Searched.{after_a_hold, eighth, past_hi, searched, seconds, square, steps, ways};
 
 /// The denominators 2 and 3 make the grain 6, and over 2048 times that, 12,288, the two times are 6144 and 28,672. A 256th of a second
 /// is 48 then, and a 2048th of a ft/min per second is 6. An eighth of a ft/min is 12,288 * 12,288 / 8, that is 18,874,368. Pulls of 100
@@ -47,6 +47,17 @@ pub fn passes_of_a_search_are_worked_out()
         ∷ flight 28_672 (pos 10) own lowest hi 2_457_600 24_528
         ∷ flight 28_672 (pos 10) (pos (4001 * eighth)) lowest hi 2_457_600 0
         ∷ [] }
+{}
+
+/// Where own rates go on to 2500 ft/min, past the 2000 that climb asks, the high flight goes down by the pull after the whole hold. Each
+/// flight of the pass over the own rate is the high flight from its own rate: an eighth of a ft/min above 500 it goes up by the limit at
+/// once. The last is 16,000 eighths farther.
+pub fn own_rates_have_their_own_pull()
+    ensures high { high_flight past_hi
+        ≡ flight 28_672 (pos 10) (pos (2500 * square)) (pos (20 * square)) (pos (2000 * square)) 1_228_800 24_576 }
+    ensures second { (own_pass past_hi).point 1
+        ≡ flight 28_672 (pos 10) (pos (4001 * eighth)) (pos (20 * square)) (pos (2000 * square)) 2_457_600 0 }
+    ensures last { (own_pass past_hi).point 16_000 ≡ high_flight past_hi }
 {}
 
 /// Over 3 a flight from the area lasts at most 21 for 7 s, starts at 10 to 1200 ticks, at own rates of 4500 to 5400 and intruder rates

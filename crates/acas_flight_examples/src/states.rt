@@ -2,7 +2,7 @@
 ghost use Rattle.std.specs.Prelude.{◌≡◌, pos};
 ghost use Rattle.acas_flight.specs.State.{IsInBox, IsInCell, IsInside, IsSecondsAway};
 ghost use Rattle.acas_flight.specs.Values.{IsAtMost, IsOver, negated};
-ghost use Rattle.acas_flight_examples.specs.Flown.{near_box, small};
+ghost use Rattle.acas_flight_examples.specs.Flown.{near_box, slow_intruders, small};
 ghost use Rattle.acas_flight_examples.specs.Numbers.{from_to, minus, over, state};
 
 /// At 250 ft/s a range of 1000 ft is exactly 2 s from the radius of 500 ft: it is of the cells of 1 s and of 2 s. A foot more is not
@@ -38,6 +38,14 @@ pub fn states_are_in_cells_or_not()
     ensures intruder { IsInCell small 1 0 0 0 1 (state (pos 1000) (pos 250) (pos 0) (pos 0) (pos 601)) → ⊥ }
     ensures intruder_below { IsInCell small 1 0 0 0 1 (state (pos 1000) (pos 250) (pos 0) (pos 0) (minus 1)) → ⊥ }
     ensures over_two { IsInCell small 1 0 0 0 2 (state (pos 2000) (pos 500) (pos 2400) (pos 1200) (pos 1200)) }
+{}
+
+/// Where the axis of the intruder's rate ends at 300 ft/min, the cell still goes to 600 ft/min of the own rate, and no farther than
+/// 300 of the intruder's.
+pub fn rates_are_on_their_own_axes()
+    ensures own { IsInCell slow_intruders 1 0 0 0 1 (state (pos 1000) (pos 250) (pos 0) (pos 600) (pos 300)) }
+    ensures intruder { IsInCell slow_intruders 1 0 0 0 1 (state (pos 1000) (pos 250) (pos 0) (pos 600)
+        (pos 301)) → ⊥ }
 {}
 
 /// The box has ranges from 1000 to 1200, closing speeds from 250 to 500, altitudes from 10 to 1200, own rates from 500 to 600 and
