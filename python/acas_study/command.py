@@ -188,8 +188,11 @@ def refuse_undone(code: int, results: Path, log: Path) -> None:
         print(f"study: not made: {output}", file=sys.stderr)
     if failed or code < 0:
         raise Fault(str(results), "study", f"is not done: Snakemake ended with the code {code}, and {log} says why; the same command goes on")
-    last = (said.strip().splitlines() or ["it said nothing"])[-1]
-    raise Fault(str(results), "study", f"is not done: Snakemake ended with the code {code}: {last.strip()}; {log} has all of it")
+    # what a script of the profile said, or else the last line that is not of Snakemake's own log
+    own = re.findall(r"(?m)^study: (.*)$", said)
+    lines = [line.strip() for line in said.splitlines() if line.strip() and not line.startswith("Complete log:")]
+    last = (own or lines[-1:] or ["it said nothing"])[0]
+    raise Fault(str(results), "study", f"is not done: Snakemake ended with the code {code}: {last}; {log} has all of it")
 
 
 def run(chosen: argparse.Namespace, others: Sequence[str]) -> int:

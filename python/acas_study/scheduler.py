@@ -20,6 +20,8 @@ PROFILE = "ACAS_PROFILE"
 """The variable with the profile's folder, in which the file `commands` is."""
 EVERY = 5
 """So many seconds pass at least between two questions for one job."""
+AGAIN = (2, 5)
+"""So many seconds pass before a job is submitted again which the scheduler did not take."""
 GRACE = 10
 """So many seconds what a job has written down may take until it is seen, once the scheduler has the job no more."""
 SCRIPT = """#!/bin/sh
@@ -74,6 +76,11 @@ def submit(script: Path, profile: Path) -> str:
     known["processors"] = resources.get("_cores", properties.get("threads", 1))
     words = [word.format_map(known) for word in shlex.split(commands_of(profile)["submit"])]
     ended = ran([*words, str(own)])
+    for wait in AGAIN:
+        if ended.returncode == 0:
+            break
+        time.sleep(wait)
+        ended = ran([*words, str(own)])
     number = re.search(r"[0-9][A-Za-z0-9_.-]*", ended.stdout)
     if ended.returncode != 0 or number is None:
         raise Failed(f"{shlex.join(words)}: ended with {ended.returncode}: {' '.join(ended.stdout.split())}")
