@@ -7,7 +7,7 @@ ghost use Rattle.acas_outside.specs.Outside.{outside};
 ghost use Rattle.acas_command.specs.Codes.{code_of};
 ghost use Rattle.acas_command.specs.declared.status.Cause.{Cause as EndCause};
 ghost use Rattle.acas_cli.specs.Calls.{AnswersForm};
-ghost use Rattle.acas_cli.specs.Words.{form_of};
+ghost use Rattle.acas_cli_words.specs.Words.{form_of};
 
 use acas_cli::{Work, run};
 use acas_outside::{Folder, RealFolder, RealSink, Sink};

@@ -14,11 +14,11 @@ use Rattle.acas_accept.specs.Checking.{Begins, HasAccepted, HasNoRefusal, IsAnsw
 use Rattle.acas_accept.specs.declared.check.TableCheck.{TableCheck}
 use Rattle.acas_accept.specs.declared.refusal.AcceptFault.{AcceptFault}
 use Rattle.acas_accept.specs.declared.refusal.AcceptFault.TheVariants.{Refused, Absent, Failed, Memory}
-use Rattle.acas_accept.proofs.Fields.{advice_small}
+use Rattle.acas_table.proofs.FieldFaults.{advice_small}
 use Rattle.acas_accept.proofs.NoRefusal.{refused_none}
 use Rattle.acas_accept.proofs.Places.{entry_place-below}
 use Rattle.acas_accept.proofs.Tables.{entries_none}
-use Rattle.acas_accept.proofs.Texts.{text_small}
+use Rattle.acas_table.proofs.Texts.{text_small}
 
 -- ---- no table
 

@@ -7,7 +7,7 @@ use Rattle.acas_table.specs.Shape.{entry_count, shape_of}
 use Rattle.acas_table.proofs.Cuts.{first_none}
 use Rattle.acas_accept.specs.Refusals.{entry_refusal, first_refusal, soundness_refusal, given_fault}
 use Rattle.acas_table.specs.declared.refusal.TableRefusal.TheVariants.{Form, Entry}
-use Rattle.acas_accept.proofs.Nones.{all_none, each_none, first-cons, none-option_map, option_map-none}
+use Rattle.acas_table.proofs.Nones.{all_none, each_none, first-cons, none-option_map, option_map-none}
 
 -- bytes without fault, each of whose entries passes the check of soundness
 pub record HasNone (m : ModelData) (digest bytes : List ℕ) : Type 0 where

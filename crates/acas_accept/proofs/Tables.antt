@@ -21,10 +21,10 @@ use Rattle.acas_table.proofs.Flat.{flat}
 use Rattle.acas_accept.specs.Accepted.{IsAcceptedTable}
 use Rattle.acas_accept.specs.GivenTable.{entry_place, given_table}
 use Rattle.acas_accept.specs.Refusals.{first_refusal, given_fault}
-use Rattle.acas_accept.proofs.Fields.{lower_fits, no_advice_at, upper_fits}
+use Rattle.acas_table.proofs.FieldFaults.{lower_fits, no_advice_at, upper_fits}
 use Rattle.acas_accept.proofs.Given.{all_entries-given}
 use Rattle.acas_accept.proofs.NoRefusal.{HasNone, none_refused, refused_none}
-use Rattle.acas_accept.proofs.Nones.{each_none}
+use Rattle.acas_table.proofs.Nones.{each_none}
 use Rattle.acas_grid.proofs.StateNumbers.{state_present-state_number, state_vertex-state_number}
 use Rattle.acas_grid.proofs.Vertices.{vertices-one_to_one}
 use Rattle.acas_step.proofs.NumberedStates.{state_number-below}

@@ -16,7 +16,7 @@ use Rattle.acas_command.proofs.Reports.{no_file-model, refers-report}
 use Rattle.acas_table_file.specs.AcceptedFile.{IsTableFile, IsTableOf}
 use Rattle.acas_table_file.specs.Calls.{with_table}
 use Rattle.acas_table_file.proofs.Files.{no_file-table}
-use Rattle.acas_report.specs.declared.counts.Which.{Which}
+use Rattle.acas_report_lines.specs.declared.counts.Which.{Which}
 use Rattle.acas_command.specs.Called.{calls_for}
 use Rattle.acas_command.proofs.Behind.{Refers, told-both}
 use Rattle.acas_audit_commands.specs.Calls.{CallsForAudit, CallsForRegions, IsAuditBegun, IsAuditText, IsRegionsBegun, IsRegionsText, audit_looks_at, regions_looks_at}

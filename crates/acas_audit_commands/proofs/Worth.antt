@@ -8,14 +8,14 @@ use Rattle.acas_outside.specs.Files.{Files}
 use Rattle.acas_outside.specs.Outside.{Outside}
 use Rattle.acas_input.specs.declared.fault.InputFault.{InputFault}
 use Rattle.acas_flight.specs.State.{IsInBox}
-use Rattle.acas_cell.specs.Boxes.{AuditedBox, box_at}
-use Rattle.acas_cell.specs.Rulings.{IsWitnessOfBox}
-use Rattle.acas_report.specs.Regions.{IsRulingAt, places, regions_text}
+use Rattle.acas_rulings.specs.Boxes.{AuditedBox, box_at}
+use Rattle.acas_rulings.specs.Rulings.{IsWitnessOfBox}
+use Rattle.acas_report_lines.specs.Regions.{IsRulingAt, places, regions_text}
 use Rattle.acas_boxes.specs.Text.{IsBoxesText}
 use Rattle.acas_boxes.specs.Whole.{boxes_of}
 use Rattle.acas_boxes.proofs.Pass.{understood}
 use Rattle.acas_boxes.proofs.Read.{said}
-use Rattle.acas_report.specs.declared.counts.Which.{Which}
+use Rattle.acas_report_lines.specs.declared.counts.Which.{Which}
 use Rattle.acas_command.specs.Answers.{Agrees, Answers}
 use Rattle.acas_command.specs.Called.{MayPrint}
 use Rattle.acas_command.specs.Calls.{with_input_file}

@@ -4,12 +4,12 @@ use Rattle.std.specs.FinMap.{get}
 use Rattle.acas_spec.specs.Model.{ModelData}
 use Rattle.acas_base.specs.Advices.{AdvicesData}
 use Rattle.acas_outside.specs.Files.{Files}
-use Rattle.acas_cell.specs.Boxes.{AreBoxesOf, AuditedBox}
+use Rattle.acas_rulings.specs.Boxes.{AreBoxesOf, AuditedBox}
 use Rattle.acas_boxes.specs.Whole.{boxes_of}
-use Rattle.acas_report.specs.Regions.{IsRegionsReport, IsRegionsReportBegun}
-use Rattle.acas_report.specs.Report.{IsReport, IsReportBegun}
-use Rattle.acas_report.specs.declared.counts.Counts.{Counts}
-use Rattle.acas_report.specs.declared.counts.Which.{Which}
+use Rattle.acas_report_lines.specs.Regions.{IsRegionsReport, IsRegionsReportBegun}
+use Rattle.acas_report_lines.specs.Report.{IsReport, IsReportBegun}
+use Rattle.acas_report_lines.specs.declared.counts.Counts.{Counts}
+use Rattle.acas_report_lines.specs.declared.counts.Which.{Which}
 use Rattle.acas_command.specs.Called.{Called, calls_for_report}
 use Rattle.acas_command.specs.Calls.{with_input_file, with_model}
 use Rattle.acas_command.specs.InputFile.{IsInputFile}

@@ -3,7 +3,7 @@ use Rattle.std.specs.Prelude.{◌≡◌, ℕ, ◌+◌, List, Option, IfSome}
 use Rattle.acas_spec.specs.Model.{ModelData}
 use Rattle.acas_base.specs.Advices.{AdvicesData}
 use Rattle.acas_outside.specs.Files.{Files}
-use Rattle.acas_cell.specs.Decisions.{AreAuditsDecisions}
+use Rattle.acas_audit_blocks.specs.Decisions.{AreAuditsDecisions}
 use Rattle.acas_command.specs.Called.{MayPrint}
 use Rattle.acas_command.specs.declared.status.Cause.{Cause}
 use Rattle.acas_table_file.specs.AcceptedFile.{IsTableOf}

@@ -11,14 +11,14 @@ use Rattle.acas_outside.specs.Files.{Files}
 use Rattle.acas_outside.specs.Outside.{Outside}
 use Rattle.acas_accept.specs.Accepted.{IsAcceptedTable}
 use Rattle.acas_input.specs.declared.fault.InputFault.{InputFault}
-use Rattle.acas_cell.specs.Boxes.{AuditedBox}
-use Rattle.acas_cell.specs.Corners.{advisory_cells}
+use Rattle.acas_rulings.specs.Boxes.{AuditedBox}
+use Rattle.acas_cells.specs.Corners.{advisory_cells}
 use Rattle.acas_boxes.specs.Text.{IsBoxesText}
-use Rattle.acas_report.specs.Regions.{places, regions_text}
-use Rattle.acas_report.specs.Report.{IsReportOn, clear_cells, report_text}
+use Rattle.acas_report_lines.specs.Regions.{places, regions_text}
+use Rattle.acas_report_lines.specs.Report.{IsReportOn, clear_cells, report_text}
 use Rattle.acas_report.specs.Verdicts.{IsVerdictOnBox, IsVerdictOnCell}
-use Rattle.acas_report.specs.declared.counts.Counts.{Counts}
-use Rattle.acas_report.specs.declared.counts.Which.{Which}
+use Rattle.acas_report_lines.specs.declared.counts.Counts.{Counts}
+use Rattle.acas_report_lines.specs.declared.counts.Which.{Which}
 use Rattle.acas_table.specs.declared.refusal.TableRefusal.{TableRefusal}
 use Rattle.acas_command.specs.Called.{MayPrint}
 use Rattle.acas_command.specs.Outcome.{report_cause}

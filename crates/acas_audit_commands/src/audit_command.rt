@@ -6,10 +6,11 @@ ghost use Rattle.acas_command.specs.Answers.{Answers, report_ended};
 ghost use Rattle.acas_audit_commands.specs.Calls.{CallsForAudit};
 ghost use Rattle.acas_audit_commands.specs.Decisions.{CountsAudit};
 
-use acas_cell::Decisions;
+use acas_audit_blocks::Decisions;
 use acas_command::{Cause, read_model_file};
 use acas_outside::{Folder, Sink};
-use acas_report::{ReportFault, Which, write_blocks};
+use acas_report::write_blocks;
+use acas_report_lines::{ReportFault, Which};
 use acas_table_file::read_table_file;
 use std::alloc::Global;
 
@@ -32,7 +33,8 @@ pub fn audit<F: Folder, O: Sink>(
         (outside F.Folder O.Sink folder.old out.old) (outside F.Folder O.Sink folder.new out.new) }
     ensures folder { ReadsAndWrites F.Folder folder.old folder.new (IsErrOf result Cause.Folder) }
     ensures output { O.faults out.old ≤ O.faults out.new }
-    ensures work { CountsAudit model.now table.now (F.holds folder.old) (report_ended result) count.old count.new }
+    ensures work { CountsAudit model.now table.now (F.holds folder.old) (report_ended result) count.old
+        count.new }
     ensures rising { count.old ≤ count.new }
 {
     let found = read_model_file(alloc, model, folder)?;

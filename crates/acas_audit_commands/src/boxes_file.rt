@@ -1,6 +1,6 @@
 //! The file of boxes.
 ghost use Rattle.std.specs.Prelude.{◌≡◌, IsTrue, IfOk, IfErr, IsErrOf};
-ghost use Rattle.acas_cell.specs.Boxes.{AreBoxesOf};
+ghost use Rattle.acas_rulings.specs.Boxes.{AreBoxesOf};
 ghost use Rattle.acas_outside.specs.Files.{Given};
 ghost use Rattle.acas_outside.specs.Frame.{OnlyReads};
 ghost use Rattle.acas_command.specs.Answers.{EndsLooking};
@@ -9,9 +9,10 @@ ghost use Rattle.acas_command.specs.InputFile.{IsInputFile, RefusesInput};
 ghost use Rattle.acas_boxes.specs.Whole.{boxes_of};
 
 use acas_base::Model;
-use acas_boxes::{Boxes, InputFault, read_boxes};
+use acas_boxes::{InputFault, read_boxes};
 use acas_command::{Cause, FileRole, read_text_file};
 use acas_outside::Folder;
+use acas_rulings::Boxes;
 use std::alloc::Global;
 
 /// Reads the file of boxes beside a model, or gives the cause that ends the command.

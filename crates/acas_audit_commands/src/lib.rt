@@ -5,6 +5,6 @@ mod audit_command;
 mod boxes_file;
 mod regions_command;
 
-pub use acas_report::Which;
+pub use acas_report_lines::Which;
 pub use audit_command::audit;
 pub use regions_command::regions;

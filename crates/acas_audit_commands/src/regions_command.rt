@@ -8,7 +8,8 @@ ghost use Rattle.acas_audit_commands.specs.Calls.{CallsForRegions};
 use crate::boxes_file::read_boxes_file;
 use acas_command::{Cause, read_model_file};
 use acas_outside::{Folder, Sink};
-use acas_report::{ReportFault, write_regions};
+use acas_report::write_regions;
+use acas_report_lines::ReportFault;
 use std::alloc::Global;
 
 /// Rules on each box of a file, and prints the report. It answers how many are reported.

@@ -93,7 +93,8 @@ fn limits_by_choice(
     requires below { length (pairs_below below) ≡ states model.now.grid }
     ensures needed { let x = numbers.vertex_at model.now.grid vertex in
         result.needed ≡ upper_below model.now below.entry x advice +ℤ millionths cost }
-    ensures allowed { let lower = lower_below model.now below.entry (numbers.vertex_at model.now.grid vertex) in
+    ensures allowed { let lower = lower_below model.now below.entry
+        (numbers.vertex_at model.now.grid vertex) in
         result.allowed ≡ least (value_by_mean model.now present lower) (choices_at model.now present) }
 {
     Limits {

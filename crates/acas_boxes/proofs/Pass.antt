@@ -13,7 +13,7 @@ use Rattle.acas_doc.proofs.LeastUnknown.{only_known_passes}
 use Rattle.acas_model.specs.Text.{HasOnly}
 use Rattle.acas_model.proofs.Places.{each_from}
 use Rattle.acas_flight.specs.State.{Interval}
-use Rattle.acas_cell.specs.Boxes.{AuditedBox, IsBoxOf, box_at, no_box}
+use Rattle.acas_rulings.specs.Boxes.{AuditedBox, IsBoxOf, box_at, no_box}
 use Rattle.acas_input.specs.Document.{in_doc}
 use Rattle.acas_input.proofs.Bytes.{document_read}
 use Rattle.acas_input.proofs.Keys.{advisory_passes, version_passes}

@@ -17,7 +17,7 @@ use Rattle.acas_model.specs.Text.{HasOnly, HoldsList, HoldsTables}
 use Rattle.acas_model.proofs.Places.{each_places, same_lists}
 use Rattle.acas_model.proofs.ReadNumbers.{passed_ok, step_ok}
 use Rattle.acas_flight.specs.State.{Interval}
-use Rattle.acas_cell.specs.Boxes.{AuditedBox, IsBoxOf, box_at, no_box}
+use Rattle.acas_rulings.specs.Boxes.{AuditedBox, IsBoxOf, box_at, no_box}
 use Rattle.acas_input.specs.declared.fault.InputFault.{InputFault}
 use Rattle.acas_input.specs.declared.fault.InputFault.TheVariants.{Window}
 use Rattle.acas_input.specs.Document.{document_of, in_doc, version_of}

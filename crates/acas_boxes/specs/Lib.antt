@@ -1,4 +1,3 @@
-pub mod View
 pub mod Spans
 pub mod OneBox
 pub mod Whole

@@ -8,7 +8,7 @@ use Rattle.acas_doc.specs.Keys.{table_item}
 use Rattle.acas_doc.specs.Known.{only_known}
 use Rattle.acas_doc.specs.Paths.{item_path}
 use Rattle.acas_flight.specs.State.{Interval}
-use Rattle.acas_cell.specs.Boxes.{AuditedBox}
+use Rattle.acas_rulings.specs.Boxes.{AuditedBox}
 use Rattle.acas_input.specs.declared.fault.InputFault.{InputFault}
 use Rattle.acas_input.specs.declared.fault.InputFault.TheVariants.{Window}
 use Rattle.acas_input.specs.Document.{in_doc}

@@ -6,7 +6,7 @@ use Rattle.acas_spec.specs.Model.{ModelData}
 use Rattle.acas_spec.specs.Steps.{◌>>=◌, ◌>>◌, each}
 use Rattle.acas_doc.specs.Keys.{list_at}
 use Rattle.acas_doc.specs.Known.{only_known}
-use Rattle.acas_cell.specs.Boxes.{AuditedBox}
+use Rattle.acas_rulings.specs.Boxes.{AuditedBox}
 use Rattle.acas_input.specs.declared.fault.InputFault.{InputFault}
 use Rattle.acas_input.specs.Document.{document_of, in_doc, version_of}
 use Rattle.acas_boxes.specs.OneBox.{box_item}

@@ -3,15 +3,13 @@
 //! A file of boxes is a TOML document. Its rules are looked at in a fixed order, and the first that fails is the fault.
 #![tactic(auto)]
 
-mod boxes;
 mod laws;
 mod one_box;
 mod spans;
 mod whole;
 
-pub use acas_cell::AuditBox;
 pub use acas_input::InputFault;
-pub use boxes::Boxes;
+pub use acas_rulings::AuditBox;
 pub use laws::texts_say_their_boxes;
 pub use spans::SPAN_ENDS;
 pub use whole::read_boxes;

@@ -2,7 +2,7 @@
 ghost use Rattle.std.specs.Prelude.{◌≡◌, ◌*◌, pos, ◌≤ℤ◌, unsigned_abs, IfOk};
 ghost use Rattle.toml.specs.View.{table_view};
 ghost use Rattle.acas_units.specs.declared.ticks.TheConstants.{TICKS_PER_FOOT};
-ghost use Rattle.acas_region.specs.Limits.{IsSmall, interval_of};
+ghost use Rattle.acas_region_curves.specs.Limits.{IsSmall, interval_of};
 ghost use Rattle.acas_input.specs.Answers.{Gives};
 ghost use Rattle.acas_boxes.specs.Spans as rules;
 
@@ -28,7 +28,8 @@ fn span_at(
     least: i64,
     greatest: i64,
 ) -> Result<Span, InputFault>
-    ensures value { Gives interval_of result (rules.span_at (table_view table.now) path.now key.now least greatest) }
+    ensures value { Gives interval_of result
+        (rules.span_at (table_view table.now) path.now key.now least greatest) }
     ensures low { IfOk result (λ s. least ≤ℤ s.least) }
     ensures high { IfOk result (λ s. s.greatest ≤ℤ greatest) }
 {
@@ -77,7 +78,8 @@ pub(crate) fn closings_at(alloc: Global, table: &Table, path: &[u8]) -> Result<S
 #[tactic(auto, unfolding(crate::specs::Spans::altitudes_at))]
 pub(crate) fn altitudes_at(alloc: Global, table: &Table, path: &[u8]) -> Result<Span, InputFault>
     ensures value { Gives interval_of result (rules.altitudes_at (table_view table.now) path.now) }
-    ensures small { IfOk result (λ s. IsSmall (TICKS_PER_FOOT * unsigned_abs GREATEST_ALTITUDE) (interval_of s)) }
+    ensures small { IfOk result (λ s.
+        IsSmall (TICKS_PER_FOOT * unsigned_abs GREATEST_ALTITUDE) (interval_of s)) }
 {
     let feet = span_at(
         alloc,

@@ -3,16 +3,15 @@ ghost use Rattle.std.specs.Prelude.{◌≡◌, ◌≤◌, length, map, IfOk};
 ghost use Rattle.std.specs.List.{AllByRecursion};
 ghost use Rattle.toml.specs.View.{table_view};
 ghost use Rattle.acas_model.specs.View.{data_of};
-ghost use Rattle.acas_cell.specs.Boxes.{AreBoxesOf, IsBoxOf, audited};
+ghost use Rattle.acas_rulings.specs.Boxes.{AreBoxesOf, IsBoxOf, audited};
 ghost use Rattle.acas_input.specs.Answers.{Gives};
 ghost use Rattle.acas_boxes.specs.Whole as rules;
 
-use crate::boxes::Boxes;
 use crate::one_box::box_item;
 use acas_base::Model;
-use acas_cell::AuditBox;
 use acas_doc::{list, only_keys};
 use acas_input::{InputFault, document_of, version_of};
+use acas_rulings::{AuditBox, Boxes};
 use acas_units::{GREATEST_BOXES, LEAST_BOXES};
 use std::alloc::Global;
 use toml::{Table, Value};

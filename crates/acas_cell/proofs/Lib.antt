@@ -1,13 +1,1 @@
-pub mod Members
-pub mod Lists
-pub mod Order
-pub mod Exact
 pub mod Showing
-pub mod Spans
-pub mod Blocks
-pub mod Halves
-pub mod Ruled
-pub mod DecisionCounts
-pub mod Decided
-pub mod Filled
-pub mod Counted

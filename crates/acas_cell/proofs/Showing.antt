@@ -11,19 +11,19 @@ use Rattle.acas_flight.specs.Contact.{IsEndangeredBox, IsEndangeredCell}
 use Rattle.acas_flight.specs.Window.{IsWindowOfBox, IsWindowOfCell, Times}
 use Rattle.acas_flight.specs.Clear.{Area, EndsInVerticalContact, area_of_box, area_of_cell}
 use Rattle.acas_flight.specs.Values.{IsOver}
-use Rattle.acas_flight.proofs.IntRing.{at, ◌⊗◌, ring}
-use Rattle.acas_flight.proofs.Finer.{lasting_finer}
-use Rattle.acas_flight.proofs.Endangered.{EndsInVerticalContact-finer}
-use Rattle.acas_witness.specs.Printed.{AreParts, IsPart, a_part, flight_fractions, fractions_of, no_parts, segments_of}
-use Rattle.acas_witness.specs.Ranges.{IsBoxesRange, IsCellsRange, IsContactOfBox, IsContactOfCell}
-use Rattle.acas_witness.specs.Witness.{IsFlightInContact, IsWitnessOf}
-use Rattle.acas_witness.specs.declared.flight.Witness.{Witness}
-use Rattle.acas_witness.specs.declared.flight.Segment as part
-use Rattle.acas_witness.specs.declared.flight.Flight as printed
-use Rattle.acas_witness.proofs.Portions.{finer as finer_over}
-use Rattle.acas_cell.specs.Boxes.{AuditedBox}
-use Rattle.acas_cell.specs.Rulings.{IsReported, IsWitnessOfBox, IsWitnessOfCell, ShowsDanger}
-use Rattle.acas_cell.specs.declared.name.CellName.{CellName}
+use Rattle.acas_frac.proofs.IntRing.{at, ◌⊗◌, ring}
+use Rattle.acas_flight_laws.proofs.Finer.{lasting_finer}
+use Rattle.acas_flight_laws.proofs.Endangered.{EndsInVerticalContact-finer}
+use Rattle.acas_rulings.specs.Printed.{AreParts, IsPart, a_part, flight_fractions, fractions_of, no_parts, segments_of}
+use Rattle.acas_rulings.specs.Ranges.{IsBoxesRange, IsCellsRange, IsContactOfBox, IsContactOfCell}
+use Rattle.acas_rulings.specs.Witness.{IsFlightInContact, IsWitnessOf}
+use Rattle.acas_rulings.specs.declared.flight.Witness.{Witness}
+use Rattle.acas_rulings.specs.declared.flight.Segment as part
+use Rattle.acas_rulings.specs.declared.flight.Flight as printed
+use Rattle.acas_witness_plans.proofs.Portions.{finer as finer_over}
+use Rattle.acas_rulings.specs.Boxes.{AuditedBox}
+use Rattle.acas_rulings.specs.Rulings.{IsReported, IsWitnessOfBox, IsWitnessOfCell, ShowsDanger}
+use Rattle.acas_cells.specs.declared.name.CellName.{CellName}
 
 -- ---- finer numbers
 

@@ -3,8 +3,8 @@ ghost use Rattle.std.specs.Prelude.{ℕ};
 ghost use Rattle.acas_spec.specs.Model.{ModelData};
 ghost use Rattle.acas_flight.specs.State.{Box, IsInBox, IsInCell};
 ghost use Rattle.acas_flight.specs.Contact.{IsEndangeredBox, IsEndangeredCell};
-ghost use Rattle.acas_witness.specs.declared.flight.Witness.{Witness};
-ghost use Rattle.acas_cell.specs.Rulings.{ShowsDanger};
+ghost use Rattle.acas_rulings.specs.declared.flight.Witness.{Witness};
+ghost use Rattle.acas_rulings.specs.Rulings.{ShowsDanger};
 
 /// A witness that shows danger is a flight that endangers: some flight from a state of the cell, or of the box, that meets the advisory
 /// ends in contact.

@@ -4,20 +4,20 @@ ghost use Rattle.acas_frac.specs.Fraction.{IsReduced};
 ghost use Rattle.acas_flight.specs.Clear.{area_of_cell};
 ghost use Rattle.acas_flight.specs.Contact.{IsEndangeredCell};
 ghost use Rattle.acas_flight.specs.Window.{IsWindowOfCell};
-ghost use Rattle.acas_region.specs.View.{area_of, times_of};
-ghost use Rattle.acas_witness.specs.Witness.{IsClearIn};
-ghost use Rattle.acas_cell.specs.Boxes.{IsBoxOf, audited};
-ghost use Rattle.acas_cell.specs.Cells.{IsCellOf};
-ghost use Rattle.acas_cell.specs.Order.{cell_of};
-ghost use Rattle.acas_cell.specs.Rulings.{IsRulingOfBox, IsRulingOfCell};
+ghost use Rattle.acas_region_curves.specs.View.{area_of, times_of};
+ghost use Rattle.acas_rulings.specs.Witness.{IsClearIn};
+ghost use Rattle.acas_rulings.specs.Boxes.{IsBoxOf, audited};
+ghost use Rattle.acas_cells.specs.Cells.{IsCellOf};
+ghost use Rattle.acas_cells.specs.Order.{cell_of};
+ghost use Rattle.acas_rulings.specs.Rulings.{IsRulingOfBox, IsRulingOfCell};
 
-use crate::areas::area_of_cell;
-use crate::audit_box::AuditBox;
-use crate::name::CellName;
-use crate::ruling::Ruling;
 use acas_base::Model;
-use acas_region::{BoxState, Window, is_clear, window_of_box, window_of_cell};
-use acas_witness::{Witness, contact_in, find, of_box, of_cell};
+use acas_cells::CellName;
+use acas_region::{is_clear, window_of_box, window_of_cell};
+use acas_region_curves::{BoxState, Window};
+use acas_rulings::{AuditBox, Ruling, Witness, area_of_cell};
+use acas_witness::{contact_in, find};
+use acas_witness_response::{of_box, of_cell};
 
 /// The same witness. It opens the range and the speed: they are in lowest terms.
 fn opened(witness: Witness) -> Witness

@@ -2,12 +2,12 @@
 use Rattle.std.proofs.Common.{◌≡◌, ℕ, zero, suc, ◌+◌, ◌<◌, true, true≢false, [], ◌∷◌, pos, refl, sym, arith, rules}
 use Rattle.acas_flight.specs.Contact.{IsEndangeredCell}
 use Rattle.acas_flight_examples.specs.Numbers.{segment, state}
-use Rattle.acas_cell.specs.Blocks.{IsInBlock, all_cells}
-use Rattle.acas_cell.specs.BlockStates.{IsEndangeredBlock}
-use Rattle.acas_cell.specs.Cells.{cell_at}
-use Rattle.acas_cell.specs.Corners.{is_at_corner}
-use Rattle.acas_cell.specs.Decisions.{IsDecidedBy, halved, one_cell, untabled}
-use Rattle.acas_cell.specs.declared.block.Block.{Block}
+use Rattle.acas_cells.specs.Blocks.{IsInBlock, all_cells}
+use Rattle.acas_audit_blocks.specs.BlockStates.{IsEndangeredBlock}
+use Rattle.acas_cells.specs.Cells.{cell_at}
+use Rattle.acas_cells.specs.Corners.{is_at_corner}
+use Rattle.acas_audit_blocks.specs.Decisions.{IsDecidedBy, halved, one_cell, untabled}
+use Rattle.acas_cells.specs.declared.block.Block.{Block}
 use Rattle.acas_cell_examples.specs.Tabled.{block, stacked, tabled}
 
 abbrev pub lower : Block

@@ -9,9 +9,9 @@ use Rattle.acas_flight.specs.Response.{Segment, lasting}
 use Rattle.acas_flight.specs.State.{IsInCell}
 use Rattle.acas_flight.specs.Contact.{EndsInContact}
 use Rattle.acas_flight_examples.specs.Numbers.{over, segment, state}
-use Rattle.acas_witness.specs.Printed.{AreParts, a_part, fractions_of, level, no_parts, segments_of}
-use Rattle.acas_witness.specs.declared.flight.Segment as part
-use Rattle.acas_cell.specs.Rulings.{ShowsDanger}
+use Rattle.acas_rulings.specs.Printed.{AreParts, a_part, fractions_of, level, no_parts, segments_of}
+use Rattle.acas_rulings.specs.declared.flight.Segment as part
+use Rattle.acas_rulings.specs.Rulings.{ShowsDanger}
 use Rattle.acas_cell_examples.specs.Tabled.{stacked}
 use Rattle.acas_cell_examples.specs.Witnesses.{seen}
 

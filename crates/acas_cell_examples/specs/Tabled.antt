@@ -3,9 +3,9 @@ use Rattle.std.specs.Prelude.{ℕ, pos, List, [], ◌∷◌, ◌++◌}
 use Rattle.acas_spec.specs.Model.{ModelData}
 use Rattle.acas_spec.specs.declared.place.Vertex.{Vertex}
 use Rattle.acas_base.specs.Advices.{AdvicesData}
-use Rattle.acas_cell.specs.declared.block.Block.{Block}
-use Rattle.acas_cell.specs.declared.name.CellName.{CellName}
-use Rattle.acas_cell.specs.declared.set.AdviceSet.{AdviceSet}
+use Rattle.acas_cells.specs.declared.block.Block.{Block}
+use Rattle.acas_cells.specs.declared.name.CellName.{CellName}
+use Rattle.acas_cells.specs.declared.set.AdviceSet.{AdviceSet}
 use Rattle.acas_flight_examples.specs.Flown.{small}
 
 -- the small model with altitudes of 0, 120 and 240 ticks

@@ -1,6 +1,6 @@
 -- A printed flight, at ranges and closing speeds.
 use Rattle.std.specs.Prelude.{ℕ, ℤ, pos, Some, None}
-use Rattle.acas_witness.specs.declared.flight.Witness.{Witness}
+use Rattle.acas_rulings.specs.declared.flight.Witness.{Witness}
 use Rattle.acas_flight_examples.specs.Numbers.{over}
 
 -- at the range n/d and a closing speed, for a time: 1 s at 0 ft/min and 1 s at 100 ft/min per second, 100 ticks below the intruder, which

@@ -1,10 +1,10 @@
 //! Blocks of cells, their halves and areas, and sets of advices.
 ghost use Rattle.std.specs.Prelude.{◌≡◌, pos, [], true, false};
-ghost use Rattle.acas_cell.specs.Audits.{BlockAuditData, cell_count, place_of};
-ghost use Rattle.acas_cell.specs.Blocks.{IsBlockOf, IsInBlock, all_cells, altitudes, cells_in, first_half, intruder_rates, is_highest, is_one_cell, is_wider, own_rates, second_half};
-ghost use Rattle.acas_cell.specs.BlockStates.{area_of_block};
-ghost use Rattle.acas_cell.specs.Spans.{between};
-ghost use Rattle.acas_cell.specs.Sets.{has_no_advisory, holds};
+ghost use Rattle.acas_audit_blocks.specs.Audits.{BlockAuditData, cell_count, place_of};
+ghost use Rattle.acas_cells.specs.Blocks.{IsBlockOf, IsInBlock, all_cells, altitudes, cells_in, first_half, intruder_rates, is_highest, is_one_cell, is_wider, own_rates, second_half};
+ghost use Rattle.acas_audit_blocks.specs.BlockStates.{area_of_block};
+ghost use Rattle.acas_rulings.specs.Spans.{between};
+ghost use Rattle.acas_cells.specs.Sets.{has_no_advisory, holds};
 ghost use Rattle.acas_flight_examples.specs.Numbers.{area, from_to};
 ghost use Rattle.acas_cell_examples.specs.Tabled.{block, set, stacked};
 

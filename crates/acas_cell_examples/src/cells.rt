@@ -1,9 +1,9 @@
 //! The cells of the model, what is tabled at their corners, and the advisory cells.
 ghost use Rattle.std.specs.Prelude.{◌≡◌, [], ◌∷◌, true, false};
 ghost use Rattle.std.specs.declared.cmp.Ordering.TheVariants.{Equal, Greater, Less};
-ghost use Rattle.acas_cell.specs.Cells.{IsCellOf, cell_at, cells_of};
-ghost use Rattle.acas_cell.specs.Corners.{advice_at_vertex, advisory_cells, corner_advices, corners, is_advised, is_at_corner, is_clear_cell, names_at};
-ghost use Rattle.acas_cell.specs.Order.{by_numbers, numbers, places};
+ghost use Rattle.acas_cells.specs.Cells.{IsCellOf, cell_at, cells_of};
+ghost use Rattle.acas_cells.specs.Corners.{advice_at_vertex, advisory_cells, corner_advices, corners, is_advised, is_at_corner, is_clear_cell, names_at};
+ghost use Rattle.acas_cells.specs.Order.{by_numbers, numbers, places};
 ghost use Rattle.acas_cell_examples.specs.Tabled.{stacked, tabled, under_climb, vertex};
 
 /// For each of 2 seconds and of 2 present advisories there are 2 cells, one above the other.
@@ -31,7 +31,8 @@ pub fn corners_are_advised()
     ensures at_vertex { advice_at_vertex stacked tabled 0 1 (vertex 2 1 1) ≡ 1 }
     ensures lower { corner_advices stacked tabled (cell_at 0 0 0 0 0) ≡ 0 ∷ 0 ∷ 0 ∷ 1 ∷ 0 ∷ 0 ∷ 0 ∷ 0 ∷ [] }
     ensures upper { corner_advices stacked tabled (cell_at 0 0 1 0 0) ≡ 0 ∷ 0 ∷ 0 ∷ 0 ∷ 1 ∷ 0 ∷ 0 ∷ 0 ∷ [] }
-    ensures under_climb { corner_advices stacked tabled (cell_at 0 1 1 0 0) ≡ 0 ∷ 0 ∷ 0 ∷ 0 ∷ 0 ∷ 0 ∷ 0 ∷ 1 ∷ [] }
+    ensures under_climb { corner_advices stacked tabled (cell_at 0 1 1 0 0) ≡
+        0 ∷ 0 ∷ 0 ∷ 0 ∷ 0 ∷ 0 ∷ 0 ∷ 1 ∷ [] }
     ensures later { corner_advices stacked tabled (cell_at 1 0 0 0 0) ≡ 1 ∷ 0 ∷ 0 ∷ 0 ∷ 0 ∷ 0 ∷ 0 ∷ 0 ∷ [] }
     ensures climb { is_at_corner stacked tabled (cell_at 0 0 0 0 0) 1 ≡ true }
     ensures no_climb { is_at_corner stacked tabled (cell_at 0 1 0 0 0) 1 ≡ false }

@@ -1,8 +1,8 @@
 //! How many decisions rule on the cells of the model.
 ghost use Rattle.std.specs.Prelude.{◌≡◌, ℕ};
-ghost use Rattle.acas_cell.specs.Blocks.{all_cells};
-ghost use Rattle.acas_cell.specs.Decisions.{AreAuditsDecisions, AreDecisionsOf, AreDecisionsUnder, IsDecidedBy, IsTabledIn};
-ghost use Rattle.acas_cell.specs.DecisionCounts.{most_decisions};
+ghost use Rattle.acas_cells.specs.Blocks.{all_cells};
+ghost use Rattle.acas_audit_blocks.specs.Decisions.{AreAuditsDecisions, AreDecisionsOf, AreDecisionsUnder, IsDecidedBy, IsTabledIn};
+ghost use Rattle.acas_cells.specs.DecisionCounts.{most_decisions};
 ghost use Rattle.acas_cell_examples.specs.Tabled.{block, stacked, tabled};
 
 /// Climb is tabled at a corner of both cells of 0 seconds, and both are endangered: one decision for the two, and one for each. Where
@@ -24,7 +24,8 @@ pub fn decided_numbers_are_one()
     ensures both { (number : ℕ) → IsDecidedBy stacked tabled 0 0 1 (all_cells stacked) number → number ≡ 3 }
     ensures upper { (number : ℕ) → IsDecidedBy stacked tabled 0 1 1 (all_cells stacked) number → number ≡ 2 }
     ensures lower { (number : ℕ) → IsDecidedBy stacked tabled 0 0 1 (block 0 1 0 1 0 1) number → number ≡ 1 }
-    ensures nowhere { (number : ℕ) → IsDecidedBy stacked tabled 1 1 1 (all_cells stacked) number → number ≡ 0 }
+    ensures nowhere { (number : ℕ) → IsDecidedBy stacked tabled 1 1 1 (all_cells stacked) number →
+        number ≡ 0 }
 {}
 
 /// The same summed up. No second and present advisory takes more than two for each of 2 cells under each of 2 advices.

@@ -32,7 +32,8 @@ pub fn vertices_are_nearest_or_not()
     ensures below { IsNearestVertex stacked.grid (point (pos 59) (pos 600) (pos 600)) (vertex 0 1 1) }
     ensures not_above { IsNearestVertex stacked.grid (point (pos 59) (pos 600) (pos 600)) (vertex 1 1 1) → ⊥ }
     ensures middle { IsNearestVertex stacked.grid (point (pos 60) (pos 600) (pos 600)) (vertex 0 1 1) }
-    ensures not_the_later { IsNearestVertex stacked.grid (point (pos 60) (pos 600) (pos 600)) (vertex 1 1 1) → ⊥ }
+    ensures not_the_later { IsNearestVertex stacked.grid (point (pos 60) (pos 600) (pos 600))
+        (vertex 1 1 1) → ⊥ }
     ensures above { IsNearestVertex stacked.grid (point (pos 61) (pos 600) (pos 600)) (vertex 1 1 1) }
     ensures not_below { IsNearestVertex stacked.grid (point (pos 61) (pos 600) (pos 600)) (vertex 0 1 1) → ⊥ }
     ensures middle_rates { IsNearestVertex stacked.grid (point (pos 240) (pos 300) (pos 300)) (vertex 2 0 0) }
@@ -57,9 +58,14 @@ pub fn advices_are_issued()
 
 /// No other advice is issued there: past the horizon no climb, in the middle and above the grid no clear of conflict.
 pub fn issued_advices_are_one()
-    ensures past_horizon { (advice : ℕ) → IsIssued stacked tabled (at 0 (pos 1001) (point (pos 0) (pos 0) (pos 0))) advice → advice ≡ 0 }
-    ensures at_horizon { (advice : ℕ) → IsIssued stacked tabled (at 0 (pos 1000) (point (pos 0) (pos 0) (pos 0))) advice → advice ≡ 1 }
-    ensures middle { (advice : ℕ) → IsIssued stacked tabled (at 0 (pos 750) (point (pos 60) (pos 600) (pos 600))) advice → advice ≡ 1 }
-    ensures past_middle { (advice : ℕ) → IsIssued stacked tabled (at 0 (pos 750) (point (pos 61) (pos 600) (pos 600))) advice → advice ≡ 0 }
-    ensures above_the_grid { (advice : ℕ) → IsIssued stacked tabled (at 0 (pos 750) (point (pos 999) (pos 0) (pos 0))) advice → advice ≡ 1 }
+    ensures past_horizon { (advice : ℕ) →
+        IsIssued stacked tabled (at 0 (pos 1001) (point (pos 0) (pos 0) (pos 0))) advice → advice ≡ 0 }
+    ensures at_horizon { (advice : ℕ) →
+        IsIssued stacked tabled (at 0 (pos 1000) (point (pos 0) (pos 0) (pos 0))) advice → advice ≡ 1 }
+    ensures middle { (advice : ℕ) →
+        IsIssued stacked tabled (at 0 (pos 750) (point (pos 60) (pos 600) (pos 600))) advice → advice ≡ 1 }
+    ensures past_middle { (advice : ℕ) →
+        IsIssued stacked tabled (at 0 (pos 750) (point (pos 61) (pos 600) (pos 600))) advice → advice ≡ 0 }
+    ensures above_the_grid { (advice : ℕ) →
+        IsIssued stacked tabled (at 0 (pos 750) (point (pos 999) (pos 0) (pos 0))) advice → advice ≡ 1 }
 {}

@@ -63,6 +63,8 @@ pub fn states_are_audited_or_not()
         (pos 600))) { closing = pos 249 }) → ⊥ }
     ensures outside { IsOfCells stacked (at 0 (pos 0) (point (pos 241) (pos 600) (pos 600))) → ⊥ }
     ensures audited { IsAudited stacked tabled (at 0 (pos 750) (point (pos 120) (pos 600) (pos 600))) 1 }
-    ensures outside_cells { IsAudited stacked tabled (at 0 (pos 750) (point (pos 241) (pos 600) (pos 600))) 1 → ⊥ }
-    ensures not_clear { IsAudited stacked tabled (at 0 (pos 750) (point (pos 120) (pos 600) (pos 600))) 0 → ⊥ }
+    ensures outside_cells { IsAudited stacked tabled
+        (at 0 (pos 750) (point (pos 241) (pos 600) (pos 600))) 1 → ⊥ }
+    ensures not_clear { IsAudited stacked tabled
+        (at 0 (pos 750) (point (pos 120) (pos 600) (pos 600))) 0 → ⊥ }
 {}

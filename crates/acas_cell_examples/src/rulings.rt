@@ -1,8 +1,8 @@
 //! Witnesses that show danger, and which rulings they are not.
 ghost use Rattle.std.specs.Prelude.{pos};
 ghost use Rattle.acas_flight.specs.State.{IsInCell};
-ghost use Rattle.acas_cell.specs.Rulings.{IsRulingOfCell, IsWitnessOfCell, ShowsDanger};
-ghost use Rattle.acas_cell.specs.declared.ruling.Ruling.TheVariants.{Certified, Reported};
+ghost use Rattle.acas_rulings.specs.Rulings.{IsRulingOfCell, IsWitnessOfCell, ShowsDanger};
+ghost use Rattle.acas_rulings.specs.declared.ruling.Ruling.TheVariants.{Certified, Reported};
 ghost use Rattle.acas_cell_examples.specs.Tabled.{stacked, under_climb};
 ghost use Rattle.acas_cell_examples.specs.Witnesses.{seen};
 
@@ -12,17 +12,21 @@ ghost use Rattle.acas_cell_examples.specs.Witnesses.{seen};
 pub fn danger_is_shown_or_not()
     ensures shown { ShowsDanger stacked 1 (IsInCell stacked 1 0 0 0) (seen (pos 1000) 1 (pos 250) (pos 2)) }
     ensures faster { ShowsDanger stacked 1 (IsInCell stacked 1 0 0 0) (seen (pos 1500) 1 (pos 500) (pos 2)) }
-    ensures slow { ShowsDanger stacked 1 (IsInCell stacked 1 0 0 0) (seen (pos 1000) 1 (pos 249) (pos 2)) → ⊥ }
-    ensures behind { ShowsDanger stacked 1 (IsInCell stacked 1 0 0 0) (seen (pos 250) 1 (pos 500) (pos 2)) → ⊥ }
+    ensures slow { ShowsDanger stacked 1 (IsInCell stacked 1 0 0 0)
+        (seen (pos 1000) 1 (pos 249) (pos 2)) → ⊥ }
+    ensures behind { ShowsDanger stacked 1 (IsInCell stacked 1 0 0 0)
+        (seen (pos 250) 1 (pos 500) (pos 2)) → ⊥ }
     ensures not_lowest_terms { ShowsDanger stacked 1 (IsInCell stacked 1 0 0 0) (seen (pos 2000) 2 (pos 250)
         (pos 2)) → ⊥ }
-    ensures shorter { ShowsDanger stacked 1 (IsInCell stacked 1 0 0 0) (seen (pos 1000) 1 (pos 250) (pos 1)) → ⊥ }
+    ensures shorter { ShowsDanger stacked 1 (IsInCell stacked 1 0 0 0)
+        (seen (pos 1000) 1 (pos 250) (pos 1)) → ⊥ }
 {}
 
 /// So the lower cell of 1 second is not certified under climb. The witness of the rule has the least closing speed: the danger at
 /// 500 ft/s is shown, and is no ruling.
 pub fn rulings_are_by_the_rule()
     ensures certified { IsRulingOfCell stacked (under_climb 1 0 0) Certified → ⊥ }
-    ensures reported { IsRulingOfCell stacked (under_climb 1 0 0) (Reported (seen (pos 1500) 1 (pos 500) (pos 2))) → ⊥ }
+    ensures reported { IsRulingOfCell stacked (under_climb 1 0 0)
+        (Reported (seen (pos 1500) 1 (pos 500) (pos 2))) → ⊥ }
     ensures by_rule { IsWitnessOfCell stacked (under_climb 1 0 0) (seen (pos 1500) 1 (pos 500) (pos 2)) → ⊥ }
 {}

@@ -1,4 +1,2 @@
-pub mod KnownForms
-mod OtherWords
 mod TwoRuns
 mod NeverWords

@@ -2,7 +2,7 @@
 use Rattle.acas_outside.specs.Outside.{Outside}
 use Rattle.acas_command.specs.declared.status.Cause.TheVariants.{Words}
 use Rattle.acas_cli.specs.Calls.{AnswersCall}
-use Rattle.acas_cli.specs.Words.{Form, Values, Compile, Check, Audit, Regions, Replay, Drill}
+use Rattle.acas_cli_words.specs.Words.{Form, Values, Compile, Check, Audit, Regions, Replay, Drill}
 
 pub never_words : (form : Form) (before after : Outside) → AnswersCall form Words before after → ⊥
 never_words (Values model) before after a = a.has_cause

@@ -10,11 +10,11 @@ use Rattle.acas_table.specs.Layers.{table_text}
 use Rattle.acas_command.specs.Worth.{IsNotRefused}
 use Rattle.acas_command.specs.declared.status.Cause.{Cause}
 use Rattle.acas_command.specs.declared.status.Cause.TheVariants.{Done}
-use Rattle.acas_report.specs.declared.counts.Which.{Which}
+use Rattle.acas_report_lines.specs.declared.counts.Which.{Which}
 use Rattle.acas_audit_commands.specs.Worth.{AuditIsWorth}
 use Rattle.acas_table_commands.specs.Worth.{CheckIsWorth, CompileIsWorth}
 use Rattle.acas_cli.specs.Headline.{Headline}
-use Rattle.acas_cli.specs.Words.{Audit, Check, Compile}
+use Rattle.acas_cli_words.specs.Words.{Audit, Check, Compile}
 
 pub stored-accepted : (model table : List ℕ) (files : Files) (cause : Cause) (before between again after : Outside) → (model ≡ table → ⊥) → before.holds ≡ Some files
     → Headline (Some (Compile model table)) Done before between → again.holds ≡ between.holds → Headline (Some (Check model table)) cause again after → IsNotRefused cause again after

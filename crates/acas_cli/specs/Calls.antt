@@ -10,7 +10,7 @@ use Rattle.acas_audit_commands.specs.Calls.{CallsForAudit, CallsForRegions}
 use Rattle.acas_drill.specs.Calls.{CallsForDrill}
 use Rattle.acas_encounter_commands.specs.Calls.{CallsForReplay}
 use Rattle.acas_table_commands.specs.Calls.{CallsForCheck, CallsForCompile, CallsForValues}
-use Rattle.acas_cli.specs.Words.{Form, Values, Compile, Check, Audit, Regions, Replay, Drill}
+use Rattle.acas_cli_words.specs.Words.{Form, Values, Compile, Check, Audit, Regions, Replay, Drill}
 
 -- what a form calls for
 abbrev pub CallsFor : Form → Called

@@ -8,7 +8,7 @@ use Rattle.acas_audit_commands.specs.Worth.{AuditIsWorth, RegionsIsWorth}
 use Rattle.acas_drill.specs.Worth.{DrillIsWorth}
 use Rattle.acas_encounter_commands.specs.Worth.{ReplayIsWorth}
 use Rattle.acas_table_commands.specs.Worth.{CheckIsWorth, CompileIsWorth, ValuesIsWorth}
-use Rattle.acas_cli.specs.Words.{Form, Values, Compile, Check, Audit, Regions, Replay, Drill}
+use Rattle.acas_cli_words.specs.Words.{Form, Values, Compile, Check, Audit, Regions, Replay, Drill}
 
 -- what each form is worth, by the files that the folder held before
 abbrev pub IsWorth : Form → Files → Cause → Outside → Outside → Type 0

@@ -1,5 +1,3 @@
-pub mod Words
-pub mod Forms
 pub mod Calls
 pub mod Headline
 pub mod Work

@@ -4,7 +4,7 @@ use Rattle.acas_outside.specs.Files.{Files}
 use Rattle.acas_command.specs.declared.status.Cause.{Cause}
 use Rattle.acas_audit_commands.specs.Decisions.{CountsAudit}
 use Rattle.acas_table_commands.specs.Work.{CountsSweep}
-use Rattle.acas_cli.specs.Words.{Form, Values, Compile, Check, Audit, Regions, Replay, Drill}
+use Rattle.acas_cli_words.specs.Words.{Form, Values, Compile, Check, Audit, Regions, Replay, Drill}
 use Rattle.acas_cli.specs.declared.work.Work.{Work}
 
 -- there is room for one more run

@@ -21,7 +21,8 @@ pub fn drill<O: Sink>(alloc: Global, number: u32, out: &mut O) -> Status
         (output_beside O.Sink folder out.old) (output_beside O.Sink folder out.new) }
 
     // What that is worth, in the words of the subject.
-    ensures headline { (folder : Outside) → IfSome folder.holds (λ files. DrillIsWorth number files result.cause
+    ensures headline { (folder : Outside) →
+        IfSome folder.holds (λ files. DrillIsWorth number files result.cause
         (output_beside O.Sink folder out.old) (output_beside O.Sink folder out.new)) }
     ensures ends { EndsDrill result.cause }
     ensures code { result.code ≡ code_of result.cause }

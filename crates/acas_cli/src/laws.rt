@@ -6,8 +6,8 @@ ghost use Rattle.acas_command.specs.Worth.{IsNotRefused};
 ghost use Rattle.acas_command.specs.declared.status.Cause.{Cause};
 ghost use Rattle.acas_command.specs.declared.status.Cause.TheVariants.{Done};
 ghost use Rattle.acas_cli.specs.Headline.{Headline};
-ghost use Rattle.acas_report.specs.declared.counts.Which.{Which};
-ghost use Rattle.acas_cli.specs.Words.{Audit, Check, Compile};
+ghost use Rattle.acas_report_lines.specs.declared.counts.Which.{Which};
+ghost use Rattle.acas_cli_words.specs.Words.{Audit, Check, Compile};
 
 /// A table that a run of `compile` has stored under another name, in a folder that tells its files, is accepted by a run of `check`
 /// over the same files: that run is not refused.

@@ -4,13 +4,12 @@
 mod drill_call;
 mod laws;
 mod top_call;
-mod words;
 mod work;
 
 pub use acas_accept::{AcceptFault, accept};
-pub use acas_command::{Cause, FileRole, Status, TableRefusal};
+pub use acas_command::{Cause, FileRole, Status};
+pub use acas_table::TableRefusal;
 pub use drill_call::drill;
 pub use laws::{accepted_tables_are_audited, stored_tables_are_accepted};
 pub use top_call::run;
-pub use words::{Command, command_of};
 pub use work::Work;

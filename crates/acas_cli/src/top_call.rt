@@ -5,15 +5,15 @@ ghost use Rattle.acas_outside.specs.Outside.{outside};
 ghost use Rattle.acas_command.specs.Codes.{code_of};
 ghost use Rattle.acas_command.specs.ErrorLine.{Reports};
 ghost use Rattle.acas_cli.specs.Calls.{AnswersCall, AnswersForm};
-ghost use Rattle.acas_cli.specs.Forms.{HasNumber, form_of_command};
+ghost use Rattle.acas_cli_words.specs.Forms.{HasNumber, form_of_command};
 ghost use Rattle.acas_cli.specs.Headline.{Headline, IsWorth};
-ghost use Rattle.acas_cli.specs.Words.{form_of, names_of};
+ghost use Rattle.acas_cli_words.specs.Words.{form_of, names_of};
 ghost use Rattle.acas_cli.specs.Work.{CountsFor, CountsForm, HasRoom, NoneFell};
 
 use crate::drill_call::drill;
-use crate::words::{Command, command_of};
 use crate::work::Work;
 use acas_audit_commands::{audit, regions};
+use acas_cli_words::{Command, command_of};
 use acas_command::{Cause, Status, cause_of, cause_of_report, report, report_memory, report_words};
 use acas_encounter_commands::replay;
 use acas_outside::{Folder, Sink};
@@ -50,7 +50,8 @@ pub fn run<F: Folder, O: Sink, E: Sink>(
         (outside F.Folder O.Sink folder.old out.old) (outside F.Folder O.Sink folder.new out.new) }
 
     // What is counted: by whole numbers where the command is done, and what is not named for a command stands.
-    ensures work { CountsForm (form_of (map string_bytes words.now)) (F.holds folder.old) result.cause work.old work.new }
+    ensures work { CountsForm (form_of (map string_bytes words.now)) (F.holds folder.old) result.cause
+        work.old work.new }
     ensures rising { NoneFell work.old work.new }
 
     // The exit code, and the line on the error output.
@@ -85,7 +86,8 @@ fn answer_and_report<F: Folder, O: Sink, E: Sink>(
         (outside F.Folder O.Sink folder.old out.old) (outside F.Folder O.Sink folder.new out.new) }
     ensures headline { Headline (form_of (map string_bytes words.now)) result
         (outside F.Folder O.Sink folder.old out.old) (outside F.Folder O.Sink folder.new out.new) }
-    ensures work { CountsForm (form_of (map string_bytes words.now)) (F.holds folder.old) result work.old work.new }
+    ensures work { CountsForm (form_of (map string_bytes words.now)) (F.holds folder.old) result work.old
+        work.new }
     ensures rising { NoneFell work.old work.new }
     ensures line { Reports result (map string_bytes words.now)
         (E.written err.old) (E.written err.new) (E.faults err.old) (E.faults err.new) }
@@ -114,12 +116,14 @@ fn answer<F: Folder, O: Sink>(
     out: &mut O,
     work: &mut Work,
 ) -> Cause
-    requires served { All (λ name. IsTrue (F.serves folder.old name)) (names_of (form_of_command command.now)) }
+    requires served { All (λ name.
+        IsTrue (F.serves folder.old name)) (names_of (form_of_command command.now)) }
     requires number { HasNumber (form_of_command command.now) }
     requires counts { HasRoom work.old }
     ensures answers { AnswersCall (form_of_command command.now) result
         (outside F.Folder O.Sink folder.old out.old) (outside F.Folder O.Sink folder.new out.new) }
-    ensures headline { IfSome (F.holds folder.old) (λ files. IsWorth (form_of_command command.now) files result
+    ensures headline { IfSome (F.holds folder.old) (λ files.
+        IsWorth (form_of_command command.now) files result
         (outside F.Folder O.Sink folder.old out.old) (outside F.Folder O.Sink folder.new out.new)) }
     ensures work { CountsFor (form_of_command command.now) (F.holds folder.old) result work.old work.new }
     ensures rising { NoneFell work.old work.new }

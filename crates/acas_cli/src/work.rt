@@ -2,9 +2,9 @@
 ghost use Rattle.std.specs.Prelude.{◌≡◌, ◌↔◌, true};
 ghost use Rattle.acas_cli.specs.Work.{HasRoom};
 
-use acas_cell::Decisions;
+use acas_audit_blocks::Decisions;
 use acas_plane::Turned;
-use acas_step::Backups;
+use acas_step_choices::Backups;
 
 /// The most that a count may be before a run: 2^63.
 const GREATEST_COUNT: u64 = 1 << 63;

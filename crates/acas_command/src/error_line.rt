@@ -66,8 +66,10 @@ fn emit_line<'p, E: Sink>(
     subject: &'p [u8],
     tail: &'p [u8],
 ) -> Result<(), Failed>
-    ensures ok { OnOk result (Appends (E.written err.old) (E.written err.new) (line_of_parts head.now subject.now tail.now)) }
-    ensures err { OnErr result (AppendsPart (E.written err.old) (E.written err.new) (line_of_parts head.now subject.now tail.now)) }
+    ensures ok { OnOk result (Appends (E.written err.old) (E.written err.new)
+        (line_of_parts head.now subject.now tail.now)) }
+    ensures err { OnErr result
+        (AppendsPart (E.written err.old) (E.written err.new) (line_of_parts head.now subject.now tail.now)) }
     ensures frame { Emits E.Sink err.old err.new (IsErr result) }
 {
     emit_parts(err, &[b"acas: ", head, subject, tail, b"\n"])

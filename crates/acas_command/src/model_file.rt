@@ -28,8 +28,10 @@ pub fn read_model_file<F: Folder>(
     folder: &mut F,
 ) -> Result<ModelFile, Cause>
     requires { IsTrue (F.serves folder.old name.now) }
-    ensures ok { IfOk result (λ found. Given (F.holds folder.old) name.now (λ file. IsModelFile file found.digest found.model)) }
-    ensures err { IfErr result (λ cause. RefusesModel name.now cause (beside F.Folder folder.old) (beside F.Folder folder.new)) }
+    ensures ok { IfOk result (λ found.
+        Given (F.holds folder.old) name.now (λ file. IsModelFile file found.digest found.model)) }
+    ensures err { IfErr result (λ cause.
+        RefusesModel name.now cause (beside F.Folder folder.old) (beside F.Folder folder.new)) }
     ensures refused { IfErr result EndsLooking }
     ensures frame { OnlyReads F.Folder folder.old folder.new
         (IsErrOf result Cause.Folder) (IsErrOf result (Cause.Absent FileRole.Model)) }

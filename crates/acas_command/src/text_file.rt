@@ -20,8 +20,10 @@ pub fn read_text_file<F: Folder>(
     folder: &mut F,
 ) -> Result<Vec<u8>, Cause>
     requires { IsTrue (F.serves folder.old name.now) }
-    ensures ok { IfOk result (λ bytes. Given (F.holds folder.old) name.now (λ file. IsTextFile file bytes.items)) }
-    ensures err { IfErr result (λ cause. RefusesText role name.now cause (beside F.Folder folder.old) (beside F.Folder folder.new)) }
+    ensures ok { IfOk result (λ bytes.
+        Given (F.holds folder.old) name.now (λ file. IsTextFile file bytes.items)) }
+    ensures err { IfErr result (λ cause.
+        RefusesText role name.now cause (beside F.Folder folder.old) (beside F.Folder folder.new)) }
     ensures refused { IfErr result EndsLooking }
     ensures frame { OnlyReads F.Folder folder.old folder.new
         (IsErrOf result Cause.Folder) (IsErrOf result (Cause.Absent role)) }

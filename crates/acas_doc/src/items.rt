@@ -23,7 +23,8 @@ pub fn item(
     greatest: i64,
 ) -> Result<i64, DocError>
     requires { place < length items.now }
-    ensures value { Answers (λ z. z) result (keys.whole_item path.now place least greatest (data_at (map view items.now) place)) }
+    ensures value { Answers (λ z.
+        z) result (keys.whole_item path.now place least greatest (data_at (map view items.now) place)) }
     ensures range { IfOk result (λ z. (least ≤ℤ z) × (z ≤ℤ greatest)) }
 {
     match as_whole(&items[place as usize], least, greatest) {
@@ -41,7 +42,8 @@ pub fn text_item<'t>(
     place: u32,
 ) -> Result<&'t str, DocError>
     requires { place < length items.now }
-    ensures { Answers (λ s. s.now) result (keys.text_item path.now place (data_at (map view items.now) place)) }
+    ensures { Answers (λ s. s.now) result
+        (keys.text_item path.now place (data_at (map view items.now) place)) }
 {
     match as_text(&items[place as usize]) {
         Ok(text) => Ok(text),
@@ -58,7 +60,8 @@ pub fn table_item<'t>(
     place: u32,
 ) -> Result<&'t Table, DocError>
     requires { place < length items.now }
-    ensures { Answers (λ t. table_view t.now) result (keys.table_item path.now place (data_at (map view items.now) place)) }
+    ensures { Answers (λ t. table_view t.now) result
+        (keys.table_item path.now place (data_at (map view items.now) place)) }
 {
     match as_table(&items[place as usize]) {
         Ok(table) => Ok(table),

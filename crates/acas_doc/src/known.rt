@@ -45,8 +45,12 @@ pub fn only_keys(alloc: Global, table: &Table, path: &[u8], known: &str) -> Resu
 /// A law of `only_keys`: it passes exactly where the table has no unknown key, and the unknown key that it names is the
 /// least by its bytes.
 pub fn least_unknown_is_named(table: &Table, path: &[u8], known: &str)
-    ensures passes { (only_known path.now known.now (table_view table.now) ≡ Ok tt) ↔ ((key : List ℕ) → ¬ IsUnknown known.now (table_view table.now) key) }
-    ensures names { (key : List ℕ) → (only_known path.now known.now (table_view table.now) ≡ Err (record { key = key_path path.now key; kind = UnknownKey })) ↔ IsLeastUnknown known.now (table_view table.now) key }
+    ensures passes { (only_known path.now known.now (table_view table.now) ≡ Ok tt) ↔
+        ((key : List ℕ) → ¬ IsUnknown known.now (table_view table.now) key) }
+    ensures names { (key : List ℕ) →
+        (only_known path.now known.now (table_view table.now) ≡
+        Err (record { key = key_path path.now key; kind = UnknownKey })) ↔
+        IsLeastUnknown known.now (table_view table.now) key }
 {
     let _ascending_keys = table.iter();
 }

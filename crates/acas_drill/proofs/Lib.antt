@@ -1,5 +1,2 @@
-mod SteppedAxes
-pub mod WithinLimits
-pub mod Words
 mod Tables
 pub mod Worth

@@ -17,7 +17,7 @@ use Rattle.acas_accept.proofs.CompiledTables.{compiled_is_accepted}
 use Rattle.acas_accept.proofs.Tables.{accepted_has_none}
 use Rattle.acas_accept.proofs.Written.{is_table, read_again}
 use Rattle.acas_table.specs.declared.refusal.TableRefusal.{TableRefusal}
-use Rattle.acas_table_commands.specs.TableFile.{compiled_text}
+use Rattle.acas_table_rows.specs.TableFile.{compiled_text}
 use Rattle.acas_table_file.specs.Worth.{AreTabled}
 
 tabled : (m : ModelData) (digest : List ℕ) (advices : AdvicesData) → IsModel m → length digest ≡ 32 → HasAdvices m (compiled_text digest m) advices → AreTabled m (compiled m) advices

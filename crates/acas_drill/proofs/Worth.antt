@@ -18,13 +18,13 @@ use Rattle.acas_command.specs.declared.status.Cause.{Cause}
 use Rattle.acas_command.proofs.Behind.{told-map}
 use Rattle.acas_command.proofs.Refused.{not_refused}
 use Rattle.acas_command.proofs.Reports.{IsPrinted, report-may_print, report-printed}
-use Rattle.acas_report.specs.declared.counts.Which.TheVariants.{All}
+use Rattle.acas_report_lines.specs.declared.counts.Which.TheVariants.{All}
 use Rattle.acas_report.proofs.Verdicts.{verdicts}
 use Rattle.acas_command.proofs.Completed.{completed}
 use Rattle.acas_drill.specs.Calls.{CallsForDrill, EndsDrill, IsDrillBegun, IsDrillText}
-use Rattle.acas_drill.specs.DrilledModel.{drilled_model}
+use Rattle.acas_drill_model.specs.DrilledModel.{drilled_model}
 use Rattle.acas_drill.specs.Worth.{DrillIsWorth, PrintsDrill}
-use Rattle.acas_drill.proofs.WithinLimits.{model_within}
+use Rattle.acas_drill_model.proofs.WithinLimits.{model_within}
 
 prints-drill : (number : ℕ) (files : Files) (cause : Cause) (before after : Outside) → IsPrinted (IsDrillText number) files cause before after → PrintsDrill number files cause before after
 prints-drill number files cause before after p =

@@ -6,15 +6,15 @@ use Rattle.acas_outside.specs.Bytes.{AppendsPart}
 use Rattle.acas_outside.specs.Outside.{Outside}
 use Rattle.acas_outside.specs.declared.sink.Sink.{Ghosts as SinkMeanings}
 use Rattle.acas_process.specs.Compiled.{compiled}
-use Rattle.acas_report.specs.Report.{IsReport}
-use Rattle.acas_report.specs.declared.counts.Counts.{Counts}
-use Rattle.acas_report.specs.declared.counts.Which.TheVariants.{All}
+use Rattle.acas_report_lines.specs.Report.{IsReport}
+use Rattle.acas_report_lines.specs.declared.counts.Counts.{Counts}
+use Rattle.acas_report_lines.specs.declared.counts.Which.TheVariants.{All}
 use Rattle.acas_command.specs.Called.{Called, calls_for_report}
 use Rattle.acas_command.specs.Outcome.{prints}
 use Rattle.acas_command.specs.declared.status.Cause.{Cause}
 use Rattle.acas_command.specs.declared.status.Cause.TheVariants.{Done, Reported, Words, Absent, Model, Table, Input, Folder, Output, TooLong, Memory}
 use Rattle.acas_table_file.specs.Worth.{AreTabled}
-use Rattle.acas_drill.specs.DrilledModel.{drilled_model}
+use Rattle.acas_drill_model.specs.DrilledModel.{drilled_model}
 use Rattle.acas_drill.specs.Text.{drill_text}
 
 -- these are the counts of a report of the advices

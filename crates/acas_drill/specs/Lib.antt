@@ -1,5 +1,3 @@
-pub mod DrilledModel
-pub mod Word
 pub mod Text
 pub mod Calls
 pub mod Worth

@@ -4,9 +4,9 @@ use Rattle.std.specs.Fmt.{decimal}
 use Rattle.acas_spec.specs.Model.{GridData, entries, states}
 use Rattle.acas_table.specs.Shape.{shape_of}
 use Rattle.acas_table.specs.Text.{length_1}
-use Rattle.acas_report.specs.Text.{counts_text}
-use Rattle.acas_report.specs.declared.counts.Counts.{Counts}
-use Rattle.acas_drill.specs.DrilledModel.{drilled_grid}
+use Rattle.acas_report_lines.specs.Text.{counts_text}
+use Rattle.acas_report_lines.specs.declared.counts.Counts.{Counts}
+use Rattle.acas_drill_model.specs.DrilledModel.{drilled_grid}
 
 -- the number, how many states the grid has, and how many entries and bytes a table over it
 unfoldable pub drill_line : ℕ → GridData → List ℕ

@@ -12,10 +12,10 @@ use Rattle.acas_outside.specs.Outside.{Outside}
 use Rattle.acas_process.specs.Bounds.{HasTwoSidedBounds, IsTight}
 use Rattle.acas_table.specs.Layers.{table_text}
 use Rattle.acas_accept.specs.Accepted.{IsAcceptedTable}
-use Rattle.acas_cell.specs.Corners.{advisory_cells}
-use Rattle.acas_report.specs.Report.{IsReportOn, clear_cells, report_text}
-use Rattle.acas_report.specs.declared.counts.Counts.{Counts}
-use Rattle.acas_report.specs.declared.counts.Which.TheVariants.{All}
+use Rattle.acas_cells.specs.Corners.{advisory_cells}
+use Rattle.acas_report_lines.specs.Report.{IsReportOn, clear_cells, report_text}
+use Rattle.acas_report_lines.specs.declared.counts.Counts.{Counts}
+use Rattle.acas_report_lines.specs.declared.counts.Which.TheVariants.{All}
 use Rattle.acas_command.specs.Called.{MayPrint}
 use Rattle.acas_command.specs.Outcome.{report_cause}
 use Rattle.acas_command.specs.Worth.{IsNotRefused}
@@ -23,7 +23,7 @@ use Rattle.acas_command.specs.declared.status.Cause.{Cause}
 use Rattle.acas_table_file.specs.Worth.{AreTabled}
 use Rattle.acas_report.specs.Verdicts.{IsVerdictOnCell}
 use Rattle.acas_drill.specs.Calls.{EndsDrill}
-use Rattle.acas_drill.specs.DrilledModel.{drilled_model}
+use Rattle.acas_drill_model.specs.DrilledModel.{drilled_model}
 use Rattle.acas_drill.specs.Text.{drill_text}
 
 -- these are the counts of a report in which each advisory cell of these advices is ruled on

@@ -5,7 +5,8 @@ ghost use Rattle.acas_drill.specs.Calls.{AreCountsOf};
 
 use acas_base::{Advices, Model};
 use acas_outside::{Failed, Sink};
-use acas_report::{Counts, ReportFault, Which, write_report};
+use acas_report::write_report;
+use acas_report_lines::{Counts, ReportFault, Which};
 use std::alloc::{AllocError, Global};
 
 /// A sink that takes everything and tells nothing. It never fails.

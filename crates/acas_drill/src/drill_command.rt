@@ -5,13 +5,13 @@ ghost use Rattle.sha2.specs.Sha256.{sha256};
 ghost use Rattle.acas_outside.specs.Outside.{Outside};
 ghost use Rattle.acas_command.specs.Answers.{Answers, report_ended};
 ghost use Rattle.acas_drill.specs.Calls.{CallsForDrill, EndsDrill, IsDrillText, output_beside};
-ghost use Rattle.acas_drill.specs.DrilledModel.{drilled_model};
+ghost use Rattle.acas_drill_model.specs.DrilledModel.{drilled_model};
 
 use crate::counts::audit_counts;
 use crate::lines::write_lines;
-use crate::model::drill_model;
 use crate::table::drill_table;
 use acas_command::{Cause, ModelFile};
+use acas_drill_model::drill_model;
 use acas_outside::{Sink, emit};
 use acas_units::{GREATEST_DRILL_NUMBER, Line};
 use itoa::Buffer;

@@ -6,7 +6,7 @@ ghost use Rattle.acas_outside.specs.MemoryFolder.{folder_state};
 ghost use Rattle.acas_process.specs.Compiled.{compiled};
 ghost use Rattle.acas_table.specs.Shape.{shape_of};
 ghost use Rattle.acas_table.specs.Text.{length_1};
-ghost use Rattle.acas_table_commands.specs.TableFile.{compiled_text};
+ghost use Rattle.acas_table_rows.specs.TableFile.{compiled_text};
 ghost use Rattle.acas_table_file.specs.Worth.{AreTabled};
 
 use acas_accept::{AcceptFault, accept};
@@ -14,9 +14,12 @@ use acas_base::Advices;
 use acas_command::ModelFile;
 use acas_outside::MemoryFolder;
 use acas_plane::Turned;
-use acas_step::{Backups, LayerMeans, StencilMeans};
+use acas_step::LayerMeans;
+use acas_step_choices::Backups;
+use acas_step_columns::StencilMeans;
+use acas_sweep::SweepRoom;
 use acas_table::TableWriter;
-use acas_table_commands::{SweepRoom, store_swept};
+use acas_table_rows::store_swept;
 use std::alloc::{AllocError, Global};
 
 /// The name of the table in the folder of a drill.
@@ -34,7 +37,8 @@ pub(crate) fn drill_table(alloc: Global, found: &ModelFile) -> Result<DrillTable
     requires { length found.now.digest ≡ 32 }
     ensures bytes { IfOk result (λ table. table.bytes ≡ length_1 (shape_of found.now.model.grid)) }
     ensures fits { IfOk result (λ table. AreAdvicesOf found.now.model table.advices) }
-    ensures tabled { IfOk result (λ table. AreTabled found.now.model (compiled found.now.model) table.advices) }
+    ensures tabled { IfOk result (λ table.
+        AreTabled found.now.model (compiled found.now.model) table.advices) }
 {
     let means = StencilMeans::make(alloc, &found.model)?;
     let mut room = SweepRoom::make(alloc, &found.model)?;

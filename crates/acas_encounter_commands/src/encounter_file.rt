@@ -25,7 +25,8 @@ pub(crate) fn read_encounter_file<F: Folder>(
     ensures ok { IfOk result (λ encounter.
         Given (F.holds folder.old) name.now (λ file. IsInputFile (encounter_of model.now) file encounter)) }
     ensures fits { IfOk result (IsEncounterOf model.now) }
-    ensures err { IfErr result (λ cause. RefusesInput FileRole.Encounter (encounter_of model.now) name.now cause
+    ensures err { IfErr result (λ cause.
+        RefusesInput FileRole.Encounter (encounter_of model.now) name.now cause
         (beside F.Folder folder.old) (beside F.Folder folder.new)) }
     ensures refused { IfErr result EndsLooking }
     ensures frame { OnlyReads F.Folder folder.old folder.new

@@ -3,7 +3,7 @@ use Rattle.std.proofs.Common.{◌≡◌, ℕ, ◌+◌, ◌-◌, ◌*◌, ◌<◌
 use Rattle.std.proofs.lemmas.Int.{ints}
 use lib.IntN.{*ℤ_comm}
 use Rattle.acas_frac.proofs.SignedProducts.{mul-le_ℤ, mul-neg_ℤ}
-use Rattle.acas_flight.proofs.Orders.{by_above, by_below, cases_lt_ℤ}
+use Rattle.acas_frac.proofs.Orders.{by_above, by_below, cases_lt_ℤ}
 use Rattle.acas_flight.proofs.Curves.{approach-at_once}
 use Rattle.acas_flight.proofs.Steps.{piece, low_stays_below, low_goes_above, low_stays_above, steady_at_most}
 use Rattle.acas_flight.specs.Response.{Segment, Demand, rate_after, climb, lasting, Follows, FollowsThroughout}

@@ -2,9 +2,9 @@
 use Rattle.std.proofs.Common.{◌≡◌, ℕ, ◌+◌, ◌-◌, ◌*◌, ◌<◌, ◌≤◌, ⊎_elim, refl, sym, ap, ◌∙◌, arith, Bool, true, false, cond, [], ◌∷◌, ℤ, pos, ◌+ℤ◌, ◌-ℤ◌, ◌*ℤ◌, ◌≤ℤ◌, int_le, min}
 use Rattle.std.proofs.lemmas.Int.{ints}
 use Rattle.std.proofs.lemmas.Bool.{cases_lt}
-use Rattle.acas_flight.proofs.IntRing.{at, num, ◌⊕◌, ◌⊖◌, ◌⊗◌, ring}
-use Rattle.acas_flight.proofs.Squares.{sq}
-use Rattle.acas_flight.proofs.Orders.{by_below, by_above, cases_lt_ℤ}
+use Rattle.acas_frac.proofs.IntRing.{at, num, ◌⊕◌, ◌⊖◌, ◌⊗◌, ring}
+use Rattle.acas_frac.proofs.Squares.{sq}
+use Rattle.acas_frac.proofs.Orders.{by_below, by_above, cases_lt_ℤ}
 use Rattle.acas_flight.specs.Curves.{approach, held}
 
 -- 2 k t b

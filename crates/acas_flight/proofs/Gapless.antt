@@ -4,7 +4,7 @@ use Rattle.std.proofs.lemmas.Int.{ints, int_max_is}
 use Rattle.acas_spec.specs.Axis.{IsAxis, place_value}
 use Rattle.acas_spec.specs.Limits.{IsModel}
 use Rattle.acas_spec.specs.Model.{ModelData}
-use Rattle.acas_flight.proofs.Orders.{cases_lt_ℤ, mul_nonneg}
+use Rattle.acas_frac.proofs.Orders.{cases_lt_ℤ, mul_nonneg}
 use Rattle.acas_flight.specs.State.{State, IsInside, closing_speeds, outside_radius, from_place, IsSecondsAway, IsInCell}
 
 -- a number between the first and the last of a row is between two that follow one another

@@ -2,9 +2,9 @@
 use Rattle.std.proofs.Common.{◌≡◌, ℕ, ◌+◌, ◌-◌, ◌*◌, ◌≤◌, ⊎_elim, refl, ap, arith, cond, List, [], ◌∷◌, ℤ, pos, ◌+ℤ◌, ◌-ℤ◌, ◌*ℤ◌, ◌≤ℤ◌, ◌<ℤ◌, min}
 use Rattle.std.proofs.lemmas.Int.{ints}
 use Rattle.acas_frac.proofs.SignedProducts.{add-mul_ℤ}
-use Rattle.acas_flight.proofs.IntRing.{at, num, ◌⊕◌, ◌⊖◌, ◌⊗◌, ring, zero_mul_ℤ}
-use Rattle.acas_flight.proofs.Squares.{sq, hold_step}
-use Rattle.acas_flight.proofs.Orders.{by_below, cases_lt_ℤ}
+use Rattle.acas_frac.proofs.IntRing.{at, num, ◌⊕◌, ◌⊖◌, ◌⊗◌, ring, zero_mul_ℤ}
+use Rattle.acas_frac.proofs.Squares.{sq, hold_step}
+use Rattle.acas_frac.proofs.Orders.{by_below, cases_lt_ℤ}
 use Rattle.acas_flight.proofs.Curves.{steady, approach_below}
 use Rattle.acas_flight.proofs.Steps.{steady-add}
 use Rattle.acas_flight.proofs.Between.{OnOrAbove, test_lt, test_ge, low_pull-above, above_to_above, follows_above}

@@ -4,7 +4,7 @@ use Rattle.std.proofs.lemmas.Int.{ints, int_max_is}
 use Rattle.std.proofs.lemmas.Bool.{cases_lt}
 use Rattle.acas_spec.specs.Limits.{IsModel}
 use Rattle.acas_spec.specs.Model.{ModelData}
-use Rattle.acas_flight.proofs.Orders.{unsigned_abs-le, unsigned_abs-low, unsigned_abs-high}
+use Rattle.acas_frac.proofs.Orders.{unsigned_abs-le, unsigned_abs-low, unsigned_abs-high}
 use Rattle.acas_flight.specs.State.{State, IsSecondsAway, outside_radius}
 use Rattle.acas_flight.specs.Contact.{vertical_separation, IsInContact}
 

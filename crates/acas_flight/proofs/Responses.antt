@@ -1,8 +1,8 @@
 -- Segments fly their mean rate, and the responses that meet are those of the table.
 use Rattle.std.proofs.Common.{◌≡◌, ◌<◌, ◌≤◌, ◌↔◌, inl, inr, ◌⊎◌, ⊎_elim, refl, ap, arith, List, [], ◌∷◌, ℤ, pos, ◌+ℤ◌, ◌*ℤ◌, ◌≤ℤ◌, ◌<ℤ◌, neg_ℤ, unsigned_abs}
 use Rattle.std.proofs.lemmas.Int.{ints}
-use Rattle.acas_flight.proofs.IntRing.{at, num, ◌⊕◌, ◌⊗◌, ring}
-use Rattle.acas_flight.proofs.Orders.{unsigned_abs-le, unsigned_abs-low, unsigned_abs-high}
+use Rattle.acas_frac.proofs.IntRing.{at, num, ◌⊕◌, ◌⊗◌, ring}
+use Rattle.acas_frac.proofs.Orders.{unsigned_abs-le, unsigned_abs-low, unsigned_abs-high}
 use Rattle.acas_flight.proofs.Holding.{level_rate}
 use Rattle.acas_flight.specs.Response.{Segment, Demand, rate_after, climb_within, climb, Follows, FollowsThroughout, Holds, Meets}
 

@@ -14,7 +14,8 @@ pub fn segments_fly_mean_rates()
     ensures no_time { lasting [] ≡ 0 }
     ensures lasts { (s : Segment) (rest : List Segment) → lasting (s ∷ rest) ≡ s.duration + lasting rest }
     ensures no_climb { (v : ℤ) → climb v [] ≡ pos 0 }
-    ensures climbs { (v : ℤ) (s : Segment) (rest : List Segment) → let w = v +ℤ s.acceleration *ℤ pos s.duration in
+    ensures climbs { (v : ℤ) (s : Segment) (rest : List Segment) →
+        let w = v +ℤ s.acceleration *ℤ pos s.duration in
         climb v (s ∷ rest) ≡ (v +ℤ w) *ℤ pos s.duration +ℤ climb w rest }
 {}
 
@@ -58,7 +59,8 @@ pub fn responses_meet_at_once_or_after_a_hold()
 
 /// Where there is no delay, a response meets an advisory exactly where each segment follows it.
 pub fn no_response_holds_without_delay()
-    ensures { (a : Demand) (v : ℤ) (response : List Segment) → a.delay ≡ 0 → Meets a v response ↔ FollowsThroughout a v response }
+    ensures { (a : Demand) (v : ℤ) (response : List Segment) → a.delay ≡ 0 → Meets a v response ↔
+        FollowsThroughout a v response }
 {}
 
 /// The curves in numbers, times the pull b: an approach before and after the rate reaches its aim, from below it and from above it;
@@ -73,7 +75,8 @@ pub fn curves_in_numbers()
     ensures fallen { (v k : ℤ) (b t : ℕ) → k ≤ℤ v → (v -ℤ pos (b * t)) ≤ℤ k →
         approach v k b t ≡ pos 2 *ℤ k *ℤ pos t *ℤ pos b +ℤ (k -ℤ v) *ℤ (k -ℤ v) }
     ensures holding { (v k : ℤ) (b g t : ℕ) → t ≤ g → held v k b g t ≡ pos 2 *ℤ v *ℤ pos t *ℤ pos b }
-    ensures held { (v k : ℤ) (b g t : ℕ) → g ≤ t → held v k b g t ≡ pos 2 *ℤ v *ℤ pos g *ℤ pos b +ℤ approach v k b (t - g) }
+    ensures held { (v k : ℤ) (b g t : ℕ) → g ≤ t →
+        held v k b g t ≡ pos 2 *ℤ v *ℤ pos g *ℤ pos b +ℤ approach v k b (t - g) }
     ensures lowest_from_below { (a : Demand) (v : ℤ) (t : ℕ) → v <ℤ a.lo →
         (low_pull a v ≡ a.pull) × (lowest a v t ≡ held v a.lo a.pull a.delay t) }
     ensures lowest_from_lo_on { (a : Demand) (v : ℤ) (t : ℕ) → a.lo ≤ℤ v →
@@ -87,12 +90,14 @@ pub fn curves_in_numbers()
 /// A range outside the radius is as many seconds away as what is left of it is flown in, and one within the radius is 0 seconds away.
 /// There is none behind.
 pub fn seconds_in_numbers()
-    ensures outside { (m : ModelData) (n q : ℕ) (range closing : ℤ) → let left = range -ℤ pos (m.radius * q) in
+    ensures outside { (m : ModelData) (n q : ℕ) (range closing : ℤ) →
+        let left = range -ℤ pos (m.radius * q) in
         pos 0 ≤ℤ left →
         IsSecondsAway m n q range closing
         ↔ ((pos (m.least_closing * q) ≤ℤ closing) × (closing ≤ℤ pos (m.greatest_closing * q))
         × ((pos n *ℤ closing) ≤ℤ left) × (left ≤ℤ (pos (n + 1) *ℤ closing))) }
-    ensures behind { (m : ModelData) (n q : ℕ) (range closing : ℤ) → range <ℤ pos 0 → ¬ IsSecondsAway m n q range closing }
+    ensures behind { (m : ModelData) (n q : ℕ) (range closing : ℤ) → range <ℤ pos 0 →
+        ¬ IsSecondsAway m n q range closing }
     ensures within { (m : ModelData) (n q : ℕ) (range closing : ℤ) → IsModel m → 0 < q →
         pos 0 ≤ℤ range → range ≤ℤ pos (m.radius * q) →
         IsSecondsAway m n q range closing
@@ -119,7 +124,8 @@ pub fn cells_and_boxes_in_numbers()
 /// The cells of a model leave no gap: a state ahead, at a closing speed of the model, that loses horizontal separation within the
 /// horizon, and whose altitude and rates are between the ends of their axes, is in a cell.
 pub fn cells_leave_no_gap()
-    ensures { (m : ModelData) (q : ℕ) (s : State) → let g = m.grid in let h = g.h in let v0 = g.v0 in let v1 = g.v1 in
+    ensures { (m : ModelData) (q : ℕ) (s : State) → let g = m.grid in let h = g.h in let v0 = g.v0 in
+        let v1 = g.v1 in
         IsModel m → 0 < g.horizon → pos 0 ≤ℤ s.range → IsInside q (closing_speeds m) s.closing →
         (s.range -ℤ pos (m.radius * q)) ≤ℤ (pos g.horizon *ℤ s.closing) →
         (place_value h 0 *ℤ pos q) ≤ℤ s.altitude → s.altitude ≤ℤ (place_value h (length h - 1) *ℤ pos q) →

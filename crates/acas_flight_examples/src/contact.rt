@@ -25,8 +25,10 @@ pub fn contact_ends_at_the_edge()
     ensures half_below { IsVerticalContact 120 1 (minus 120) (pos 0) 0 (pos 0) }
     ensures more_below { IsVerticalContact 120 1 (minus 121) (pos 0) 0 (pos 0) → ⊥ }
     ensures both { IsInContact small 1 (state (pos 500) (pos 250) (pos 120) (pos 0) (pos 0)) 0 (pos 0) }
-    ensures too_far { IsInContact small 1 (state (pos 501) (pos 250) (pos 120) (pos 0) (pos 0)) 0 (pos 0) → ⊥ }
-    ensures too_high { IsInContact small 1 (state (pos 500) (pos 250) (pos 121) (pos 0) (pos 0)) 0 (pos 0) → ⊥ }
+    ensures too_far { IsInContact small 1 (state (pos 501) (pos 250) (pos 120) (pos 0) (pos 0)) 0
+        (pos 0) → ⊥ }
+    ensures too_high { IsInContact small 1 (state (pos 500) (pos 250) (pos 121) (pos 0) (pos 0)) 0
+        (pos 0) → ⊥ }
 {}
 
 /// In a hold of 2 s at 500 ft/min an aircraft climbs 2000 ticks, and a range of 1000 ft comes to the radius. An intruder that starts
@@ -41,11 +43,14 @@ pub fn flights_end_in_contact_or_not()
         (pos 1000) (pos 460)) (segment 4 (pos 0) ∷ []) }
     ensures past_over_two { EndsInContact small 1 (IsInCell small 1 0 0 0) 2 (state (pos 2000) (pos 500)
         (pos 2400) (pos 1000) (pos 461)) (segment 4 (pos 0) ∷ []) → ⊥ }
-    ensures too_short { EndsInContact small 1 (IsInCell small 1 0 0 0) 1 (state (pos 1000) (pos 250) (pos 1200)
+    ensures too_short { EndsInContact small 1 (IsInCell small 1 0 0 0) 1
+        (state (pos 1000) (pos 250) (pos 1200)
         (pos 500) (pos 230)) (segment 1 (pos 0) ∷ []) → ⊥ }
-    ensures not_asked { EndsInContact small 1 (IsInCell small 1 0 0 0) 1 (state (pos 1000) (pos 250) (pos 1200)
+    ensures not_asked { EndsInContact small 1 (IsInCell small 1 0 0 0) 1
+        (state (pos 1000) (pos 250) (pos 1200)
         (pos 500) (pos 230)) (segment 2 (pos 1) ∷ []) → ⊥ }
-    ensures other_cell { EndsInContact small 1 (IsInCell small 0 0 0 0) 1 (state (pos 1000) (pos 250) (pos 1200)
+    ensures other_cell { EndsInContact small 1 (IsInCell small 0 0 0 0) 1
+        (state (pos 1000) (pos 250) (pos 1200)
         (pos 500) (pos 230)) (segment 2 (pos 0) ∷ []) → ⊥ }
 {}
 
@@ -61,6 +66,7 @@ pub fn areas_are_endangered()
     ensures past { EndsInVerticalContact 120 climbing near_area (times (over (pos 1) 1) (over (pos 1) 1)) 1
         (pos 921) (pos 500) (pos 100) (segment 1 (pos 0) ∷ []) → ⊥ }
     ensures the_area { IsEndangeredDuring 120 climbing near_area (times (over (pos 0) 1) (over (pos 1) 1)) }
-    ensures not_clear { IsClear 120 climbing (area (from_to (minus 130) (pos 100)) (from_to (pos 500) (pos 500))
+    ensures not_clear { IsClear 120 climbing
+        (area (from_to (minus 130) (pos 100)) (from_to (pos 500) (pos 500))
         (from_to (pos 0) (pos 0))) (times (over (pos 0) 1) (over (pos 0) 1)) → ⊥ }
 {}

@@ -13,12 +13,16 @@ pub fn other_times_are_no_extremes()
         (pos 7) 1) → ⊥ }
     ensures not_the_first { IsHighExtreme climbing near_area (times (over (pos 0) 1) (over (pos 7) 1)) (over
         (pos 0) 1) → ⊥ }
-    ensures low_later { IsLowExtreme level level_area (times (over (pos 1) 1) (over (pos 6) 1)) (over (pos 2) 1) → ⊥ }
-    ensures high_later { IsHighExtreme level level_area (times (over (pos 1) 1) (over (pos 6) 1)) (over (pos 2) 1) → ⊥ }
-    ensures low_before { IsLowExtreme level level_area (times (over (pos 1) 1) (over (pos 6) 1)) (over (pos 0) 1) → ⊥ }
+    ensures low_later { IsLowExtreme level level_area (times (over (pos 1) 1) (over (pos 6) 1))
+        (over (pos 2) 1) → ⊥ }
+    ensures high_later { IsHighExtreme level level_area (times (over (pos 1) 1) (over (pos 6) 1))
+        (over (pos 2) 1) → ⊥ }
+    ensures low_before { IsLowExtreme level level_area (times (over (pos 1) 1) (over (pos 6) 1))
+        (over (pos 0) 1) → ⊥ }
     ensures high_before { IsHighExtreme level level_area (times (over (pos 1) 1) (over (pos 6) 1)) (over
         (pos 0) 1) → ⊥ }
-    ensures low_after { IsLowExtreme level level_area (times (over (pos 1) 1) (over (pos 6) 1)) (over (pos 7) 1) → ⊥ }
+    ensures low_after { IsLowExtreme level level_area (times (over (pos 1) 1) (over (pos 6) 1))
+        (over (pos 7) 1) → ⊥ }
     ensures negative { IsLowExtreme level level_area (times (over (minus 1) 1) (over (pos 6) 1)) (over
         (minus 1) 1) → ⊥ }
     ensures not_lowest_terms { IsLowExtreme level level_area (times (over (pos 1) 1) (over (pos 6) 1)) (over

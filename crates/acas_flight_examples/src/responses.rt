@@ -21,7 +21,8 @@ pub fn climbs_are_worked_out()
         ≡ segment 9 (pos 300) ∷ segment 6 (minus 150) ∷ [] }
     ensures cut { until 4 (segment 3 (pos 100) ∷ segment 2 (minus 50) ∷ [])
         ≡ segment 3 (pos 100) ∷ segment 1 (minus 50) ∷ [] }
-    ensures cut_between { until 3 (segment 3 (pos 100) ∷ segment 2 (minus 50) ∷ []) ≡ segment 3 (pos 100) ∷ [] }
+    ensures cut_between { until 3 (segment 3 (pos 100) ∷ segment 2 (minus 50) ∷ []) ≡
+        segment 3 (pos 100) ∷ [] }
 {}
 
 /// From 500 ft/min a pilot pulls up by 100 to 200 ft/min per second, to at most 2000: at 200 that is reached after 7.5 s, which is 15

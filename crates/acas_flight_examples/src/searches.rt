@@ -65,13 +65,17 @@ pub fn own_rates_have_their_own_pull()
 pub fn flights_are_from_an_area_or_not()
     ensures greatest { IsFlightFrom climbing near_area (times (over (pos 1) 1) (over (pos 7) 1)) 3 (flight 21
         (pos 1200) (pos 5400) (pos 900) (pos 18_000) 600 6) }
-    ensures least { IsFlightFrom climbing near_area (times (over (pos 1) 1) (over (pos 7) 1)) 3 (flight 3 (pos 10)
+    ensures least { IsFlightFrom climbing near_area (times (over (pos 1) 1) (over (pos 7) 1)) 3
+        (flight 3 (pos 10)
         (pos 4500) (pos 180) (pos 9000) 300 0) }
-    ensures early { IsFlightFrom climbing near_area (times (over (pos 1) 1) (over (pos 7) 1)) 3 (flight 2 (pos 10)
+    ensures early { IsFlightFrom climbing near_area (times (over (pos 1) 1) (over (pos 7) 1)) 3
+        (flight 2 (pos 10)
         (pos 4500) (pos 180) (pos 9000) 300 0) → ⊥ }
-    ensures late { IsFlightFrom climbing near_area (times (over (pos 1) 1) (over (pos 7) 1)) 3 (flight 22 (pos 10)
+    ensures late { IsFlightFrom climbing near_area (times (over (pos 1) 1) (over (pos 7) 1)) 3
+        (flight 22 (pos 10)
         (pos 4500) (pos 180) (pos 9000) 300 0) → ⊥ }
-    ensures low { IsFlightFrom climbing near_area (times (over (pos 1) 1) (over (pos 7) 1)) 3 (flight 21 (pos 9)
+    ensures low { IsFlightFrom climbing near_area (times (over (pos 1) 1) (over (pos 7) 1)) 3
+        (flight 21 (pos 9)
         (pos 4500) (pos 180) (pos 9000) 300 0) → ⊥ }
     ensures high { IsFlightFrom climbing near_area (times (over (pos 1) 1) (over (pos 7) 1)) 3 (flight 21
         (pos 1201) (pos 4500) (pos 180) (pos 9000) 300 0) → ⊥ }
@@ -83,9 +87,11 @@ pub fn flights_are_from_an_area_or_not()
         (pos 1200) (pos 5400) (pos 900) (pos 8999) 300 0) → ⊥ }
     ensures aim_above { IsFlightFrom climbing near_area (times (over (pos 1) 1) (over (pos 7) 1)) 3 (flight 21
         (pos 1200) (pos 5400) (pos 900) (pos 18_001) 300 0) → ⊥ }
-    ensures small_pull { IsFlightFrom climbing near_area (times (over (pos 1) 1) (over (pos 7) 1)) 3 (flight 21
+    ensures small_pull { IsFlightFrom climbing near_area (times (over (pos 1) 1) (over (pos 7) 1)) 3
+        (flight 21
         (pos 1200) (pos 5400) (pos 900) (pos 9000) 299 0) → ⊥ }
-    ensures large_pull { IsFlightFrom climbing near_area (times (over (pos 1) 1) (over (pos 7) 1)) 3 (flight 21
+    ensures large_pull { IsFlightFrom climbing near_area (times (over (pos 1) 1) (over (pos 7) 1)) 3
+        (flight 21
         (pos 1200) (pos 5400) (pos 900) (pos 9000) 601 0) → ⊥ }
     ensures long_hold { IsFlightFrom climbing near_area (times (over (pos 1) 1) (over (pos 7) 1)) 3 (flight 21
         (pos 1200) (pos 5400) (pos 900) (pos 9000) 300 7) → ⊥ }
@@ -99,7 +105,8 @@ pub fn responses_are_worked_out()
     ensures fine { fine 3 (after_a_hold 7) ≡ 900 }
     ensures up { acceleration 1 (after_a_hold 7) ≡ pos 10_000 }
     ensures down { acceleration 1 (flight 7 (pos 0) (pos 1000) (pos 0) (pos 999) 100 0) ≡ minus 10_000 }
-    ensures to_the_aim { IsResponse 1 (after_a_hold 7) (segment 200 (pos 0) ∷ []) (segment 500 (pos 10_000) ∷ []) }
+    ensures to_the_aim { IsResponse 1 (after_a_hold 7) (segment 200 (pos 0) ∷ [])
+        (segment 500 (pos 10_000) ∷ []) }
     ensures at_the_aim { IsResponse 1 (after_a_hold 9) (segment 200 (pos 0) ∷ []) (segment 500
         (pos 10_000) ∷ segment 200 (pos 0) ∷ []) }
     ensures hold_alone { IsResponse 1 (after_a_hold 1) (segment 100 (pos 0) ∷ []) [] }

@@ -36,8 +36,10 @@ pub fn states_are_in_cells_or_not()
     ensures own { IsInCell small 1 0 0 0 1 (state (pos 1000) (pos 250) (pos 0) (pos 601) (pos 0)) → ⊥ }
     ensures own_below { IsInCell small 1 0 0 0 1 (state (pos 1000) (pos 250) (pos 0) (minus 1) (pos 0)) → ⊥ }
     ensures intruder { IsInCell small 1 0 0 0 1 (state (pos 1000) (pos 250) (pos 0) (pos 0) (pos 601)) → ⊥ }
-    ensures intruder_below { IsInCell small 1 0 0 0 1 (state (pos 1000) (pos 250) (pos 0) (pos 0) (minus 1)) → ⊥ }
-    ensures over_two { IsInCell small 1 0 0 0 2 (state (pos 2000) (pos 500) (pos 2400) (pos 1200) (pos 1200)) }
+    ensures intruder_below { IsInCell small 1 0 0 0 1
+        (state (pos 1000) (pos 250) (pos 0) (pos 0) (minus 1)) → ⊥ }
+    ensures over_two { IsInCell small 1 0 0 0 2
+        (state (pos 2000) (pos 500) (pos 2400) (pos 1200) (pos 1200)) }
 {}
 
 /// Where the axis of the intruder's rate ends at 300 ft/min, the cell still goes to 600 ft/min of the own rate, and no farther than

@@ -3,3 +3,7 @@ pub mod RoundingLaws
 pub mod Lowest
 pub mod Reduced
 pub mod Bounds
+pub mod Squares
+pub mod Orders
+pub mod IntRing
+pub mod Multipliers

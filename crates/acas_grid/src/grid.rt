@@ -73,7 +73,8 @@ impl Grid {
         requires { number < vertices self.now }
         ensures vertex { IsVertex self.now result }
         ensures number { vertex_number self.now result ≡ number }
-        ensures inverse { (y : Vertex) → IsVertex self.now y → vertex_number self.now y ≡ number → result ≡ y }
+        ensures inverse { (y : Vertex) → IsVertex self.now y → vertex_number self.now y ≡ number →
+            result ≡ y }
     {
         let row = number / self.v1.len();
         Vertex {

@@ -76,7 +76,8 @@ fn choice_item(
     requires few { length advisories.now ≤ GREATEST_ADVISORIES }
     requires short { length items.now < 2 ^ 32 }
     requires within { length chosen.now < length items.now }
-    ensures { Gives (λ a. a) result (rules.next_choice advisories.now path.now advisory chosen.now (data_of items.now)) }
+    ensures { Gives (λ a. a) result
+        (rules.next_choice advisories.now path.now advisory chosen.now (data_of items.now)) }
 {
     let place = chosen.len() as u32;
     let name = text_item(alloc, items, path, place)?;
@@ -94,7 +95,8 @@ fn choice_items(
 ) -> Result<Vec<u8>, ModelFault>
     requires few { length advisories.now ≤ GREATEST_ADVISORIES }
     requires short { length items.now < 2 ^ 32 }
-    ensures value { Gives (λ v. v.items) result (rules.choice_items advisories.now path.now advisory (data_of items.now)) }
+    ensures value { Gives (λ v.
+        v.items) result (rules.choice_items advisories.now path.now advisory (data_of items.now)) }
     ensures count { IfOk result (λ v. length v.items ≡ length items.now) }
 {
     let mut chosen = Vec::new(alloc);
@@ -162,7 +164,8 @@ fn choices_of(
     advisory: u32,
 ) -> Result<Vec<Choice>, ModelFault>
     requires { length advisories.now ≤ GREATEST_ADVISORIES }
-    ensures { Gives (λ v. v.items) result (rules.choices_of advisories.now (table_view table.now) path.now advisory) }
+    ensures { Gives (λ v. v.items) result
+        (rules.choices_of advisories.now (table_view table.now) path.now advisory) }
 {
     let items = list(alloc, table, path, "choices", 0, u32::MAX)?;
     some_choice(advisory, items.len())?;
@@ -185,7 +188,8 @@ fn choices_item(
 ) -> Result<Vec<Choice>, ModelFault>
     requires few { length advisories.now ≤ GREATEST_ADVISORIES }
     requires within { place < length items.now }
-    ensures { Gives (λ v. v.items) result (rules.choices_item advisories.now place (item_at items.now place)) }
+    ensures { Gives (λ v. v.items) result
+        (rules.choices_item advisories.now place (item_at items.now place)) }
 {
     let table = table_item(alloc, items, b"advisory", place)?;
     let path = path_of_item(alloc, b"advisory", place)?;

@@ -192,7 +192,8 @@ impl Folder for MemoryFolder {
         ensures taken { (folder_state self.new).taken ≡ (folder_state self.old).taken }
 
         // It fails exactly where the call is listed or memory was refused, and takes as much as it may.
-        ensures exact { AppendsInMemory (folder_state self.old) (folder_state self.new) name.now piece.now result }
+        ensures exact { AppendsInMemory (folder_state self.old) (folder_state self.new) name.now piece.now
+            result }
     {
         if self.appends.count() {
             self.appends.failed = self.appends.failed.saturating_add(1);

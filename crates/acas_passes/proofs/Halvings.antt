@@ -5,7 +5,7 @@ use Rattle.std.proofs.lemmas.Bool.{cases_lt}
 use Rattle.acas_frac.proofs.SignedProducts.{mul-le_ℤ, mul-lt_ℤ, le-from_mul_ℤ, lt-from_mul_ℤ, mul-neg_ℤ}
 use Rattle.acas_frac.specs.Fraction.{Fraction, Same}
 use Rattle.acas_passes.specs.Value.{is_below, IsWithinHalf, IsLessThanAbove, thinnest}
-use Rattle.acas_flight.proofs.Orders.{cases_lt_ℤ}
+use Rattle.acas_frac.proofs.Orders.{cases_lt_ℤ}
 use Rattle.acas_flight.proofs.Between.{test_lt, test_ge}
 use Rattle.acas_passes.specs.Halving.{HalvesTo, ends, raises, lowers}
 use lib.IntN.{*ℤ_comm}

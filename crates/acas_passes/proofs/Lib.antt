@@ -1,17 +1,1 @@
-pub mod Deficits
-pub mod Changes
-pub mod Falling
-pub mod Approaches
 pub mod Halvings
-pub mod Gains
-pub mod Turns
-pub mod Neighbours
-pub mod Within
-pub mod Gentle
-pub mod Joins
-pub mod Flown
-pub mod Touching
-pub mod Somes
-pub mod Ends
-pub mod Ones
-pub mod Founds

@@ -4,12 +4,7 @@
 #![tactic(auto)]
 
 mod halving;
-mod laws;
 mod steps;
 
 pub use halving::{Pass, halve};
-pub use laws::{
-    found_flights_are_one, found_flights_end_in_contact, passes_are_gentle, passes_are_joined,
-    passes_hold_flights_that_meet, searches_find_a_flight, steps_are_parts,
-};
 pub use steps::{PULL_STEPS, RATE_STEPS, TIME_STEPS};

@@ -65,7 +65,8 @@ impl Places {
     /// Writes a pair at a place, whatever stands there.
     pub(crate) fn put(&mut self, index: usize, pair: Pair)
         requires { index < length self.old.slots }
-        ensures { (self.new.at ≡ self.old.at) × (self.new.slots ≡ slice_set self.old.slots index (Some pair)) }
+        ensures { (self.new.at ≡ self.old.at)
+            × (self.new.slots ≡ slice_set self.old.slots index (Some pair)) }
     {
         unsafe { self.at.add(index).write(pair) }
     }

@@ -7,7 +7,7 @@ use Rattle.acas_units.specs.declared.limits.TheConstants.{WINDOW_SECONDS}
 use Rattle.acas_frac.specs.Fraction.{Fraction}
 use Rattle.acas_flight.specs.Window.{Times}
 use Rattle.acas_flight.specs.Border.{Border, turn, IsLate, IsSoon, IsNearestTime}
-use Rattle.acas_flight.proofs.IntRing.{at, ◌⊗◌, ring}
+use Rattle.acas_frac.proofs.IntRing.{at, ◌⊗◌, ring}
 
 -- a time x/p before the end n/d of a window
 pub before_end : (x p n d : ℕ) → 0 < d → n ≤ WINDOW_SECONDS * d → x * d ≤ n * p → x ≤ WINDOW_SECONDS * p

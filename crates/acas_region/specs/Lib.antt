@@ -1,5 +1,0 @@
-pub mod Limits
-pub mod Sizes
-pub mod Scaling
-pub mod Chases
-pub mod View

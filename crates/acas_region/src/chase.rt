@@ -3,13 +3,12 @@ ghost use Rattle.std.specs.Prelude.{◌≡◌, ℕ, ◌*◌, ◌^◌, ◌≤◌,
 ghost use Rattle.acas_frac.specs.Fraction.{Fraction, IsReduced};
 ghost use Rattle.acas_flight.specs.Curves.{held};
 ghost use Rattle.acas_flight.specs.Border.{gap_number};
-ghost use Rattle.acas_region.specs.Limits.{IsEnd};
-ghost use Rattle.acas_region.specs.Sizes.{altitude_size};
-ghost use Rattle.acas_region.specs.View.{border_in};
+ghost use Rattle.acas_region_curves.specs.Limits.{IsEnd};
+ghost use Rattle.acas_region_curves.specs.Sizes.{altitude_size};
+ghost use Rattle.acas_region_curves.specs.View.{border_in};
 
-use crate::curve::numerator;
-use crate::parts::{Chase, Moment};
 use acas_frac::Frac;
+use acas_region_curves::{Chase, Moment, numerator};
 use acas_units::{GREATEST_CLOSING, GREATEST_LIMIT, GREATEST_RATE, WINDOW_SECONDS};
 
 /// The numbers of a window's end, or of another time over as little, which are in lowest terms.
@@ -40,7 +39,8 @@ fn flown(rate: i64, num: u64) -> i64
     requires rate { unsigned_abs rate ≤ unsigned_abs GREATEST_RATE }
     requires num { num ≤ WINDOW_SECONDS * GREATEST_CLOSING }
     ensures value { result ≡ (pos 2 *ℤ rate) *ℤ pos num }
-    ensures size { unsigned_abs result ≤ 2 * unsigned_abs GREATEST_RATE * (WINDOW_SECONDS * GREATEST_CLOSING) }
+    ensures size { unsigned_abs result ≤ 2 * unsigned_abs GREATEST_RATE *
+        (WINDOW_SECONDS * GREATEST_CLOSING) }
 {
     2 * rate * num as i64
 }
@@ -62,7 +62,8 @@ fn line(height: i64, rate: i64, pull: u64, num: u64, den: u64) -> i64
 fn climb_of(chase: &Chase, num: u64, den: u64) -> i128
     requires num { num ≤ WINDOW_SECONDS * GREATEST_CLOSING }
     requires den { den ≤ GREATEST_CLOSING }
-    ensures value { result ≡ held (chase.now.start *ℤ pos den) (chase.now.aim *ℤ pos den) chase.now.pull (chase.now.hold * den) num }
+    ensures value { result ≡ held (chase.now.start *ℤ pos den) (chase.now.aim *ℤ pos den) chase.now.pull
+        (chase.now.hold * den) num }
     ensures size { unsigned_abs result ≤ 10 ^ 20 }
 {
     numerator(

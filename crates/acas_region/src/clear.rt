@@ -3,22 +3,23 @@ ghost use Rattle.std.specs.Prelude.{◌≡◌, ◌*◌, ◌<◌, ◌≤◌, ◌�
 ghost use Rattle.acas_flight.specs.Response.{demand_of};
 ghost use Rattle.acas_flight.specs.Clear.{IsClear, IsClearAbove, IsClearBelow, IsEndangeredDuring};
 ghost use Rattle.acas_flight.specs.Border.{gap_number};
-ghost use Rattle.acas_region.specs.Chases.{StaysOver};
-ghost use Rattle.acas_region.specs.View.{area_of, demand_in, border_in, times_of};
+ghost use Rattle.acas_region_curves.specs.Chases.{StaysOver};
+ghost use Rattle.acas_region_curves.specs.View.{area_of, demand_in, border_in, times_of};
 
 use crate::borders::{high_chase, low_chase};
 use crate::chase::{gap_number, moment_of, scale};
 use crate::demand::asked_by;
 use crate::nearest::nearest;
 use crate::numbers::natural;
-use crate::parts::{Asked, BoxState, Chase, Moment, Window};
 use acas_base::Model;
+use acas_region_curves::{Asked, BoxState, Chase, Moment, Window};
 use acas_units::{GREATEST_HALF_HEIGHT, TICKS_PER_FOOT};
 
 // Whether the curve is more than the half height over the intruder at a time.
 fn is_over(chase: &Chase, at: &Moment, half: u64) -> bool
     requires { half ≤ TICKS_PER_FOOT * GREATEST_HALF_HEIGHT }
-    ensures { result ≡ int_lt (pos (half * (at.now.den * at.now.den * chase.now.pull))) (gap_number (border_in chase.now) at.now.den at.now.num) }
+    ensures { result ≡ int_lt (pos (half * (at.now.den * at.now.den * chase.now.pull)))
+        (gap_number (border_in chase.now) at.now.den at.now.num) }
 {
     i128::from(half * scale(chase, at)) < gap_number(chase, at)
 }
@@ -56,7 +57,8 @@ fn stays_over(chase: &Chase, window: &Window, half: u64) -> bool
 // Whether every flight is above the half height all the time.
 fn is_above(asked: &Asked, area: &BoxState, window: &Window, half: u64) -> bool
     requires { half ≤ TICKS_PER_FOOT * GREATEST_HALF_HEIGHT }
-    ensures { IsTrue result ↔ IsClearAbove half (demand_in asked.now) (area_of area.now) (times_of window.now) }
+    ensures { IsTrue result ↔
+        IsClearAbove half (demand_in asked.now) (area_of area.now) (times_of window.now) }
 {
     stays_over(&low_chase(asked, area), window, half)
 }
@@ -64,7 +66,8 @@ fn is_above(asked: &Asked, area: &BoxState, window: &Window, half: u64) -> bool
 // Whether every flight is below it all the time.
 fn is_below(asked: &Asked, area: &BoxState, window: &Window, half: u64) -> bool
     requires { half ≤ TICKS_PER_FOOT * GREATEST_HALF_HEIGHT }
-    ensures { IsTrue result ↔ IsClearBelow half (demand_in asked.now) (area_of area.now) (times_of window.now) }
+    ensures { IsTrue result ↔
+        IsClearBelow half (demand_in asked.now) (area_of area.now) (times_of window.now) }
 {
     stays_over(&high_chase(asked, area), window, half)
 }
@@ -81,8 +84,11 @@ fn is_clear_of(asked: &Asked, area: &BoxState, window: &Window, half: u64) -> bo
 /// or every such flight is below it at every time. Then none of them ends in contact.
 pub fn is_clear(model: &Model, area: &BoxState, window: &Window, advisory: u8) -> bool
     requires { advisory < model.now.grid.advisories }
-    ensures exact { IsTrue result ↔ IsClear model.now.half (demand_of model.now advisory) (area_of area.now) (times_of window.now) }
-    ensures safe { IsTrue result → ¬ IsEndangeredDuring model.now.half (demand_of model.now advisory) (area_of area.now) (times_of window.now) }
+    ensures exact { IsTrue result ↔
+        IsClear model.now.half (demand_of model.now advisory) (area_of area.now) (times_of window.now) }
+    ensures safe { IsTrue result →
+        ¬ IsEndangeredDuring model.now.half (demand_of model.now advisory) (area_of area.now)
+        (times_of window.now) }
 {
     let _ = model.grid();
     let half = natural(model.half());

@@ -3,15 +3,15 @@ ghost use Rattle.std.specs.Prelude.{◌<◌};
 ghost use Rattle.acas_frac.specs.Fraction.{IsFrac};
 ghost use Rattle.acas_flight.specs.Response.{demand_of};
 ghost use Rattle.acas_flight.specs.Extremes.{IsHighExtreme, IsHighGapAt, IsLowExtreme, IsLowGapAt};
-ghost use Rattle.acas_region.specs.Limits.{IsEnd};
-ghost use Rattle.acas_region.specs.View.{area_of, demand_in, times_of};
+ghost use Rattle.acas_region_curves.specs.Limits.{IsEnd};
+ghost use Rattle.acas_region_curves.specs.View.{area_of, demand_in, times_of};
 
 use crate::borders::{high_chase, low_chase};
 use crate::demand::asked_by;
 use crate::least::least;
 use crate::numbers::negate;
-use crate::parts::{Asked, BoxState, Extreme, Window};
 use acas_base::Model;
+use acas_region_curves::{Asked, BoxState, Extreme, Window};
 
 // The least gap under what an advisory asks.
 fn low_of(asked: &Asked, area: &BoxState, window: &Window) -> Extreme
@@ -27,7 +27,8 @@ fn low_of(asked: &Asked, area: &BoxState, window: &Window) -> Extreme
 /// its earliest time.
 pub fn low_extreme(model: &Model, area: &BoxState, window: &Window, advisory: u8) -> Extreme
     requires { advisory < model.now.grid.advisories }
-    ensures least { IsLowExtreme (demand_of model.now advisory) (area_of area.now) (times_of window.now) result.time }
+    ensures least { IsLowExtreme (demand_of model.now advisory) (area_of area.now) (times_of window.now)
+        result.time }
     ensures value { IsLowGapAt (demand_of model.now advisory) (area_of area.now) result.time result.value }
     ensures end { IsEnd result.time }
     ensures lowest { IsFrac result.value }
@@ -37,7 +38,8 @@ pub fn low_extreme(model: &Model, area: &BoxState, window: &Window, advisory: u8
 
 // The greatest gap under it.
 fn high_of(asked: &Asked, area: &BoxState, window: &Window) -> Extreme
-    ensures greatest { IsHighExtreme (demand_in asked.now) (area_of area.now) (times_of window.now) result.time }
+    ensures greatest { IsHighExtreme (demand_in asked.now) (area_of area.now) (times_of window.now)
+        result.time }
     ensures value { IsHighGapAt (demand_in asked.now) (area_of area.now) result.time result.value }
     ensures end { IsEnd result.time }
     ensures lowest { IsFrac result.value }
@@ -53,7 +55,8 @@ fn high_of(asked: &Asked, area: &BoxState, window: &Window) -> Extreme
 /// at its earliest time.
 pub fn high_extreme(model: &Model, area: &BoxState, window: &Window, advisory: u8) -> Extreme
     requires { advisory < model.now.grid.advisories }
-    ensures greatest { IsHighExtreme (demand_of model.now advisory) (area_of area.now) (times_of window.now) result.time }
+    ensures greatest { IsHighExtreme (demand_of model.now advisory) (area_of area.now) (times_of window.now)
+        result.time }
     ensures value { IsHighGapAt (demand_of model.now advisory) (area_of area.now) result.time result.value }
     ensures end { IsEnd result.time }
     ensures lowest { IsFrac result.value }

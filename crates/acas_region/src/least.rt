@@ -2,19 +2,19 @@
 ghost use Rattle.std.specs.Prelude.{◌≡◌, ◌^◌, ◌<◌, ◌≤◌, pos, ◌*◌, ◌*ℤ◌, ◌<ℤ◌, ◌≤ℤ◌, unsigned_abs};
 ghost use Rattle.acas_frac.specs.Fraction.{Fraction, IsFrac, IsReduced};
 ghost use Rattle.acas_flight.specs.Border.{IsGapAt, IsLeastGap};
-ghost use Rattle.acas_region.specs.Limits.{IsEnd};
-ghost use Rattle.acas_region.specs.View.{border_in, times_of};
+ghost use Rattle.acas_region_curves.specs.Limits.{IsEnd};
+ghost use Rattle.acas_region_curves.specs.View.{border_in, times_of};
 
 use crate::chase::{gap_number, moment_of, scale};
 use crate::nearest::nearest;
 use crate::numbers::is_at_most;
-use crate::parts::{Chase, Extreme, Window};
 use crate::window::time_of;
 use acas_frac::Frac;
+use acas_region_curves::{Chase, Extreme, Window};
 use acas_units::{GREATEST_CLOSING, GREATEST_LIMIT};
 
 // A gap's number over its denominator.
-#[tactic(auto, using(crate::proofs::Products::small_reduces))]
+#[tactic(auto, using(acas_region_curves::proofs::Products::small_reduces))]
 fn quotient(num: i128, den: u64) -> Frac
     requires num { unsigned_abs num ≤ 2 * 10 ^ 20 }
     requires some { 0 < den }

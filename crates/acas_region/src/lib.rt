@@ -5,20 +5,14 @@
 mod borders;
 mod chase;
 mod clear;
-mod curve;
 mod demand;
 mod extreme;
-mod fineness;
 mod least;
 mod nearest;
 mod numbers;
-mod parts;
 mod window;
 
 pub use clear::is_clear;
-pub use curve::{approach, held};
 pub use demand::{highest, lowest};
 pub use extreme::{high_extreme, low_extreme};
-pub use fineness::{HOLD_PARTS, PULL_PARTS, RATE_PARTS, TIME_PARTS};
-pub use parts::{BoxState, Extreme, Window};
 pub use window::{window_of_box, window_of_cell};

@@ -1,10 +1,10 @@
 //! The time at which a rising curve is nearest the intruder, found without a division.
 ghost use Rattle.std.specs.Prelude.{◌≡◌, ◌+◌, ◌*◌, ◌≤◌, pos, ◌<ℤ◌, unsigned_abs};
 ghost use Rattle.acas_flight.specs.Border.{IsNearestTime, IsOnTheWay, turn};
-ghost use Rattle.acas_region.specs.View.{border_in, time_at, times_of};
+ghost use Rattle.acas_region_curves.specs.View.{border_in, time_at, times_of};
 
 use crate::chase::moment_of;
-use crate::parts::{Chase, Moment, Window};
+use acas_region_curves::{Chase, Moment, Window};
 use acas_units::{GREATEST_DELAY, GREATEST_LIMIT, GREATEST_RATE};
 
 // The pull times the time at which the curve is as fast as the intruder.

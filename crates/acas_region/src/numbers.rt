@@ -24,7 +24,8 @@ pub(crate) fn minus(value: i64) -> i64
 
 /// Whether a value is at most another.
 pub(crate) fn is_at_most(value: &Frac, other: &Frac) -> bool
-    ensures { result ≡ int_le (Fraction.num value.now *ℤ pos (Fraction.den other.now)) (Fraction.num other.now *ℤ pos (Fraction.den value.now)) }
+    ensures { result ≡ int_le (Fraction.num value.now *ℤ pos (Fraction.den other.now))
+        (Fraction.num other.now *ℤ pos (Fraction.den value.now)) }
 {
     match value.compare(other) {
         Ordering::Less => true,

@@ -3,17 +3,17 @@ ghost use Rattle.std.specs.Prelude.{◌≡◌, ◌+◌, ◌-◌, ◌*◌, ◌<�
 ghost use Rattle.acas_spec.specs.Limits.{IsModel};
 ghost use Rattle.acas_frac.specs.Fraction.{Fraction};
 ghost use Rattle.acas_flight.specs.Window.{IsWindowOfBox, IsWindowOfCell};
-ghost use Rattle.acas_region.specs.Limits.{IsEnd, IsFlownInTime, interval_of};
-ghost use Rattle.acas_region.specs.View.{times_of};
+ghost use Rattle.acas_region_curves.specs.Limits.{IsEnd, IsFlownInTime, interval_of};
+ghost use Rattle.acas_region_curves.specs.View.{times_of};
 
 use crate::numbers::natural;
-use crate::parts::Window;
 use acas_base::Model;
 use acas_frac::Frac;
+use acas_region_curves::Window;
 use acas_units::{GREATEST_CLOSING, GREATEST_HORIZON, GREATEST_RADIUS, Span, WINDOW_SECONDS};
 
 /// A time as a fraction: from 0 to 600 seconds, over a closing speed at most.
-#[tactic(auto, using(crate::proofs::Ends::quotient_reduces))]
+#[tactic(auto, using(acas_region_curves::proofs::Ends::quotient_reduces))]
 pub(crate) fn time_of(num: u64, den: u64) -> Frac
     requires some { 0 < den }
     requires den { den ≤ GREATEST_CLOSING }
@@ -56,7 +56,8 @@ fn through(radius: u64, slow: u64, n: u64) -> Window
     requires number { n < GREATEST_HORIZON }
     requires short { (n + 1) * slow + 2 * radius ≤ WINDOW_SECONDS * slow }
     ensures from { Fraction.num (result.from) *ℤ pos 1 ≡ pos n *ℤ pos (Fraction.den (result.from)) }
-    ensures to { Fraction.num (result.to) *ℤ pos slow ≡ pos ((n + 1) * slow + 2 * radius) *ℤ pos (Fraction.den (result.to)) }
+    ensures to { Fraction.num (result.to) *ℤ pos slow ≡
+        pos ((n + 1) * slow + 2 * radius) *ℤ pos (Fraction.den (result.to)) }
 {
     Window {
         from: time_of(n, 1),
@@ -82,7 +83,8 @@ fn between(radius: u64, near: u64, far: u64, slow: u64, fast: u64) -> Window
     requires ranges { near ≤ far }
     requires radius { radius ≤ GREATEST_RADIUS }
     requires short { far + radius ≤ WINDOW_SECONDS * slow }
-    ensures from { Fraction.num (result.from) *ℤ pos fast ≡ pos (near - radius) *ℤ pos (Fraction.den (result.from)) }
+    ensures from { Fraction.num (result.from) *ℤ pos fast ≡
+        pos (near - radius) *ℤ pos (Fraction.den (result.from)) }
     ensures to { Fraction.num (result.to) *ℤ pos slow ≡ pos (far + radius) *ℤ pos (Fraction.den (result.to)) }
 {
     Window {

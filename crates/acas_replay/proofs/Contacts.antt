@@ -5,7 +5,7 @@ use Rattle.std.proofs.lemmas.Int.{ints, unsigned_abs-mul}
 use native.Mathlib.Nat.{le_of_mul-le-mul_right}
 use Rattle.acas_spec.specs.Model.{ModelData}
 use Rattle.acas_flight.specs.Contact.{IsInContact, vertical_separation}
-use Rattle.acas_flight.proofs.IntRing.{ring, at, num, ◌⊕◌, ◌⊖◌, ◌⊗◌}
+use Rattle.acas_frac.proofs.IntRing.{ring, at, num, ◌⊕◌, ◌⊖◌, ◌⊗◌}
 use Rattle.acas_second.specs.Contact.{IsContactAt, separation}
 use Rattle.acas_replay.specs.Audited.{flight_state, own_climb}
 use Rattle.acas_replay.specs.States.{second_from, state_after}

@@ -7,7 +7,7 @@ use Rattle.acas_spec.specs.Model.{ModelData}
 use Rattle.acas_grid.specs.Grid.{clamp_point, state_number, vertex_number}
 use Rattle.acas_base.specs.Advices.{AdvicesData, advice_at}
 use Rattle.acas_process.proofs.VertexLaws.{clamped_inside}
-use Rattle.acas_flight.proofs.Orders.{cases_lt_ℤ}
+use Rattle.acas_frac.proofs.Orders.{cases_lt_ℤ}
 use Rattle.acas_replay.specs.Issue.{IsAdvisedIn, IsIssued, IsLayerOf, IsNotAdvised, IsTabledFor}
 use Rattle.acas_replay.specs.declared.state.EncounterState.{EncounterState}
 use Rattle.acas_replay.proofs.Layers.{layers_same, some_layer}

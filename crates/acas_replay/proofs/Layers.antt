@@ -6,7 +6,7 @@ use Rattle.std.proofs.lemmas.Int.{ints, clamps}
 use Rattle.std.proofs.lemmas.Bool.{cases_lt}
 use native.Mathlib.Nat.{mul-le-mul_right}
 use Rattle.acas_spec.specs.Model.{ModelData}
-use Rattle.acas_flight.proofs.Orders.{by_above, cases_lt_ℤ, mul_nonneg}
+use Rattle.acas_frac.proofs.Orders.{by_above, cases_lt_ℤ, mul_nonneg}
 use Rattle.acas_flight.specs.State.{outside_radius}
 use Rattle.acas_replay.specs.Issue.{IsLayerOf}
 use Rattle.acas_replay.specs.declared.state.EncounterState.{EncounterState}

@@ -6,8 +6,8 @@ use Rattle.acas_grid.specs.Grid as grid
 use Rattle.acas_base.specs.Advices.{AdvicesData}
 use Rattle.acas_flight.specs.Response.{climb}
 use Rattle.acas_flight.specs.State.{IsInCell, IsInside, State, closing_speeds}
-use Rattle.acas_cell.specs.Corners.{advisory_cells}
-use Rattle.acas_cell.specs.declared.name.CellName.{CellName}
+use Rattle.acas_cells.specs.Corners.{advisory_cells}
+use Rattle.acas_cells.specs.declared.name.CellName.{CellName}
 use Rattle.acas_replay.specs.declared.state.EncounterState.{EncounterState}
 
 -- the state as one of a flight, over q

@@ -29,7 +29,8 @@ fn layer_of(model: &Model, state: &EncounterState) -> u64
 // The layer that advises a state, if one does.
 fn advised_in(model: &Model, state: &EncounterState) -> Option<u32>
     requires { IsReached GREATEST_SECONDS state.now }
-    ensures { MatchOption result (IsNotAdvised model.now state.now) (λ layer. IsAdvisedIn model.now state.now layer) }
+    ensures { MatchOption result (IsNotAdvised model.now state.now) (λ layer.
+        IsAdvisedIn model.now state.now layer) }
 {
     let horizon = model.grid().horizon;
     if state.range < -model.radius() {

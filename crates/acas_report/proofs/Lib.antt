@@ -1,12 +1,1 @@
-pub mod Lengths
-pub mod Appending
-pub mod Counting
-pub mod Steps
-pub mod Carry
-pub mod Ends
-pub mod Whole
-pub mod CellCounts
-pub mod Decided
-pub mod Subjects
-pub mod Begun
 pub mod Verdicts

@@ -3,14 +3,14 @@ use Rattle.std.proofs.Common.{ℕ, List}
 use Rattle.acas_spec.specs.Model.{ModelData}
 use Rattle.acas_base.specs.Advices.{AdvicesData}
 use Rattle.acas_flight.specs.State.{IsInCell, State}
-use Rattle.acas_witness.specs.declared.flight.Witness.{Witness}
-use Rattle.acas_cell.specs.Corners.{advisory_cells}
-use Rattle.acas_cell.specs.Rulings.{IsRuling, IsRulingOfCell, IsWitnessOfCell}
-use Rattle.acas_cell.specs.declared.ruling.Ruling.{Ruling}
-use Rattle.acas_cell.specs.declared.ruling.Ruling.TheVariants.{Certified, Reported}
-use Rattle.acas_report.specs.Report.{IsReport, IsReportOn, Ruled, clear_cells, report_text}
-use Rattle.acas_report.specs.declared.counts.Counts.{Counts}
-use Rattle.acas_report.specs.declared.counts.Which.{Which}
+use Rattle.acas_rulings.specs.declared.flight.Witness.{Witness}
+use Rattle.acas_cells.specs.Corners.{advisory_cells}
+use Rattle.acas_rulings.specs.Rulings.{IsRuling, IsRulingOfCell, IsWitnessOfCell}
+use Rattle.acas_rulings.specs.declared.ruling.Ruling.{Ruling}
+use Rattle.acas_rulings.specs.declared.ruling.Ruling.TheVariants.{Certified, Reported}
+use Rattle.acas_report_lines.specs.Report.{IsReport, IsReportOn, Ruled, clear_cells, report_text}
+use Rattle.acas_report_lines.specs.declared.counts.Counts.{Counts}
+use Rattle.acas_report_lines.specs.declared.counts.Which.{Which}
 use Rattle.acas_report.specs.Verdicts.{IsVerdict, IsVerdictOnCell}
 
 pub verdict : (m : ModelData) (advisory : ℕ) (IsIn : ℕ → State → Type 0) (IsRule : Witness → Type 0) (ruling : Ruling) → IsRuling m advisory IsIn IsRule ruling → IsVerdict m advisory IsIn ruling

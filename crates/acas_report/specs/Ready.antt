@@ -2,12 +2,12 @@
 use Rattle.std.specs.Prelude.{◌≡◌, ℕ, ◌<◌, true}
 use Rattle.acas_spec.specs.Model.{ModelData}
 use Rattle.acas_flight.specs.Contact.{IsEndangeredCell}
-use Rattle.acas_cell.specs.Audits.{BlockAuditData, HasLists, IsAuditOf, certified_at, reported_at}
-use Rattle.acas_cell.specs.Cells.{IsCellOf, cell_at}
-use Rattle.acas_cell.specs.Corners.{under}
-use Rattle.acas_cell.specs.Rulings.{IsRulingOfCell}
-use Rattle.acas_cell.specs.Sets.{holds}
-use Rattle.acas_cell.specs.declared.ruling.Ruling.TheVariants.{Certified}
+use Rattle.acas_audit_blocks.specs.Audits.{BlockAuditData, HasLists, IsAuditOf, certified_at, reported_at}
+use Rattle.acas_cells.specs.Cells.{IsCellOf, cell_at}
+use Rattle.acas_cells.specs.Corners.{under}
+use Rattle.acas_rulings.specs.Rulings.{IsRulingOfCell}
+use Rattle.acas_cells.specs.Sets.{holds}
+use Rattle.acas_rulings.specs.declared.ruling.Ruling.TheVariants.{Certified}
 
 -- Both lists are there for a model, and each cell of n seconds and a present advisory is certified under each advice of its set in the
 -- first, and endangered under each of its set in the second.

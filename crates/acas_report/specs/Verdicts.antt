@@ -3,11 +3,11 @@ use Rattle.std.specs.Prelude.{ℕ, List}
 use Rattle.acas_spec.specs.Model.{ModelData}
 use Rattle.acas_flight.specs.Contact.{IsEndangered}
 use Rattle.acas_flight.specs.State.{IsInBox, IsInCell, State}
-use Rattle.acas_cell.specs.Boxes.{AuditedBox, box_at}
-use Rattle.acas_cell.specs.Rulings.{ShowsDanger}
-use Rattle.acas_cell.specs.declared.name.CellName.{CellName}
-use Rattle.acas_cell.specs.declared.ruling.Ruling.{Ruling}
-use Rattle.acas_cell.specs.declared.ruling.Ruling.TheVariants.{Certified, Reported}
+use Rattle.acas_rulings.specs.Boxes.{AuditedBox, box_at}
+use Rattle.acas_rulings.specs.Rulings.{ShowsDanger}
+use Rattle.acas_cells.specs.declared.name.CellName.{CellName}
+use Rattle.acas_rulings.specs.declared.ruling.Ruling.{Ruling}
+use Rattle.acas_rulings.specs.declared.ruling.Ruling.TheVariants.{Certified, Reported}
 
 -- certified: the set of states is not endangered under the advisory; reported: the witness shows that it is
 abbrev pub IsVerdict : ModelData → ℕ → (ℕ → State → Type 0) → Ruling → Type 0

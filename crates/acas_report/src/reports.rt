@@ -3,19 +3,17 @@ ghost use Rattle.std.specs.Prelude.{◌≡◌, ◌+◌, ◌≤◌, ◌^◌, ℕ,
 ghost use Rattle.acas_base.specs.Advices.{AreAdvicesOf};
 ghost use Rattle.acas_outside.specs.Bytes.{Appends};
 ghost use Rattle.acas_outside.specs.Frame.{Emits};
-ghost use Rattle.acas_cell.specs.Boxes.{AreBoxesOf};
-ghost use Rattle.acas_cell.specs.Decisions.{AreAuditsDecisions};
-ghost use Rattle.acas_report.specs.Regions.{IsRegionsReport, IsRegionsReportBegun};
-ghost use Rattle.acas_report.specs.Report.{IsReport, IsReportBegun};
+ghost use Rattle.acas_rulings.specs.Boxes.{AreBoxesOf};
+ghost use Rattle.acas_audit_blocks.specs.Decisions.{AreAuditsDecisions};
+ghost use Rattle.acas_report_lines.specs.Regions.{IsRegionsReport, IsRegionsReportBegun};
+ghost use Rattle.acas_report_lines.specs.Report.{IsReport, IsReportBegun};
 
-use crate::counts::{Counts, ReportFault, Which};
-use crate::regions::write_regions_by;
-use crate::report::write_report_by;
 use crate::sources::{ByBlocks, OneByOne};
+use acas_audit_blocks::{BlockAudit, Decisions};
 use acas_base::{Advices, Model};
-use acas_boxes::Boxes;
-use acas_cell::{BlockAudit, Decisions};
 use acas_outside::Sink;
+use acas_report_lines::{Counts, ReportFault, Which, write_regions_by, write_report_by};
+use acas_rulings::Boxes;
 use std::alloc::Global;
 
 /// Writes the report of an audit, and answers its counts. It takes all its memory before the first byte goes out.

@@ -1,15 +1,15 @@
 //! Rulings by verdicts: each cell and each box by one of its own, or cells by blocks that are decided first.
 ghost use Rattle.std.specs.Prelude.{◌≡◌};
-ghost use Rattle.acas_cell.specs.Audits.{IsAuditOf};
-ghost use Rattle.acas_cell.specs.Decisions.{AreDecisionsOf};
+ghost use Rattle.acas_audit_blocks.specs.Audits.{IsAuditOf};
+ghost use Rattle.acas_audit_blocks.specs.Decisions.{AreDecisionsOf};
 ghost use Rattle.acas_report.specs.Ready.{IsReady};
 
-use crate::rulings::{BoxRulings, Rulings};
+use acas_audit_blocks::{BlockAudit, DecidedBlock, Decisions};
 use acas_base::{Advices, Model};
-use acas_cell::{
-    AuditBox, BlockAudit, CellName, DecidedBlock, Decisions, Ruling, box_verdict, verdict,
-    witness_of,
-};
+use acas_cell::{box_verdict, verdict, witness_of};
+use acas_cells::CellName;
+use acas_report_lines::{BoxRulings, Rulings};
+use acas_rulings::{AuditBox, Ruling};
 
 /// The source that gives each cell and each box a verdict of its own. It decides no block.
 #[derive(Drop)]

@@ -6,9 +6,9 @@ use Rattle.acas_frac.specs.Fraction.{Fraction, IsReduced}
 use Rattle.acas_flight.specs.Response.{lasting}
 use Rattle.acas_flight.specs.State.{State}
 use Rattle.acas_flight.specs.Values.{IsOver}
-use Rattle.acas_witness.specs.Printed.{AreParts, fractions_of}
-use Rattle.acas_witness.specs.declared.flight.Witness.{Witness}
-use Rattle.acas_cell.specs.Rulings.{ShowsDanger}
+use Rattle.acas_rulings.specs.Printed.{AreParts, fractions_of}
+use Rattle.acas_rulings.specs.declared.flight.Witness.{Witness}
+use Rattle.acas_rulings.specs.Rulings.{ShowsDanger}
 use Rattle.acas_report_laws.specs.Told.{ToldWitness, told_witness}
 
 -- the fractions of what is printed

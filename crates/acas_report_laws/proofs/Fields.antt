@@ -5,12 +5,12 @@ use Rattle.std.proofs.lemmas.Bool.{le-ltb}
 use Rattle.std.specs.List.{AllZip}
 use Rattle.std.specs.Fmt.{signed_decimal}
 use Rattle.acas_frac.specs.Fraction.{Fraction, fraction_text}
-use Rattle.acas_witness.specs.Printed.{segments_of}
-use Rattle.acas_witness.specs.declared.flight.Segment.{Segment}
-use Rattle.acas_witness.specs.declared.flight.Witness.{Witness}
-use Rattle.acas_cell.specs.declared.ruling.Ruling.{Ruling}
-use Rattle.acas_cell.specs.declared.ruling.Ruling.TheVariants.{Certified, Reported}
-use Rattle.acas_report.specs.Text.{field, labelled, parts_text, response_text, ruling_text, segment_text, witness_text}
+use Rattle.acas_rulings.specs.Printed.{segments_of}
+use Rattle.acas_rulings.specs.declared.flight.Segment.{Segment}
+use Rattle.acas_rulings.specs.declared.flight.Witness.{Witness}
+use Rattle.acas_rulings.specs.declared.ruling.Ruling.{Ruling}
+use Rattle.acas_rulings.specs.declared.ruling.Ruling.TheVariants.{Certified, Reported}
+use Rattle.acas_report_lines.specs.Text.{field, labelled, parts_text, response_text, ruling_text, segment_text, witness_text}
 use Rattle.acas_report_laws.proofs.Separators.{Lacks, Stops, all_append, less, peel}
 use Rattle.acas_report_laws.proofs.Numerals.{fraction_bytes, signed_bytes}
 

@@ -12,23 +12,23 @@ use Rattle.acas_spec.specs.Limits.{IsModel}
 use Rattle.acas_spec.specs.Model.{ModelData}
 use Rattle.acas_base.specs.Advices.{AdvicesData}
 use Rattle.acas_flight.specs.State.{State, IsInBox, IsInCell}
-use Rattle.acas_witness.specs.declared.flight.Witness.{Witness}
-use Rattle.acas_cell.specs.Boxes.{AuditedBox, box_at}
-use Rattle.acas_cell.specs.Cells.{IsCellOf, cells_of}
-use Rattle.acas_cell.specs.Corners.{advisory_cells, names_at}
-use Rattle.acas_cell.specs.Order.{by_numbers, numbers}
-use Rattle.acas_cell.specs.Rulings.{IsRuling, IsRulingOfCell, IsWitnessOfBox, IsWitnessOfCell}
-use Rattle.acas_cell.specs.declared.name.CellName.{CellName}
-use Rattle.acas_cell.specs.declared.ruling.Ruling.{Ruling}
-use Rattle.acas_cell.specs.declared.ruling.Ruling.TheVariants.{Certified, Reported}
-use Rattle.acas_cell.proofs.Lists.{all_members, of_flat_map}
-use Rattle.acas_cell.proofs.Order.{of_cells, of_names, sorted_advisory_cells}
-use Rattle.acas_report.specs.Text.{field, cell_line, counts_text, box_line, box_text, box_counts_text, ruling_text}
-use Rattle.acas_report.specs.Report.{Ruled, IsReport, report_text, lines_of, counts_of, clear_cells}
-use Rattle.acas_report.specs.Regions.{IsRegionsReport, IsRulingAt, places, regions_text}
-use Rattle.acas_report.specs.declared.counts.Counts.{Counts}
-use Rattle.acas_report.specs.declared.counts.Which.{Which}
-use Rattle.acas_report.specs.declared.counts.Which.TheVariants as which
+use Rattle.acas_rulings.specs.declared.flight.Witness.{Witness}
+use Rattle.acas_rulings.specs.Boxes.{AuditedBox, box_at}
+use Rattle.acas_cells.specs.Cells.{IsCellOf, cells_of}
+use Rattle.acas_cells.specs.Corners.{advisory_cells, names_at}
+use Rattle.acas_cells.specs.Order.{by_numbers, numbers}
+use Rattle.acas_rulings.specs.Rulings.{IsRuling, IsRulingOfCell, IsWitnessOfBox, IsWitnessOfCell}
+use Rattle.acas_cells.specs.declared.name.CellName.{CellName}
+use Rattle.acas_rulings.specs.declared.ruling.Ruling.{Ruling}
+use Rattle.acas_rulings.specs.declared.ruling.Ruling.TheVariants.{Certified, Reported}
+use Rattle.acas_cells.proofs.Lists.{all_members, of_flat_map}
+use Rattle.acas_cells.proofs.Order.{of_cells, of_names, sorted_advisory_cells}
+use Rattle.acas_report_lines.specs.Text.{field, cell_line, counts_text, box_line, box_text, box_counts_text, ruling_text}
+use Rattle.acas_report_lines.specs.Report.{Ruled, IsReport, report_text, lines_of, counts_of, clear_cells}
+use Rattle.acas_report_lines.specs.Regions.{IsRegionsReport, IsRulingAt, places, regions_text}
+use Rattle.acas_report_lines.specs.declared.counts.Counts.{Counts}
+use Rattle.acas_report_lines.specs.declared.counts.Which.{Which}
+use Rattle.acas_report_lines.specs.declared.counts.Which.TheVariants as which
 use Rattle.acas_report_laws.specs.Told.{IsNameOf, names_of}
 use Rattle.acas_report_laws.specs.Holds.{Holds, HoldsOfBox, HoldsOfCell}
 use Rattle.acas_report_laws.proofs.Fields.{Same, read_ruling}

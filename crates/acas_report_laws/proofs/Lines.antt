@@ -1,10 +1,10 @@
 -- Lists of lines, read back line by line.
 use Rattle.std.proofs.Common.{◌≡◌, ℕ, List, [], ◌∷◌, ◌++◌, codes, ap, sym, subst, ◌∙◌, append_assoc}
 use Rattle.std.specs.List.{AllByRecursion, AllZip}
-use Rattle.acas_cell.specs.declared.ruling.Ruling.{Ruling}
-use Rattle.acas_cell.specs.declared.ruling.Ruling.TheVariants.{Certified, Reported}
-use Rattle.acas_report.specs.Report.{Ruled, lines_of, shown}
-use Rattle.acas_report.specs.declared.counts.Which.TheVariants as which
+use Rattle.acas_rulings.specs.declared.ruling.Ruling.{Ruling}
+use Rattle.acas_rulings.specs.declared.ruling.Ruling.TheVariants.{Certified, Reported}
+use Rattle.acas_report_lines.specs.Report.{Ruled, lines_of, shown}
+use Rattle.acas_report_lines.specs.declared.counts.Which.TheVariants as which
 use Rattle.acas_report_laws.specs.Told.{names_of}
 use Rattle.acas_report_laws.proofs.Fields.{Same}
 use Rattle.acas_report_laws.proofs.Names.{IsRead}

@@ -10,9 +10,9 @@ use Rattle.std.specs.List.{list_all}
 use Rattle.std.specs.Fmt.{decimal}
 use Rattle.acas_spec.specs.Limits.{IsModel, is_from, is_name_byte}
 use Rattle.acas_spec.specs.Model.{ModelData, advisory_at}
-use Rattle.acas_cell.specs.declared.name.CellName.{CellName}
-use Rattle.acas_cell.specs.declared.ruling.Ruling.{Ruling}
-use Rattle.acas_report.specs.Text.{field, ruling_text, cell_text, cell_line, box_text, box_line}
+use Rattle.acas_cells.specs.declared.name.CellName.{CellName}
+use Rattle.acas_rulings.specs.declared.ruling.Ruling.{Ruling}
+use Rattle.acas_report_lines.specs.Text.{field, ruling_text, cell_text, cell_line, box_text, box_line}
 use Rattle.acas_report_laws.specs.Told.{IsNameOf}
 use Rattle.acas_report_laws.proofs.Separators.{Lacks, Stops, less, peel}
 use Rattle.acas_report_laws.proofs.Numerals.{decimal_bytes, decimal_gives}

@@ -2,12 +2,12 @@
 use Rattle.std.proofs.Common.{◌≡◌, ℕ, List, [], ◌∷◌, ◌++◌, All, Option, refl, ap, sym, subst, ◌∙◌}
 use Rattle.std.proofs.lemmas.List.Elements.{All-head, All-tail}
 use Rattle.std.proofs.lemmas.List.{append-nil}
-use Rattle.acas_report.proofs.Begun.{HasRuling}
-use Rattle.acas_report.proofs.Counting.{ruled_append, ruled_none, ruled_one}
+use Rattle.acas_report_lines.proofs.Begun.{HasRuling}
+use Rattle.acas_report_lines.proofs.Counting.{ruled_append, ruled_none, ruled_one}
 use Rattle.acas_outside.specs.Bytes.{AppendsPart}
-use Rattle.acas_cell.specs.declared.ruling.Ruling.{Ruling}
-use Rattle.acas_report.specs.Report.{Ruled, AreRuled, IsReportOn, IsBegun, counts_of}
-use Rattle.acas_report.specs.declared.counts.Counts.{Counts}
+use Rattle.acas_rulings.specs.declared.ruling.Ruling.{Ruling}
+use Rattle.acas_report_lines.specs.Report.{Ruled, AreRuled, IsReportOn, IsBegun, counts_of}
+use Rattle.acas_report_lines.specs.declared.counts.Counts.{Counts}
 use Rattle.acas_report_laws.specs.Told.{names_of}
 
 -- the name has no two rulings

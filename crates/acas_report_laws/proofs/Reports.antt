@@ -4,16 +4,16 @@ use Rattle.std.proofs.lemmas.List.Elements.{All-from_recursion, All-weaker}
 use Rattle.acas_spec.specs.Model.{ModelData}
 use Rattle.acas_base.specs.Advices.{AdvicesData}
 use Rattle.acas_outside.specs.Bytes.{AppendsPart}
-use Rattle.acas_cell.specs.Boxes.{AuditedBox}
-use Rattle.acas_cell.specs.Corners.{advisory_cells}
-use Rattle.acas_cell.specs.Rulings.{IsRulingOfCell}
-use Rattle.acas_cell.specs.declared.name.CellName.{CellName}
-use Rattle.acas_cell.proofs.Lists.{all_members, of_below, of_one}
-use Rattle.acas_report.specs.Report.{IsReport, IsReportBegun, clear_cells, report_text}
-use Rattle.acas_report.specs.Regions.{IsRegionsReport, IsRegionsReportBegun, IsRulingAt, places, regions_text}
-use Rattle.acas_report.specs.declared.counts.Counts.{Counts}
-use Rattle.acas_report.specs.declared.counts.Which.{Which}
-use Rattle.acas_report.proofs.Begun.{HasRuling}
+use Rattle.acas_rulings.specs.Boxes.{AuditedBox}
+use Rattle.acas_cells.specs.Corners.{advisory_cells}
+use Rattle.acas_rulings.specs.Rulings.{IsRulingOfCell}
+use Rattle.acas_cells.specs.declared.name.CellName.{CellName}
+use Rattle.acas_cells.proofs.Lists.{all_members, of_below, of_one}
+use Rattle.acas_report_lines.specs.Report.{IsReport, IsReportBegun, clear_cells, report_text}
+use Rattle.acas_report_lines.specs.Regions.{IsRegionsReport, IsRegionsReportBegun, IsRulingAt, places, regions_text}
+use Rattle.acas_report_lines.specs.declared.counts.Counts.{Counts}
+use Rattle.acas_report_lines.specs.declared.counts.Which.{Which}
+use Rattle.acas_report_lines.proofs.Begun.{HasRuling}
 use Rattle.acas_report_laws.specs.Told.{IsNameOf}
 use Rattle.acas_report_laws.proofs.Honest.{audit_names}
 use Rattle.acas_report_laws.proofs.One.{HasOneRuling, begun_report, one_report, some_report}

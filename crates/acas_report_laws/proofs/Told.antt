@@ -3,12 +3,12 @@ use Rattle.std.proofs.Common.{◌≡◌, List, [], ◌∷◌, map, All, Some, re
 use Rattle.std.proofs.lemmas.List.Elements.{All-head, All-tail, recursion_from_All}
 use Rattle.std.specs.List.{AllByRecursion, AllZip, flat_map}
 use Rattle.acas_frac.specs.Fraction.{Fraction, fraction_text}
-use Rattle.acas_witness.specs.declared.flight.Segment.{Segment}
-use Rattle.acas_witness.specs.declared.flight.Witness.{Witness}
-use Rattle.acas_cell.specs.declared.ruling.Ruling.{Ruling}
-use Rattle.acas_cell.specs.declared.ruling.Ruling.TheVariants.{Certified, Reported}
-use Rattle.acas_witness.specs.Printed.{fractions_of, segments_of}
-use Rattle.acas_report.specs.Report.{Ruled}
+use Rattle.acas_rulings.specs.declared.flight.Segment.{Segment}
+use Rattle.acas_rulings.specs.declared.flight.Witness.{Witness}
+use Rattle.acas_rulings.specs.declared.ruling.Ruling.{Ruling}
+use Rattle.acas_rulings.specs.declared.ruling.Ruling.TheVariants.{Certified, Reported}
+use Rattle.acas_rulings.specs.Printed.{fractions_of, segments_of}
+use Rattle.acas_report_lines.specs.Report.{Ruled}
 use Rattle.acas_report_laws.specs.Told.{IsShort, IsShortRuling, IsShortWitness, told, told_of, told_witness}
 use Rattle.acas_report_laws.proofs.Numerals.{fraction_gives, signed_gives}
 use Rattle.acas_report_laws.proofs.Fields.{Same, SameSegment, SameTexts}

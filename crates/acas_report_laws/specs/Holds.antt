@@ -3,12 +3,12 @@ use Rattle.std.specs.Prelude.{ℕ, List}
 use Rattle.acas_spec.specs.Model.{ModelData}
 use Rattle.acas_flight.specs.State.{State, IsInBox, IsInCell}
 use Rattle.acas_flight.specs.Contact.{IsEndangered}
-use Rattle.acas_cell.specs.Boxes.{AuditedBox, box_at}
-use Rattle.acas_cell.specs.Rulings.{ShowsDanger}
-use Rattle.acas_cell.specs.declared.name.CellName.{CellName}
-use Rattle.acas_cell.specs.declared.ruling.Ruling.{Ruling}
-use Rattle.acas_cell.specs.declared.ruling.Ruling.TheVariants.{Certified, Reported}
-use Rattle.acas_report.specs.Report.{Ruled}
+use Rattle.acas_rulings.specs.Boxes.{AuditedBox, box_at}
+use Rattle.acas_rulings.specs.Rulings.{ShowsDanger}
+use Rattle.acas_cells.specs.declared.name.CellName.{CellName}
+use Rattle.acas_rulings.specs.declared.ruling.Ruling.{Ruling}
+use Rattle.acas_rulings.specs.declared.ruling.Ruling.TheVariants.{Certified, Reported}
+use Rattle.acas_report_lines.specs.Report.{Ruled}
 use Rattle.acas_report_laws.specs.Told.{IsShortWitness}
 
 -- certified: the set of states is not endangered; reported: it is, and the witness shows it, where no number of it has more than 63

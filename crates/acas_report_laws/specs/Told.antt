@@ -2,15 +2,15 @@
 use Rattle.std.specs.Prelude.{◌<◌, ◌^◌, ℤ, unsigned_abs, List, Option, None, Some, All, map}
 use Rattle.acas_spec.specs.Model.{ModelData}
 use Rattle.acas_frac.specs.Fraction.{Fraction}
-use Rattle.acas_witness.specs.declared.flight.Segment.{Segment}
-use Rattle.acas_witness.specs.declared.flight.Witness.{Witness}
-use Rattle.acas_cell.specs.Cells.{IsCellOf}
-use Rattle.acas_cell.specs.Order.{cell_of}
-use Rattle.acas_cell.specs.declared.name.CellName.{CellName}
-use Rattle.acas_cell.specs.declared.ruling.Ruling.{Ruling}
-use Rattle.acas_cell.specs.declared.ruling.Ruling.TheVariants.{Certified, Reported}
-use Rattle.acas_witness.specs.Printed.{fractions_of, segments_of}
-use Rattle.acas_report.specs.Report.{Ruled}
+use Rattle.acas_rulings.specs.declared.flight.Segment.{Segment}
+use Rattle.acas_rulings.specs.declared.flight.Witness.{Witness}
+use Rattle.acas_cells.specs.Cells.{IsCellOf}
+use Rattle.acas_cells.specs.Order.{cell_of}
+use Rattle.acas_cells.specs.declared.name.CellName.{CellName}
+use Rattle.acas_rulings.specs.declared.ruling.Ruling.{Ruling}
+use Rattle.acas_rulings.specs.declared.ruling.Ruling.TheVariants.{Certified, Reported}
+use Rattle.acas_rulings.specs.Printed.{fractions_of, segments_of}
+use Rattle.acas_report_lines.specs.Report.{Ruled}
 
 -- what is printed of a witness: its numbers, and the segments of its response in order, whichever of them the struct calls a hold
 pub record ToldWitness : Type 0 where

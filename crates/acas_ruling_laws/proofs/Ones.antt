@@ -6,13 +6,13 @@ use Rattle.acas_flight.specs.Response.{Demand}
 use Rattle.acas_flight.specs.Parts.{CanBeMet}
 use Rattle.acas_flight.specs.Window.{Times, IsDuring}
 use Rattle.acas_flight.specs.Clear.{Area}
-use Rattle.acas_flight.proofs.Extremes.{low_extreme-same, high_extreme-same, low_extreme-windows, high_extreme-windows}
+use Rattle.acas_flight_laws.proofs.Extremes.{low_extreme-same, high_extreme-same, low_extreme-windows, high_extreme-windows}
 use Rattle.acas_passes.specs.Flights.{Flight}
 use Rattle.acas_passes.specs.Search.{Search, IsFound, unit}
-use Rattle.acas_passes.proofs.Ones.{found-one}
-use Rattle.acas_witness.specs.declared.flight.Flight as printed
-use Rattle.acas_witness.specs.Witness.{IsWitnessOf, search_between}
-use Rattle.acas_witness.specs.Printed.{Prints, flight_fractions}
+use Rattle.acas_pass_laws.proofs.Ones.{found-one}
+use Rattle.acas_rulings.specs.declared.flight.Flight as printed
+use Rattle.acas_rulings.specs.Witness.{IsWitnessOf, search_between}
+use Rattle.acas_rulings.specs.Printed.{Prints, flight_fractions}
 use Rattle.acas_ruling_laws.proofs.Pulls.{found-pull}
 use Rattle.acas_ruling_laws.proofs.Prints.{flight-printed_one}
 

@@ -8,11 +8,11 @@ use Rattle.acas_flight.specs.Response.{Segment}
 use Rattle.acas_flight.specs.Values.{IsOver}
 use Rattle.acas_passes.specs.Flights.{Flight}
 use Rattle.acas_passes.specs.Responses.{segment, IsHoldFor, not_held, held_for, IsApproachFor, at_once, at_aim, before, past, fine, scale, acceleration}
-use Rattle.acas_passes.proofs.Founds.{response}
-use Rattle.acas_witness.proofs.Portions.{none_over}
-use Rattle.acas_witness.specs.declared.flight.Flight as printed
-use Rattle.acas_witness.specs.declared.flight.Segment as part
-use Rattle.acas_witness.specs.Printed.{IsPart, AreParts, no_parts, a_part, IsHeldPart, Prints, level, hold_part, some_part, flight_fractions}
+use Rattle.acas_pass_laws.proofs.Founds.{response}
+use Rattle.acas_witness_plans.proofs.Portions.{none_over}
+use Rattle.acas_rulings.specs.declared.flight.Flight as printed
+use Rattle.acas_rulings.specs.declared.flight.Segment as part
+use Rattle.acas_rulings.specs.Printed.{IsPart, AreParts, no_parts, a_part, IsHeldPart, Prints, level, hold_part, some_part, flight_fractions}
 use Rattle.acas_ruling_laws.proofs.Parts.{AreReduced, append-reduced}
 
 pub whole_reduced : (z : ℤ) → IsReduced (whole_of z)

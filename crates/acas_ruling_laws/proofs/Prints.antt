@@ -6,9 +6,9 @@ use Rattle.acas_frac.specs.Fraction.{Fraction, IsReduced}
 use Rattle.acas_frac.proofs.Reduced.{over-IsReduced-same}
 use Rattle.acas_passes.specs.Flights.{Flight}
 use Rattle.acas_passes.specs.Responses.{fine}
-use Rattle.acas_witness.specs.declared.flight.Flight as printed
-use Rattle.acas_witness.specs.declared.flight.Segment as part
-use Rattle.acas_witness.specs.Printed.{IsHeldPart, AreSegments, Prints, hold_part, some_part, flight_fractions}
+use Rattle.acas_rulings.specs.declared.flight.Flight as printed
+use Rattle.acas_rulings.specs.declared.flight.Segment as part
+use Rattle.acas_rulings.specs.Printed.{IsHeldPart, AreSegments, Prints, hold_part, some_part, flight_fractions}
 use Rattle.acas_ruling_laws.proofs.Parts.{AreReduced, hold-one, approach-one, parts-one, reduced-append, hold_part-one, some_parts-one}
 
 pub hold-printed_one : (n t : ℕ) (o r : Option Fraction) → 0 < n → IsHeldPart n t o → IsHeldPart n t r → AreReduced (hold_part o) → AreReduced (hold_part r) → o ≡ r

@@ -5,8 +5,8 @@ use Rattle.acas_flight.specs.Parts.{CanBeMet}
 use Rattle.acas_passes.specs.Flights.{Flight}
 use Rattle.acas_passes.specs.Passes.{Each, toward}
 use Rattle.acas_passes.specs.Search.{Search, IsFound, at_low, at_high, between, grain, unit, passes, over_square, pull_at_low, pull_at_high}
-use Rattle.acas_passes.proofs.Ends.{ends-in}
-use Rattle.acas_passes.proofs.Neighbours.{low_pull_within, high_pull_within}
+use Rattle.acas_pass_laws.proofs.Ends.{ends-in}
+use Rattle.acas_pass_laws.proofs.Neighbours.{low_pull_within, high_pull_within}
 
 toward_some : (from to n : ℕ) → 0 < from → 0 < to → 0 < toward from to n
 toward_some from to n p q = omega arith

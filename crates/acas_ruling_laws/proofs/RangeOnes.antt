@@ -8,8 +8,8 @@ use Rattle.acas_frac.specs.Fraction.{Fraction, IsReduced}
 use Rattle.acas_frac.proofs.Reduced.{over-IsReduced-same}
 use Rattle.acas_flight.specs.State.{Interval}
 use Rattle.acas_flight.specs.Values.{IsOver}
-use Rattle.acas_flight.proofs.Orders.{cases_lt_ℤ, mul_nonneg}
-use Rattle.acas_witness.specs.Ranges.{IsBoxesRange, IsCellsRange, cell_range, nearest_range}
+use Rattle.acas_frac.proofs.Orders.{cases_lt_ℤ, mul_nonneg}
+use Rattle.acas_rulings.specs.Ranges.{IsBoxesRange, IsCellsRange, cell_range, nearest_range}
 
 pub cells_range-one : (m : ModelData) (n : ℕ) (time r s v w : Fraction) (q t : ℕ) → 0 < q → IsOver q (pos t) time → IsCellsRange m n time r v → IsCellsRange m n time s w →
     IsReduced r → IsReduced s → (r ≡ s) × (v ≡ w)

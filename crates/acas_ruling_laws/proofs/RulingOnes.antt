@@ -6,20 +6,20 @@ use Rattle.acas_spec.specs.Model.{ModelData}
 use Rattle.acas_spec.specs.Limits.{IsModel}
 use Rattle.acas_frac.specs.Fraction.{IsReduced}
 use Rattle.acas_flight.specs.Response.{demand_of}
-use Rattle.acas_flight.proofs.Models.{demand_can_be_met}
+use Rattle.acas_flight_curves.proofs.Models.{demand_can_be_met}
 use Rattle.acas_flight.specs.State.{State, IsInBox, IsInCell}
 use Rattle.acas_flight.specs.Clear.{area_of_box, area_of_cell}
 use Rattle.acas_flight.specs.Window.{IsWindowOfBox, IsWindowOfCell, Times}
 use Rattle.acas_passes.specs.Search.{unit}
-use Rattle.acas_witness.specs.declared.flight.Witness.{Witness}
-use Rattle.acas_witness.specs.Ranges.{IsBoxesRange, IsCellsRange}
-use Rattle.acas_witness.specs.Printed.{fractions_of, flight_fractions}
-use Rattle.acas_witness.specs.Witness.{search_between}
-use Rattle.acas_cell.specs.Boxes.{AuditedBox, IsBoxOf}
-use Rattle.acas_cell.specs.declared.name.CellName.{CellName}
-use Rattle.acas_cell.specs.declared.ruling.Ruling.{Ruling}
-use Rattle.acas_cell.specs.declared.ruling.Ruling.TheVariants.{Certified, Reported}
-use Rattle.acas_cell.specs.Rulings.{IsReported, IsRuling, IsRulingOfBox, IsRulingOfCell, IsWitnessOfBox, IsWitnessOfCell}
+use Rattle.acas_rulings.specs.declared.flight.Witness.{Witness}
+use Rattle.acas_rulings.specs.Ranges.{IsBoxesRange, IsCellsRange}
+use Rattle.acas_rulings.specs.Printed.{fractions_of, flight_fractions}
+use Rattle.acas_rulings.specs.Witness.{search_between}
+use Rattle.acas_rulings.specs.Boxes.{AuditedBox, IsBoxOf}
+use Rattle.acas_cells.specs.declared.name.CellName.{CellName}
+use Rattle.acas_rulings.specs.declared.ruling.Ruling.{Ruling}
+use Rattle.acas_rulings.specs.declared.ruling.Ruling.TheVariants.{Certified, Reported}
+use Rattle.acas_rulings.specs.Rulings.{IsReported, IsRuling, IsRulingOfBox, IsRulingOfCell, IsWitnessOfBox, IsWitnessOfCell}
 use Rattle.acas_ruling_laws.proofs.Ones.{AreSameTimes, unit_some, witness-one}
 use Rattle.acas_ruling_laws.proofs.RangeOnes.{boxes_range-one, cells_range-one}
 

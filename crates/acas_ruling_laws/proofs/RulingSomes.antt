@@ -8,18 +8,18 @@ use Rattle.acas_flight.specs.Response.{demand_of}
 use Rattle.acas_flight.specs.State.{Box, Interval, IsInside}
 use Rattle.acas_flight.specs.Contact.{IsEndangeredBox}
 use Rattle.acas_flight.specs.Clear.{area_of_box, area_of_cell}
-use Rattle.acas_flight.proofs.Dangers.{clear_box_is_safe, clear_cell_is_safe}
-use Rattle.acas_flight.proofs.Endangered.{endangered_box, endangered_cell}
-use Rattle.acas_flight.proofs.Orders.{cases_lt_ℤ}
-use Rattle.acas_region.specs.Limits.{IsArea}
-use Rattle.acas_witness.specs.declared.flight.Witness.{Witness}
-use Rattle.acas_cell.specs.Boxes.{AuditedBox, IsBoxOf}
-use Rattle.acas_cell.specs.Cells.{IsCellOf}
-use Rattle.acas_cell.specs.Order.{cell_of}
-use Rattle.acas_cell.specs.declared.name.CellName.{CellName}
-use Rattle.acas_cell.specs.declared.ruling.Ruling.{Ruling}
-use Rattle.acas_cell.specs.declared.ruling.Ruling.TheVariants.{Certified, Reported}
-use Rattle.acas_cell.specs.Rulings.{IsRulingOfBox, IsRulingOfCell}
+use Rattle.acas_flight_laws.proofs.Dangers.{clear_box_is_safe, clear_cell_is_safe}
+use Rattle.acas_flight_laws.proofs.Endangered.{endangered_box, endangered_cell}
+use Rattle.acas_frac.proofs.Orders.{cases_lt_ℤ}
+use Rattle.acas_region_curves.specs.Limits.{IsArea}
+use Rattle.acas_rulings.specs.declared.flight.Witness.{Witness}
+use Rattle.acas_rulings.specs.Boxes.{AuditedBox, IsBoxOf}
+use Rattle.acas_cells.specs.Cells.{IsCellOf}
+use Rattle.acas_cells.specs.Order.{cell_of}
+use Rattle.acas_cells.specs.declared.name.CellName.{CellName}
+use Rattle.acas_rulings.specs.declared.ruling.Ruling.{Ruling}
+use Rattle.acas_rulings.specs.declared.ruling.Ruling.TheVariants.{Certified, Reported}
+use Rattle.acas_rulings.specs.Rulings.{IsRulingOfBox, IsRulingOfCell}
 use Rattle.acas_cell.proofs.Showing.{reported_box, reported_cell}
 use Rattle.acas_ruling_laws.proofs.Areas.{rates_at, rises_at}
 use Rattle.acas_ruling_laws.proofs.Ranges.{range_of_box, range_of_cell}

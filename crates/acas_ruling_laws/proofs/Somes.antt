@@ -10,16 +10,16 @@ use Rattle.acas_frac.proofs.Reduced.{num_ahead}
 use Rattle.acas_flight.specs.Response.{Demand, demand_of, lasting}
 use Rattle.acas_flight.specs.Window.{Times, IsDuring}
 use Rattle.acas_flight.specs.Clear.{Area, IsClear, IsEndangeredDuring}
-use Rattle.acas_flight.proofs.Models.{demand_can_be_met}
-use Rattle.acas_region.specs.Limits.{AreEnds}
+use Rattle.acas_flight_curves.proofs.Models.{demand_can_be_met}
+use Rattle.acas_region_curves.specs.Limits.{AreEnds}
 use Rattle.acas_passes.specs.Search.{AreRates, CanMeet, IsMoment, IsSearch, unit}
-use Rattle.acas_passes.proofs.Founds.{found}
-use Rattle.acas_witness.specs.declared.flight.Flight as printed
+use Rattle.acas_pass_laws.proofs.Founds.{found}
+use Rattle.acas_rulings.specs.declared.flight.Flight as printed
 use Rattle.acas_witness.proofs.Contacts.{contact_at, during_of}
-use Rattle.acas_witness.proofs.Extremes.{HasHighExtreme, HasLowExtreme, high_reached, low_reached}
-use Rattle.acas_witness.proofs.Meetings.{clear_or_meet}
-use Rattle.acas_witness.specs.Witness.{IsFlightInContact, IsWitnessOf, search_between}
-use Rattle.acas_witness.specs.Printed.{flight_fractions}
+use Rattle.acas_witness_laws.proofs.Extremes.{HasHighExtreme, HasLowExtreme, high_reached, low_reached}
+use Rattle.acas_witness_laws.proofs.Meetings.{clear_or_meet}
+use Rattle.acas_rulings.specs.Witness.{IsFlightInContact, IsWitnessOf, search_between}
+use Rattle.acas_rulings.specs.Printed.{flight_fractions}
 use Rattle.acas_ruling_laws.proofs.Ones.{unit_some}
 use Rattle.acas_ruling_laws.proofs.Printed.{printed_flight}
 use Rattle.acas_ruling_laws.proofs.Pulls.{found-pull}

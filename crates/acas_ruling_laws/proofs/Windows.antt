@@ -7,8 +7,8 @@ use Rattle.acas_spec.specs.Limits.{IsModel}
 use Rattle.acas_frac.specs.Fraction.{Fraction}
 use Rattle.acas_flight.specs.State.{Interval}
 use Rattle.acas_flight.specs.Window.{IsWindowOfBox, IsWindowOfCell, Times}
-use Rattle.acas_region.specs.Limits.{AreEnds, IsEnd, IsFlownInTime, times_from}
-use Rattle.acas_region.proofs.Ends.{box_window, cell_window, ordered}
+use Rattle.acas_region_curves.specs.Limits.{AreEnds, IsEnd, IsFlownInTime, times_from}
+use Rattle.acas_region_curves.proofs.Ends.{box_window, cell_window, ordered}
 
 abbrev over : ℕ → ℕ → Fraction
 over n d = record { num = pos n; den = d }

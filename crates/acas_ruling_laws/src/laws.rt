@@ -7,22 +7,23 @@ ghost use Rattle.acas_frac.specs.Fraction.{IsReduced};
 ghost use Rattle.acas_flight.specs.Response.{demand_of};
 ghost use Rattle.acas_flight.specs.Window.{Times};
 ghost use Rattle.acas_flight.specs.Clear.{Area, IsClear, area_of_box};
-ghost use Rattle.acas_region.specs.Limits.{AreEnds, IsArea};
+ghost use Rattle.acas_region_curves.specs.Limits.{AreEnds, IsArea};
 ghost use Rattle.acas_passes.specs.Search.{AreRates};
-ghost use Rattle.acas_witness.specs.declared.flight.Flight.{Flight};
-ghost use Rattle.acas_witness.specs.Witness.{IsWitnessOf};
-ghost use Rattle.acas_witness.specs.Printed.{flight_fractions};
-ghost use Rattle.acas_cell.specs.Boxes.{AuditedBox, IsBoxOf};
-ghost use Rattle.acas_cell.specs.Cells.{IsCellOf};
-ghost use Rattle.acas_cell.specs.Order.{cell_of};
-ghost use Rattle.acas_cell.specs.declared.name.CellName.{CellName};
-ghost use Rattle.acas_cell.specs.declared.ruling.Ruling.{Ruling};
-ghost use Rattle.acas_cell.specs.Rulings.{IsRulingOfBox, IsRulingOfCell};
+ghost use Rattle.acas_rulings.specs.declared.flight.Flight.{Flight};
+ghost use Rattle.acas_rulings.specs.Witness.{IsWitnessOf};
+ghost use Rattle.acas_rulings.specs.Printed.{flight_fractions};
+ghost use Rattle.acas_rulings.specs.Boxes.{AuditedBox, IsBoxOf};
+ghost use Rattle.acas_cells.specs.Cells.{IsCellOf};
+ghost use Rattle.acas_cells.specs.Order.{cell_of};
+ghost use Rattle.acas_cells.specs.declared.name.CellName.{CellName};
+ghost use Rattle.acas_rulings.specs.declared.ruling.Ruling.{Ruling};
+ghost use Rattle.acas_rulings.specs.Rulings.{IsRulingOfBox, IsRulingOfCell};
 
 /// An area that is not clear in a window has a witness whose fractions are in lowest terms, and no other: the rule says every number
 /// that is printed. The area is in order, of rates within the limits.
 pub fn witnesses_are_one()
-    ensures some { (m : ModelData) (advisory : ℕ) (area : Area) (w : Times) → IsModel m → advisory < m.grid.advisories →
+    ensures some { (m : ModelData) (advisory : ℕ) (area : Area) (w : Times) → IsModel m →
+        advisory < m.grid.advisories →
         area.altitude.least ≤ℤ area.altitude.greatest → AreRates area.own → AreRates area.intruder → AreEnds w →
         ¬ IsClear m.half (demand_of m advisory) area w →
         (f : Flight) × IsWitnessOf m.half (demand_of m advisory) area w f × All IsReduced (flight_fractions f) }
@@ -41,7 +42,8 @@ pub fn rulings_are_one()
     ensures cells_one { (m : ModelData) (name : CellName) (r s : Ruling) → IsModel m →
         IsCellOf m (cell_of name) → name.advice < m.grid.advisories →
         IsRulingOfCell m name r → IsRulingOfCell m name s → r ≡ s }
-    ensures boxes_some { (m : ModelData) (b : AuditedBox) → IsModel m → IsBoxOf m b → IsArea (area_of_box b.states) →
+    ensures boxes_some { (m : ModelData) (b : AuditedBox) → IsModel m → IsBoxOf m b →
+        IsArea (area_of_box b.states) →
         (r : Ruling) × IsRulingOfBox m b r }
     ensures boxes_one { (m : ModelData) (b : AuditedBox) (r s : Ruling) → IsModel m → IsBoxOf m b →
         IsRulingOfBox m b r → IsRulingOfBox m b s → r ≡ s }

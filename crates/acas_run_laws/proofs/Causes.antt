@@ -10,7 +10,7 @@ use Rattle.acas_command.specs.Codes.{code_of}
 use Rattle.acas_command.specs.declared.status.Cause.{Cause}
 use Rattle.acas_command.specs.declared.status.Cause.TheVariants.{Done, Reported, Words, Absent, Model, Table, Input, Folder, Output, TooLong, Memory}
 use Rattle.acas_cli.specs.Calls.{AnswersForm, CallsFor}
-use Rattle.acas_cli.specs.Words.{Form, Values, Compile, Check, Audit, Regions, Replay, Drill}
+use Rattle.acas_cli_words.specs.Words.{Form, Values, Compile, Check, Audit, Regions, Replay, Drill}
 use Rattle.acas_drill.specs.Calls.{CallsForDrill}
 
 -- the answer to words of a form is that of its command; a drill's is the same over every folder

@@ -12,7 +12,7 @@ use Rattle.acas_outside.specs.Outside.{Outside}
 use Rattle.acas_outside.proofs.Inserted.{get-insert_other}
 use Rattle.acas_table_commands.specs.Calls.{CallsForCompile, compile_of}
 use Rattle.acas_table_commands.specs.CompiledLine.{compiled_line}
-use Rattle.acas_table_commands.specs.TableFile.{compiled_text}
+use Rattle.acas_table_rows.specs.TableFile.{compiled_text}
 use Rattle.acas_command.specs.Answers.{Agrees}
 use Rattle.acas_command.specs.Called.{MayPrint, MayStorePart}
 use Rattle.acas_command.specs.Calls.{with_reading}
@@ -24,7 +24,7 @@ use Rattle.acas_command.specs.declared.status.Cause.TheVariants.{Done, Reported,
 use Rattle.acas_command.specs.declared.status.FileRole.TheVariants.{Model as ModelFile}
 use Rattle.acas_command.proofs.Refused.{behind-model, no_file_cause-may_print}
 use Rattle.acas_cli.specs.Calls.{CallsFor}
-use Rattle.acas_cli.specs.Words.{Form, Values, Compile, Check, Audit, Regions, Replay, Drill}
+use Rattle.acas_cli_words.specs.Words.{Form, Values, Compile, Check, Audit, Regions, Replay, Drill}
 use Rattle.acas_run_laws.specs.Forms.{written_by}
 use Rattle.acas_run_laws.proofs.Kept.{kept-form, same-name}
 

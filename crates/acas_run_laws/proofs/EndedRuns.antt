@@ -8,10 +8,10 @@ use Rattle.acas_outside.specs.Bytes.{Appends, AppendsPart}
 use Rattle.acas_outside.specs.Files.{Files}
 use Rattle.acas_outside.specs.Outside.{Outside}
 use Rattle.acas_boxes.specs.Whole.{boxes_of}
-use Rattle.acas_cell.specs.Boxes.{AuditedBox}
-use Rattle.acas_report.specs.Regions.{IsRegionsReportBegun}
-use Rattle.acas_report.specs.Report.{IsReportBegun}
-use Rattle.acas_report.specs.declared.counts.Which.{Which}
+use Rattle.acas_rulings.specs.Boxes.{AuditedBox}
+use Rattle.acas_report_lines.specs.Regions.{IsRegionsReportBegun}
+use Rattle.acas_report_lines.specs.Report.{IsReportBegun}
+use Rattle.acas_report_lines.specs.declared.counts.Which.{Which}
 use Rattle.acas_command.specs.Answers.{Agrees, Completes}
 use Rattle.acas_command.specs.Called.{Called, IsReportOutcome, MayPrint, PrintsPart, calls_for_report}
 use Rattle.acas_command.specs.Outcome.{Outcome, prints, with_file}
@@ -20,11 +20,11 @@ use Rattle.acas_command.specs.declared.status.Cause.TheVariants.{Output}
 use Rattle.acas_audit_commands.specs.Calls.{AreAuditedBoxes, IsAuditBegun, IsAuditText, IsRegionsBegun, IsRegionsText, audit_looks_at, regions_looks_at}
 use Rattle.acas_command.proofs.Completed.{completed}
 use Rattle.acas_drill.specs.Calls.{IsDrillBegun, IsDrillText}
-use Rattle.acas_drill.specs.DrilledModel.{drilled_model}
+use Rattle.acas_drill_model.specs.DrilledModel.{drilled_model}
 use Rattle.acas_encounter_commands.specs.Calls.{IsReplayBegun, IsReplayText, replay_looks_at}
 use Rattle.acas_table_commands.specs.Calls.{check_of, compile_of, values_of}
 use Rattle.acas_cli.specs.Calls.{CallsFor}
-use Rattle.acas_cli.specs.Words.{Form, Values, Compile, Check, Audit, Regions, Replay, Drill}
+use Rattle.acas_cli_words.specs.Words.{Form, Values, Compile, Check, Audit, Regions, Replay, Drill}
 use Rattle.acas_run_laws.proofs.OneFiles.{IsOneModel, IsOneTable, one-input, one-model, one-table}
 use Rattle.acas_run_laws.proofs.OneOutcome.{audit-goes_on, one-drilled, one-outcome, one-replayed, printed-cause, regions-goes_on, replay-goes_on, within-file}
 use Rattle.acas_run_laws.proofs.OneReport.{ReportsAreOne}

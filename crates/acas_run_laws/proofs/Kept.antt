@@ -17,9 +17,9 @@ use Rattle.acas_drill.specs.Calls.{IsDrillBegun, IsDrillText}
 use Rattle.acas_encounter_commands.specs.Calls.{IsReplayBegun, IsReplayText, replay_looks_at}
 use Rattle.acas_table_commands.specs.AcceptedLine.{accepted_line}
 use Rattle.acas_table_commands.specs.Calls.{check_of, values_of}
-use Rattle.acas_table_commands.specs.ValuesText.{values_text}
+use Rattle.acas_table_lines.specs.ValuesText.{values_text}
 use Rattle.acas_cli.specs.Calls.{CallsFor}
-use Rattle.acas_cli.specs.Words.{Form, Values, Compile, Check, Audit, Regions, Replay, Drill}
+use Rattle.acas_cli_words.specs.Words.{Form, Values, Compile, Check, Audit, Regions, Replay, Drill}
 use Rattle.acas_run_laws.specs.Forms.{written_by}
 
 -- the files of a command that leaves them as they were, with every cause

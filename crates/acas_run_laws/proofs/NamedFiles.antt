@@ -22,16 +22,16 @@ use Rattle.acas_command.proofs.Reports.{report-refused}
 use Rattle.acas_table_file.specs.Calls.{with_table}
 use Rattle.acas_audit_commands.specs.Calls.{IsAuditBegun, IsAuditText, IsRegionsBegun, IsRegionsText, audit_looks_at, regions_looks_at}
 use Rattle.acas_drill.specs.Calls.{IsDrillBegun, IsDrillText}
-use Rattle.acas_drill.specs.Word.{drill_number}
+use Rattle.acas_drill_model.specs.Word.{drill_number}
 use Rattle.acas_encounter_commands.specs.Calls.{IsReplayBegun, IsReplayText, encounter_looked_at, replay_looks_at}
-use Rattle.acas_report.specs.declared.counts.Which.{Which}
-use Rattle.acas_report.specs.declared.counts.Which.TheVariants.{All as Whole, Reported as OnlyReported}
+use Rattle.acas_report_lines.specs.declared.counts.Which.{Which}
+use Rattle.acas_report_lines.specs.declared.counts.Which.TheVariants.{All as Whole, Reported as OnlyReported}
 use Rattle.acas_table_commands.specs.AcceptedLine.{accepted_line}
 use Rattle.acas_table_commands.specs.CompiledLine.{compiled_line}
-use Rattle.acas_table_commands.specs.TableFile.{compiled_text}
-use Rattle.acas_table_commands.specs.ValuesText.{values_text}
+use Rattle.acas_table_rows.specs.TableFile.{compiled_text}
+use Rattle.acas_table_lines.specs.ValuesText.{values_text}
 use Rattle.acas_cli.specs.Calls.{CallsFor}
-use Rattle.acas_cli.specs.Words.{Form, Values, Compile, Check, Audit, Regions, Replay, Drill, are_apart, are_file_names, form_of, is_file_name}
+use Rattle.acas_cli_words.specs.Words.{Form, Values, Compile, Check, Audit, Regions, Replay, Drill, are_apart, are_file_names, form_of, is_file_name}
 use Rattle.acas_run_laws.specs.Refusals.{RefusesBy}
 use Rattle.acas_run_laws.proofs.Refusing.{refused-input, refused-model, refused-printed, refused-table}
 

@@ -9,7 +9,7 @@ use Rattle.acas_command.specs.declared.status.Cause.{Cause}
 use Rattle.acas_command.specs.declared.status.Cause.TheVariants.{Done, Reported, Words, Absent, Model, Table, Input, Folder, Output, TooLong, Memory}
 use Rattle.acas_drill.specs.Calls.{EndsDrill}
 use Rattle.acas_cli.specs.Headline.{Headline, IsWorth}
-use Rattle.acas_cli.specs.Words.{Form}
+use Rattle.acas_cli_words.specs.Words.{Form}
 use Rattle.acas_run_laws.specs.Ends.{EndsWell, HasNoFault}
 use Rattle.acas_run_laws.proofs.Causes.{rose-greater}
 

@@ -9,12 +9,12 @@ use Rattle.acas_boxes.specs.Whole.{boxes_of}
 use Rattle.acas_encounter.specs.Encounter.{EncounterData}
 use Rattle.acas_encounter.specs.Whole.{encounter_of}
 use Rattle.acas_process.specs.Compiled.{compiled}
-use Rattle.acas_cell.specs.Boxes.{AuditedBox}
-use Rattle.acas_report.specs.Regions.{IsRegionsReport}
-use Rattle.acas_report.specs.Report.{IsReport}
-use Rattle.acas_report.specs.declared.counts.Counts.{Counts}
-use Rattle.acas_report.specs.declared.counts.Which.{Which}
-use Rattle.acas_report.specs.declared.counts.Which.TheVariants.{All}
+use Rattle.acas_rulings.specs.Boxes.{AuditedBox}
+use Rattle.acas_report_lines.specs.Regions.{IsRegionsReport}
+use Rattle.acas_report_lines.specs.Report.{IsReport}
+use Rattle.acas_report_lines.specs.declared.counts.Counts.{Counts}
+use Rattle.acas_report_lines.specs.declared.counts.Which.{Which}
+use Rattle.acas_report_lines.specs.declared.counts.Which.TheVariants.{All}
 use Rattle.acas_replay.specs.Replay.{IsReplay}
 use Rattle.acas_replay.proofs.Texts.{texts_same}
 use Rattle.acas_command.specs.Called.{IsRefusal, IsReportOutcome, MayPrint, calls_for_report}
@@ -30,11 +30,11 @@ use Rattle.acas_table_file.specs.Calls.{with_table}
 use Rattle.acas_table_file.proofs.Files.{with_table-file}
 use Rattle.acas_audit_commands.specs.Calls.{AreAuditedBoxes, IsAuditBegun, IsAuditText, IsRegionsBegun, IsRegionsText, audit_looks_at, regions_looks_at}
 use Rattle.acas_drill.specs.Calls.{IsDrillBegun, IsDrillText}
-use Rattle.acas_drill.specs.DrilledModel.{drilled_model}
+use Rattle.acas_drill_model.specs.DrilledModel.{drilled_model}
 use Rattle.acas_drill.specs.Text.{drill_text}
 use Rattle.acas_encounter_commands.specs.Calls.{IsReplayBegun, IsReplayText, IsReplayed, encounter_looked_at, replay_looks_at}
 use Rattle.acas_cli.specs.Calls.{CallsFor}
-use Rattle.acas_cli.specs.Words.{Form, Values, Compile, Check, Audit, Regions, Replay, Drill}
+use Rattle.acas_cli_words.specs.Words.{Form, Values, Compile, Check, Audit, Regions, Replay, Drill}
 use Rattle.acas_run_laws.proofs.OneFiles.{IsOneModel, IsOneTable, one-input, one-model, one-table, one-tabled}
 use Rattle.acas_run_laws.proofs.OneReport.{ReportsAreOne}
 

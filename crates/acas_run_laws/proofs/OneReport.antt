@@ -5,12 +5,12 @@ use Rattle.acas_spec.specs.Model.{ModelData}
 use Rattle.acas_base.specs.Advices.{AdvicesData}
 use Rattle.acas_outside.specs.Bytes.{AppendsPart}
 use Rattle.acas_flight.specs.Clear.{area_of_box}
-use Rattle.acas_region.specs.Limits.{IsArea}
-use Rattle.acas_cell.specs.Boxes.{AreBoxesOf, AuditedBox, box_at}
-use Rattle.acas_report.specs.Regions.{IsRegionsReport, IsRegionsReportBegun}
-use Rattle.acas_report.specs.Report.{IsReport, IsReportBegun}
-use Rattle.acas_report.specs.declared.counts.Counts.{Counts}
-use Rattle.acas_report.specs.declared.counts.Which.{Which}
+use Rattle.acas_region_curves.specs.Limits.{IsArea}
+use Rattle.acas_rulings.specs.Boxes.{AreBoxesOf, AuditedBox, box_at}
+use Rattle.acas_report_lines.specs.Regions.{IsRegionsReport, IsRegionsReportBegun}
+use Rattle.acas_report_lines.specs.Report.{IsReport, IsReportBegun}
+use Rattle.acas_report_lines.specs.declared.counts.Counts.{Counts}
+use Rattle.acas_report_lines.specs.declared.counts.Which.{Which}
 use Rattle.acas_report_laws.proofs.Reports.{begun_audit, begun_regions, one_audit, one_regions, some_audit, some_regions}
 use Rattle.acas_ruling_laws.proofs.RulingOnes.{boxes-one, cells-one}
 use Rattle.acas_ruling_laws.proofs.RulingSomes.{boxes-some, cells-some}

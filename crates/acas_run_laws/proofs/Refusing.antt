@@ -22,7 +22,7 @@ use Rattle.acas_command.specs.declared.status.Cause.TheVariants.{Input, TooLong}
 use Rattle.acas_command.specs.declared.status.FileRole.{FileRole}
 use Rattle.acas_command.specs.declared.status.FileRole.TheVariants.{Model as ModelFile, Table as TableFile}
 use Rattle.acas_table_file.specs.Calls.{with_acceptance, with_table}
-use Rattle.acas_cli.specs.Words.{Form}
+use Rattle.acas_cli_words.specs.Words.{Form}
 use Rattle.acas_run_laws.specs.Refusals.{RefusesBy, TableIsRefused}
 
 some-and : (P : List ℕ → Type 0) (o : Option (List ℕ)) (bytes : List ℕ) → o ≡ Some bytes → P bytes → IsSomeAnd o P

@@ -12,7 +12,7 @@ use Rattle.acas_spec.specs.Model.{ModelData}
 use Rattle.acas_base.specs.Advices.{AdvicesData}
 use Rattle.acas_outside.specs.Files.{Files}
 use Rattle.acas_flight.specs.Clear.{area_of_box}
-use Rattle.acas_region.specs.Limits.{IsArea, IsSmall}
+use Rattle.acas_region_curves.specs.Limits.{IsArea, IsSmall}
 use Rattle.acas_input.specs.declared.fault.InputFault.{InputFault}
 use Rattle.acas_boxes.specs.Text.{IsBoxesText}
 use Rattle.acas_boxes.specs.Whole.{boxes_of}
@@ -22,9 +22,9 @@ use Rattle.acas_encounter.specs.Text.{IsEncounterText}
 use Rattle.acas_encounter.specs.Whole.{encounter_of}
 use Rattle.acas_encounter.proofs.Read as encounter_text
 use Rattle.acas_process.specs.Compiled.{compiled}
-use Rattle.acas_cell.specs.Boxes.{AuditedBox, box_at}
-use Rattle.acas_report.specs.declared.counts.Which.{Which}
-use Rattle.acas_report.specs.declared.counts.Which.TheVariants.{All}
+use Rattle.acas_rulings.specs.Boxes.{AuditedBox, box_at}
+use Rattle.acas_report_lines.specs.declared.counts.Which.{Which}
+use Rattle.acas_report_lines.specs.declared.counts.Which.TheVariants.{All}
 use Rattle.acas_replay.specs.Replay.{IsReplay, contacts, replay_text}
 use Rattle.acas_replay.proofs.Courses.{some_course}
 use Rattle.acas_accept.specs.GivenTable.{given_table}
@@ -42,12 +42,12 @@ use Rattle.acas_table_file.specs.Calls.{with_table}
 use Rattle.acas_table_file.proofs.Files.{behind-table, with_table-accepted}
 use Rattle.acas_audit_commands.specs.Calls.{IsAuditBegun, IsAuditText, IsRegionsBegun, IsRegionsText, audit_looks_at, regions_looks_at}
 use Rattle.acas_drill.specs.Calls.{IsDrillBegun, IsDrillText}
-use Rattle.acas_drill.specs.DrilledModel.{drilled_model}
+use Rattle.acas_drill_model.specs.DrilledModel.{drilled_model}
 use Rattle.acas_drill.specs.Text.{drill_text}
 use Rattle.acas_encounter_commands.specs.Calls.{IsReplayBegun, IsReplayText, encounter_looked_at, replay_looks_at}
 use Rattle.acas_table_commands.specs.Calls.{check_of, compile_of, values_of}
 use Rattle.acas_cli.specs.Calls.{CallsFor}
-use Rattle.acas_cli.specs.Words.{Form, Values, Compile, Check, Audit, Regions, Replay, Drill}
+use Rattle.acas_cli_words.specs.Words.{Form, Values, Compile, Check, Audit, Regions, Replay, Drill}
 use Rattle.acas_run_laws.specs.Outcomes.{AreBytes}
 use Rattle.acas_run_laws.proofs.AdvicesMade.{accepted-by, advices_by, fits-by, known-accepted, table_advice, tabled-by}
 use Rattle.acas_run_laws.proofs.CompiledFiles.{prints_or_not}

@@ -1,6 +1,6 @@
 -- What a form reads, writes and may report.
 use Rattle.std.specs.Prelude.{ℕ, List, Option, None, Some, ⊤}
-use Rattle.acas_cli.specs.Words.{Form, Values, Compile, Check, Audit, Regions, Replay, Drill}
+use Rattle.acas_cli_words.specs.Words.{Form, Values, Compile, Check, Audit, Regions, Replay, Drill}
 
 -- the file that it writes, if any
 abbrev pub written_by : Form → Option (List ℕ)

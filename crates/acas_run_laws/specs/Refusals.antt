@@ -15,7 +15,7 @@ use Rattle.acas_command.specs.declared.status.Cause.{Cause}
 use Rattle.acas_command.specs.declared.status.Cause.TheVariants.{Done, Reported, Words, Absent, Model, Table, Input, Folder, Output, TooLong, Memory}
 use Rattle.acas_command.specs.declared.status.FileRole.{FileRole}
 use Rattle.acas_command.specs.declared.status.FileRole.TheVariants.{Model as ModelFile, Table as TableFile, Boxes as BoxesFile, Encounter as EncounterFile}
-use Rattle.acas_cli.specs.Words.{Form, Values, Compile, Check, Audit, Regions, Replay, Drill}
+use Rattle.acas_cli_words.specs.Words.{Form, Values, Compile, Check, Audit, Regions, Replay, Drill}
 
 -- the bytes of boxes or of an encounter, beside the model, have this first fault
 abbrev pub InputHasFault : Form → (FileRole → List ℕ) → Files → ModelData → InputFault → Type 0

@@ -8,42 +8,46 @@ ghost use Rattle.acas_spec.specs.Table.{Table};
 ghost use Rattle.acas_outside.specs.Files.{Files};
 ghost use Rattle.acas_outside.specs.Outside.{Outside};
 ghost use Rattle.acas_accept.specs.Accepted.{IsAcceptedTable};
-ghost use Rattle.acas_cell.specs.Boxes.{AuditedBox};
+ghost use Rattle.acas_rulings.specs.Boxes.{AuditedBox};
 ghost use Rattle.acas_boxes.specs.Text.{IsBoxesText};
 ghost use Rattle.acas_encounter.specs.Encounter.{EncounterData};
 ghost use Rattle.acas_encounter.specs.Text.{IsEncounterText};
-ghost use Rattle.acas_report.specs.declared.counts.Which.{Which};
+ghost use Rattle.acas_report_lines.specs.declared.counts.Which.{Which};
 ghost use Rattle.acas_command.specs.Codes.{code_of};
 ghost use Rattle.acas_command.specs.Says.{SaysModel};
 ghost use Rattle.acas_command.specs.declared.status.Cause.{Cause};
 ghost use Rattle.acas_cli.specs.Calls.{AnswersForm};
 ghost use Rattle.acas_cli.specs.Headline.{Headline};
-ghost use Rattle.acas_cli.specs.Words.{Audit, Check, Compile, Drill, Form, Regions, Replay, Values};
+ghost use Rattle.acas_cli_words.specs.Words.{Audit, Check, Compile, Drill, Form, Regions, Replay, Values};
 ghost use Rattle.acas_run_laws.specs.Forms.{MayReport};
 ghost use Rattle.acas_run_laws.specs.Ends.{EndsWell, HasNoFault};
 
 /// Where no call of the folder or of the output failed, and the files are such as a form asks for, its run ends with the exit code 0, 1 or
 /// 12: it is done, it reports, or memory was refused.
 pub fn right_files_are_not_refused()
-    ensures values { (model bytes : List ℕ) (m : ModelData) (cause : Cause) (files : Files) (before after : Outside)
+    ensures values { (model bytes : List ℕ) (m : ModelData) (cause : Cause) (files : Files)
+        (before after : Outside)
         → before.holds ≡ Some files → SaysModel files model bytes m → HasNoFault before after
         → Headline (Some (Values model)) cause before after → EndsWell cause }
     ensures compile { (model table bytes : List ℕ) (m : ModelData) (cause : Cause) (files : Files)
         (before after : Outside)
         → before.holds ≡ Some files → SaysModel files model bytes m → HasNoFault before after
         → Headline (Some (Compile model table)) cause before after → EndsWell cause }
-    ensures check { (model table bytes given : List ℕ) (m : ModelData) (t : Table) (cause : Cause) (files : Files)
+    ensures check { (model table bytes given : List ℕ) (m : ModelData) (t : Table) (cause : Cause)
+        (files : Files)
         (before after : Outside)
         → before.holds ≡ Some files → SaysModel files model bytes m → get files table ≡ Some given
         → IsAcceptedTable m (sha256 bytes) given t → HasNoFault before after
         → Headline (Some (Check model table)) cause before after → EndsWell cause }
-    ensures audit { (model table bytes given : List ℕ) (which : Which) (m : ModelData) (t : Table) (cause : Cause)
+    ensures audit { (model table bytes given : List ℕ) (which : Which) (m : ModelData) (t : Table)
+        (cause : Cause)
         (files : Files)
         (before after : Outside)
         → before.holds ≡ Some files → SaysModel files model bytes m → get files table ≡ Some given
         → IsAcceptedTable m (sha256 bytes) given t → HasNoFault before after
         → Headline (Some (Audit model table which)) cause before after → EndsWell cause }
-    ensures regions { (model boxes bytes given : List ℕ) (m : ModelData) (said : List AuditedBox) (cause : Cause)
+    ensures regions { (model boxes bytes given : List ℕ) (m : ModelData) (said : List AuditedBox)
+        (cause : Cause)
         (files : Files)
         (before after : Outside)
         → before.holds ≡ Some files → SaysModel files model bytes m → get files boxes ≡ Some given → length given ≤ TEXT_BYTES

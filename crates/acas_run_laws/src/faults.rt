@@ -13,7 +13,7 @@ ghost use Rattle.acas_table.specs.declared.refusal.TableRefusal.TheVariants.{For
 ghost use Rattle.acas_command.specs.declared.status.Cause.TheVariants.{Absent, Folder, Input, Model, Output, Table, TooLong};
 ghost use Rattle.acas_command.specs.declared.status.FileRole.{FileRole};
 ghost use Rattle.acas_cli.specs.Calls.{AnswersForm};
-ghost use Rattle.acas_cli.specs.Words.{Form};
+ghost use Rattle.acas_cli_words.specs.Words.{Form};
 
 /// A count that rose is greater than it was, below the last value of 64 bits.
 pub fn risen_counts_are_greater()

@@ -4,12 +4,12 @@ ghost use Rattle.std.specs.FinMap.{get, insert};
 ghost use Rattle.acas_spec.specs.Model.{ModelData};
 ghost use Rattle.acas_outside.specs.Files.{Files};
 ghost use Rattle.acas_outside.specs.Outside.{Outside};
-ghost use Rattle.acas_table_commands.specs.TableFile.{compiled_text};
+ghost use Rattle.acas_table_rows.specs.TableFile.{compiled_text};
 ghost use Rattle.acas_command.specs.Codes.{code_of};
 ghost use Rattle.acas_command.specs.ModelFile.{IsModelFile};
 ghost use Rattle.acas_command.specs.declared.status.Cause.{Cause};
 ghost use Rattle.acas_cli.specs.Calls.{AnswersForm};
-ghost use Rattle.acas_cli.specs.Words.{Compile, Form};
+ghost use Rattle.acas_cli_words.specs.Words.{Compile, Form};
 ghost use Rattle.acas_run_laws.specs.Forms.{written_by};
 
 /// Whatever a run answers, every file but the one that its form writes is as before.

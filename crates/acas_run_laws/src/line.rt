@@ -7,7 +7,7 @@ ghost use Rattle.acas_command.specs.Codes.{code_of};
 ghost use Rattle.acas_command.specs.ErrorLine.{Reports, error_line, name_of};
 ghost use Rattle.acas_command.specs.declared.status.Cause.{Cause};
 ghost use Rattle.acas_cli.specs.Calls.{AnswersForm};
-ghost use Rattle.acas_cli.specs.Words.{Form, form_of};
+ghost use Rattle.acas_cli_words.specs.Words.{Form, form_of};
 ghost use Rattle.acas_run_laws.specs.Refusals.{RefusesBy};
 
 /// With every exit code but 0, 1, 7, 8 and 12 the files refuse the run by its very cause, where they are told: the file that the line

@@ -11,7 +11,8 @@ ghost use Rattle.acas_table.specs.declared.shape.TableShape.{TableShape};
 /// In a plane in which nothing was written each place is missing, and in one that is written to the end none; each is missing once.
 pub fn missing_places_are_counted_once()
     ensures none_written { (n : ℕ) → missing_in (fresh n).work ≡ n }
-    ensures all_written { (pairs : List Pair) → let work : List (Option Pair) = map Some pairs in missing_in work ≡ 0 }
+    ensures all_written { (pairs : List Pair) → let work : List (Option Pair) = map Some pairs in
+        missing_in work ≡ 0 }
     ensures one_missing { (pairs more : List Pair) → let work : List (Option Pair) = map Some pairs in
         let rest : List (Option Pair) = map Some more in missing_in (work ++ None ∷ rest) ≡ 1 }
 {}
@@ -19,7 +20,8 @@ pub fn missing_places_are_counted_once()
 /// The text of a table in either version is as long as its shape says, where the digest has 32 bytes, there is a layer for each number of
 /// seconds to go and an entry for each state.
 pub fn texts_have_the_length_of_their_shape()
-    ensures { (version : ℕ) (digest : List ℕ) (s : TableShape) (layers : List (List Entry)) → length digest ≡ 32
+    ensures { (version : ℕ) (digest : List ℕ) (s : TableShape) (layers : List (List Entry)) →
+        length digest ≡ 32
         → length layers ≡ s.horizon + 1 → All (λ layer. length layer ≡ s.states) layers
         → length (version_text version digest s layers) ≡ length_of version s }
 {}

@@ -8,15 +8,16 @@ ghost use Rattle.acas_command.specs.Outcome.{Outcome, with_file};
 ghost use Rattle.acas_command.specs.declared.status.Cause.{Cause};
 ghost use Rattle.acas_command.specs.declared.status.Cause.TheVariants.{Output};
 ghost use Rattle.acas_cli.specs.Calls.{AnswersForm, CallsFor};
-ghost use Rattle.acas_cli.specs.Words.{Form};
+ghost use Rattle.acas_cli_words.specs.Words.{Form};
 ghost use Rattle.acas_run_laws.specs.Outcomes.{AreBytes};
 
-use acas_drill::drilled_models_are_within_limits;
+use acas_drill_model::drilled_models_are_within_limits;
 
 /// Over files of bytes there is one outcome that a form calls for, and one alone: its cause, its whole output, byte by byte, and the file
 /// that is stored, if any.
 pub fn outcomes_are_one()
-    ensures some { (form : Form) (files : Files) → AreBytes files → (o : Outcome) × (CallsFor form).ends files o }
+    ensures some { (form : Form) (files : Files) → AreBytes files → (o : Outcome)
+        × (CallsFor form).ends files o }
     ensures one { (form : Form) (files : Files) (o p : Outcome)
         → (CallsFor form).ends files o → (CallsFor form).ends files p → o ≡ p }
 {

@@ -16,11 +16,13 @@ pub fn memory_gives_and_takes_what_it_may()
         → ReadsInMemory old new name at room (Ok n) → get old.files name ≡ Some bytes
         → (n ≤ length bytes - at) × (n ≤ room) × (n ≤ old.most)
         × ((length bytes - at ≤ n) ⊎ ((room ≤ n) ⊎ (old.most ≤ n))) }
-    ensures appends { (old new : FolderState) (name piece : List ℕ) (n : ℕ) → AppendsInMemory old new name piece (Ok n)
+    ensures appends { (old new : FolderState) (name piece : List ℕ) (n : ℕ) →
+        AppendsInMemory old new name piece (Ok n)
         → (n ≤ length piece) × (n ≤ old.most) × ((length piece ≤ n) ⊎ (old.most ≤ n)) }
     ensures writes { (old new : SinkState) (piece : List ℕ) (n : ℕ) → WritesInMemory old new piece (Ok n)
         → (n ≤ length piece) × (n ≤ old.most) × ((length piece ≤ n) ⊎ (old.most ≤ n)) }
-    ensures appended { (old new : FolderState) (name piece : List ℕ) (n : ℕ) → AppendsInMemory old new name piece (Ok n)
+    ensures appended { (old new : FolderState) (name piece : List ℕ) (n : ℕ) →
+        AppendsInMemory old new name piece (Ok n)
         → get new.files name ≡ Some (unwrap_or (get old.files name) [] ++ take n piece) }
     ensures written { (old new : SinkState) (piece : List ℕ) (n : ℕ) → WritesInMemory old new piece (Ok n)
         → new.written ≡ old.written ++ take n piece }
@@ -30,8 +32,10 @@ pub fn memory_gives_and_takes_what_it_may()
 pub fn parts_are_fewer_bytes()
     ensures appended { (written bytes : List ℕ) (new : Option (List ℕ)) → AppendsPart (Some written) new bytes
         → IsSomeAnd new (λ now. (length written ≤ length now) × (length now < length written + length bytes)) }
-    ensures untold { (old new : Option (List ℕ)) (bytes : List ℕ) → AppendsPart old new bytes → 0 < length bytes }
-    ensures stored { (files : Files) (new : Option Files) (name bytes : List ℕ) → StoresPart (Some files) new name bytes
+    ensures untold { (old new : Option (List ℕ)) (bytes : List ℕ) → AppendsPart old new bytes →
+        0 < length bytes }
+    ensures stored { (files : Files) (new : Option Files) (name bytes : List ℕ) →
+        StoresPart (Some files) new name bytes
         → IsSomeAnd new (λ now. IsSomeAnd (get now name) (λ held. length held < length bytes)) }
     ensures grown { (files : Files) (new : Option Files) (name held bytes : List ℕ) →
         GrowsPart (Some files) new name bytes
@@ -42,9 +46,11 @@ pub fn parts_are_fewer_bytes()
 /// A call of a folder that failed, or found a name absent, has a greater count than before, below the last value of 64 bits, whatever
 /// folder it is.
 pub fn calls_of_folders_count_their_faults<F: Folder>()
-    ensures reads { (old new : F) (failed absent : Bool) → OnlyReads F.Folder old new (IsTrue failed) (IsTrue absent)
+    ensures reads { (old new : F) (failed absent : Bool) →
+        OnlyReads F.Folder old new (IsTrue failed) (IsTrue absent)
         → IsTrue failed → F.faults old < 2 ^ 64 - 1 → F.faults old < F.faults new }
-    ensures misses { (old new : F) (failed absent : Bool) → OnlyReads F.Folder old new (IsTrue failed) (IsTrue absent)
+    ensures misses { (old new : F) (failed absent : Bool) →
+        OnlyReads F.Folder old new (IsTrue failed) (IsTrue absent)
         → IsTrue absent → F.misses old < 2 ^ 64 - 1 → F.misses old < F.misses new }
     ensures writes { (old new : F) (failed : Bool) → OnlyWrites F.Folder old new (IsTrue failed)
         → IsTrue failed → F.faults old < 2 ^ 64 - 1 → F.faults old < F.faults new }

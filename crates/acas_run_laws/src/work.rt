@@ -4,21 +4,22 @@ ghost use Rattle.std.specs.FinMap.{get};
 ghost use Rattle.acas_spec.specs.Model.{ModelData, entries};
 ghost use Rattle.acas_base.specs.Advices.{AdvicesData};
 ghost use Rattle.acas_outside.specs.Files.{Files};
-ghost use Rattle.acas_cell.specs.Decisions.{AreAuditsDecisions};
-ghost use Rattle.acas_report.specs.declared.counts.Which.{Which};
+ghost use Rattle.acas_audit_blocks.specs.Decisions.{AreAuditsDecisions};
+ghost use Rattle.acas_report_lines.specs.declared.counts.Which.{Which};
 ghost use Rattle.acas_sweep.specs.Layers.{backup_count};
 ghost use Rattle.acas_command.specs.Codes.{code_of};
 ghost use Rattle.acas_command.specs.ModelFile.{IsModelFile};
 ghost use Rattle.acas_command.specs.declared.status.Cause.{Cause};
 ghost use Rattle.acas_table_file.specs.AcceptedFile.{IsTableOf};
-ghost use Rattle.acas_cli.specs.Words.{Audit, Check, Compile, Drill, Form, Regions, Replay, Values};
+ghost use Rattle.acas_cli_words.specs.Words.{Audit, Check, Compile, Drill, Form, Regions, Replay, Values};
 ghost use Rattle.acas_cli.specs.Work.{CountsForm};
 ghost use Rattle.acas_cli.specs.declared.work.Work.{Work};
 
 /// What is not named for a form is not counted, whatever the answer: words of no form, `check`, `regions`, `replay` and `drill` leave all
 /// three counts as they were, an audit those of backups and of turned pairs, and `values` and `compile` that of decisions.
 pub fn what_is_not_named_is_not_counted()
-    ensures no_form { (holds : Option Files) (cause : Cause) (old new : Work) → CountsForm None holds cause old new
+    ensures no_form { (holds : Option Files) (cause : Cause) (old new : Work) →
+        CountsForm None holds cause old new
         → (new.backups ≡ old.backups) × (new.turned ≡ old.turned) × (new.decisions ≡ old.decisions) }
     ensures check { (model table : List ℕ) (holds : Option Files) (cause : Cause) (old new : Work)
         → CountsForm (Some (Check model table)) holds cause old new
@@ -32,7 +33,8 @@ pub fn what_is_not_named_is_not_counted()
     ensures drill { (number : ℕ) (holds : Option Files) (cause : Cause) (old new : Work)
         → CountsForm (Some (Drill number)) holds cause old new
         → (new.backups ≡ old.backups) × (new.turned ≡ old.turned) × (new.decisions ≡ old.decisions) }
-    ensures audit { (model table : List ℕ) (which : Which) (holds : Option Files) (cause : Cause) (old new : Work)
+    ensures audit { (model table : List ℕ) (which : Which) (holds : Option Files) (cause : Cause)
+        (old new : Work)
         → CountsForm (Some (Audit model table which)) holds cause old new
         → (new.backups ≡ old.backups) × (new.turned ≡ old.turned) }
     ensures values { (model : List ℕ) (holds : Option Files) (cause : Cause) (old new : Work)

@@ -4,8 +4,8 @@ use Rattle.std.specs.Int.{int_max, int_min}
 use Rattle.std.proofs.lemmas.Int.{ints, clamps}
 use lib.IntN.{*ℤ_comm}
 use Rattle.acas_frac.proofs.SignedProducts.{add-mul_ℤ, mul-lt_ℤ}
-use Rattle.acas_flight.proofs.IntRing.{ring, at, num, sub-mul_ℤ, ◌⊕◌, ◌⊖◌, ◌⊗◌}
-use Rattle.acas_flight.proofs.Orders.{cases_lt_ℤ, mul_nonneg, unsigned_abs-le, unsigned_abs-low, unsigned_abs-high}
+use Rattle.acas_frac.proofs.IntRing.{ring, at, num, sub-mul_ℤ, ◌⊕◌, ◌⊖◌, ◌⊗◌}
+use Rattle.acas_frac.proofs.Orders.{cases_lt_ℤ, mul_nonneg, unsigned_abs-le, unsigned_abs-low, unsigned_abs-high}
 use Rattle.acas_second.specs.Contact.{HasContact, separation}
 use Rattle.acas_second.specs.Seconds.{near_fractions}
 use Rattle.acas_second.specs.Parabola.{ComesDown, ComesInside, IsBetween, StaysAbove, StaysOutside, lowered, turned, value_at}

@@ -6,8 +6,8 @@ use native.Mathlib.Nat.{mul-le-mul_left}
 use lib.IntN.{*ℤ_comm}
 use Rattle.acas_frac.proofs.SignedProducts.{le-trans_ℤ, mul_assoc_ℤ, mul-le_ℤ, mul-neg_ℤ}
 use Rattle.acas_frac.proofs.Bounds.{product_size}
-use Rattle.acas_flight.proofs.IntRing.{Expr, ring, at, num, ◌⊕◌, ◌⊖◌, ◌⊗◌}
-use Rattle.acas_flight.proofs.Orders.{cases_lt_ℤ, mul_nonneg}
+use Rattle.acas_frac.proofs.IntRing.{Expr, ring, at, num, ◌⊕◌, ◌⊖◌, ◌⊗◌}
+use Rattle.acas_frac.proofs.Orders.{cases_lt_ℤ, mul_nonneg}
 use Rattle.acas_second.specs.Parabola.{IsBetween, value_at}
 use Rattle.acas_second.specs.declared.parabola.Fractions.{Fractions}
 use Rattle.acas_second.specs.declared.parabola.Parabola.{Parabola}

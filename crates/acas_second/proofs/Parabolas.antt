@@ -2,8 +2,8 @@
 use Rattle.std.proofs.Common.{◌≡◌, ◌⊎◌, inl, inr, ⊎_elim, [], ◌∷◌, refl, arith, ℤ, pos, ◌+ℤ◌, ◌-ℤ◌, ◌*ℤ◌, ◌≤ℤ◌, ◌<ℤ◌}
 use Rattle.std.proofs.lemmas.Int.{ints}
 use lib.IntN.{*ℤ_comm}
-use Rattle.acas_flight.proofs.IntRing.{ring, at, num, ◌⊕◌, ◌⊖◌, ◌⊗◌}
-use Rattle.acas_flight.proofs.Orders.{cases_lt_ℤ, mul_nonneg}
+use Rattle.acas_frac.proofs.IntRing.{ring, at, num, ◌⊕◌, ◌⊖◌, ◌⊗◌}
+use Rattle.acas_frac.proofs.Orders.{cases_lt_ℤ, mul_nonneg}
 use Rattle.acas_second.specs.Parabola.{ComesDown, StaysAbove, half_slope_at, value_at}
 use Rattle.acas_second.specs.declared.parabola.Fractions.{Fractions}
 use Rattle.acas_second.specs.declared.parabola.Parabola.{Parabola}

@@ -2,8 +2,6 @@ pub mod Commands
 pub mod ChoiceLists
 pub mod CornerLaws
 pub mod ColumnLaws
-pub mod ColumnVertices
-pub mod ColumnCells
 pub mod ShareLaws
 pub mod Weights
 pub mod SumSteps
@@ -11,20 +9,7 @@ pub mod Quotients
 pub mod SigmaSteps
 pub mod NumberedStates
 pub mod Written
-pub mod RaisedWritten
 pub mod TableMeans
-pub mod SharedMeans
-pub mod SourceMeans
 pub mod PlacedMeans
 pub mod ColumnPlaces
-pub mod Multipliers
-pub mod StencilLaws
-pub mod RaisedLaws
-pub mod RaisedSums
-pub mod RaisedMeans
-pub mod UnitLaws
-pub mod UnitSums
-pub mod ColumnPoints
-mod BestFrom
-pub mod BestEntries
 mod OneCornerSet

@@ -7,12 +7,5 @@ pub mod Entries
 pub mod Means
 pub mod Choices
 pub mod Values
-pub mod Divisor
-pub mod Units
-pub mod Stencils
 pub mod Reach
-pub mod Raised
-pub mod Narrow
 pub mod Columns
-pub mod ColumnSums
-pub mod Best

@@ -105,7 +105,7 @@ pub(crate) fn cell_of(grid: &Grid, point: Point) -> Cell
 }
 
 // The same, looked for from a vertex on that is likely near the point.
-pub(crate) fn cell_near(grid: &Grid, near: Vertex, point: Point) -> Cell
+pub fn cell_near(grid: &Grid, near: Vertex, point: Point) -> Cell
     requires grid { IsGrid grid.now }
     requires inside { IsInside grid.now point }
     ensures round { IsRound grid.now point result }
@@ -137,7 +137,7 @@ fn weight_on(ends: Ends, end: End) -> u64
     }
 }
 
-pub(crate) fn product(h: u64, v0: u64, v1: u64) -> u64
+pub fn product(h: u64, v0: u64, v1: u64) -> u64
     requires h { h ≤ altitude_gap }
     requires v0 { v0 ≤ rate_gap }
     requires v1 { v1 ≤ rate_gap }
@@ -195,7 +195,7 @@ fn total_of(cell: &Cell) -> i128
 }
 
 // The eight corners of a cell, for each point that it holds.
-pub(crate) fn corner_set(grid: &Grid, cell: &Cell) -> CornerSet
+pub fn corner_set(grid: &Grid, cell: &Cell) -> CornerSet
     requires grid { IsGrid grid.now }
     requires fits { FitsGrid grid.now cell.now }
     ensures corners { (s : Point) → IsRound grid.now s cell.now

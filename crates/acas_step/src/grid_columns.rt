@@ -27,7 +27,7 @@ pub fn vertex_in_column(grid: &Grid, column: u32, i: u32) -> u32
 }
 
 /// The number of the column at the lower corner of a cell.
-pub(crate) fn column_of_cell(grid: &Grid, cell: &Cell) -> u32
+pub fn column_of_cell(grid: &Grid, cell: &Cell) -> u32
     requires { FitsGrid grid.now cell.now }
     ensures value { result ≡ column_of grid.now cell.now }
     ensures below { result < columns grid.now }

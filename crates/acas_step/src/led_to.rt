@@ -28,7 +28,7 @@ pub trait LedTo {
 
 /// Looks for each cell anew.
 #[derive(Drop)]
-pub(crate) struct CellSearch;
+pub struct CellSearch;
 
 impl LedTo for CellSearch {
     ghost serves = { λ it m. Unit {0} };

@@ -37,7 +37,7 @@ fn mean_pair(model: &Model, vertex: u32, advisory: u8, below: &[Pair]) -> Pair
 }
 
 // How many advisories the model has.
-pub(crate) fn advisory_count(model: &Model) -> u8
+pub fn advisory_count(model: &Model) -> u8
     ensures value { result ≡ model.now.grid.advisories }
     ensures few { result ≤ GREATEST_ADVISORIES }
 {

@@ -108,7 +108,7 @@ fn own_change(model: &Model, advisory: u8, v: i64, noise: i64) -> i64
 }
 
 // The own rate at a vertex.
-pub(crate) fn own_rate_at(model: &Model, vertex: u32) -> i64
+pub fn own_rate_at(model: &Model, vertex: u32) -> i64
     requires { vertex < vertices model.now.grid }
     ensures value { result ≡ own_rate model.now.grid (numbers.vertex_at model.now.grid vertex) }
     ensures rate { IsRate result }
@@ -126,7 +126,7 @@ pub(crate) fn pilot_change(model: &Model, advisory: u8, v: i64) -> i64
 }
 
 // Where a sigma point takes a vertex within a second under an advisory.
-pub(crate) fn moved_from(model: &Model, from: Vertex, advisory: u8, sigma: u32) -> Point
+pub fn moved_from(model: &Model, from: Vertex, advisory: u8, sigma: u32) -> Point
     requires vertex { IsVertex model.now.grid from }
     requires advisory { advisory < model.now.grid.advisories }
     requires sigma { sigma < length model.now.sigmas }

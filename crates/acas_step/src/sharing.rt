@@ -17,7 +17,7 @@ use acas_units::{GREATEST_ADVISORIES, Pair};
 pub type Likes = [u8; GREATEST_ADVISORIES as usize];
 
 /// How much the pilot changes an own rate within a second, under each advisory by its number, in ft/min.
-pub(crate) type Changes = [i64; GREATEST_ADVISORIES as usize];
+pub type Changes = [i64; GREATEST_ADVISORIES as usize];
 
 // The pairs of a layer under an advisory, vertex by vertex.
 fn plane_under<'l>(model: &Model, advisory: u8, below: &'l [Pair]) -> &'l [Pair]
@@ -73,7 +73,7 @@ pub(crate) fn likes_of(model: &Model, below: &[Pair]) -> Likes
 }
 
 /// The changes of an own rate.
-pub(crate) fn changes_from(model: &Model, v: i64) -> Changes
+pub fn changes_from(model: &Model, v: i64) -> Changes
     requires { IsRate v }
     ensures { AreChanges model.now v result }
 {
@@ -85,7 +85,7 @@ pub(crate) fn changes_from(model: &Model, v: i64) -> Changes
 }
 
 /// The first advisory that has the same first one in `likes` and the same change as this one.
-pub(crate) fn first_twin(likes: &Likes, changes: &Changes, advisory: u8) -> u8
+pub fn first_twin(likes: &Likes, changes: &Changes, advisory: u8) -> u8
     requires { advisory < GREATEST_ADVISORIES }
     ensures first { result ≤ advisory }
     ensures like { get_or likes.now result 0 ≡ get_or likes.now advisory 0 }

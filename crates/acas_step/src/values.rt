@@ -18,7 +18,7 @@ use acas_grid::Grid;
 use acas_units::{GREATEST_TOTAL_WEIGHT, GREATEST_WEIGHT, Pair};
 
 // The number of the first state of an advisory.
-pub(crate) fn first_state(grid: &Grid, advisory: u8) -> usize
+pub fn first_state(grid: &Grid, advisory: u8) -> usize
     requires { advisory < grid.now.advisories }
     ensures value { result ≡ advisory * vertices grid.now }
     ensures room { result + vertices grid.now ≤ states grid.now }
@@ -45,7 +45,7 @@ fn interpolated<R: Rounding>(
     R::div(sum, set.total) as i64
 }
 
-pub(crate) fn sigma_count(model: &Model) -> u32
+pub fn sigma_count(model: &Model) -> u32
     ensures value { result ≡ length model.now.sigmas }
     ensures valid { IsModel model.now }
 {
@@ -62,7 +62,7 @@ fn sigma_weight(model: &Model, sigma: u32) -> i128
     i128::from(model.points()[sigma as usize].weight)
 }
 
-pub(crate) fn total_weight(model: &Model) -> i128
+pub fn total_weight(model: &Model) -> i128
     ensures value { result ≡ pos (total_weight model.now) }
     ensures some { 0 < total_weight model.now }
     ensures light { total_weight model.now ≤ GREATEST_TOTAL_WEIGHT }
@@ -72,7 +72,7 @@ pub(crate) fn total_weight(model: &Model) -> i128
 }
 
 /// The mean as `mean` gives it, by what gives the corners.
-pub(crate) fn mean_by<R: Rounding, L: LedTo>(
+pub fn mean_by<R: Rounding, L: LedTo>(
     model: &Model,
     led_to: &L,
     vertex: u32,

@@ -7,7 +7,7 @@ use Rattle.acas_grid.specs.States.{state_present, state_vertex}
 use Rattle.acas_units.specs.declared.pair.Entry.{Entry}
 use Rattle.acas_units.specs.declared.pair.Pair.{Pair}
 use Rattle.acas_process.specs.Compiled.{compiled}
-use Rattle.acas_step.specs.Best.{IsOver, entry_at}
+use Rattle.acas_step_choices.specs.Best.{IsOver, entry_at}
 use Rattle.acas_step.specs.Entries.{IsStateEntry}
 use Rattle.acas_step.specs.Layer.{AreWithin, pair_at}
 use Rattle.acas_step.specs.declared.layer.Side.TheVariants.{Upper, Lower}

@@ -3,3 +3,4 @@ pub mod Turns
 pub mod Entries
 pub mod Filled
 pub mod Handed
+pub mod Room

@@ -10,7 +10,8 @@ ghost use Rattle.acas_sweep.specs.Layers.{layer_backups};
 use crate::order::vertex_after;
 use crate::vertex::fill_vertex;
 use acas_base::Model;
-use acas_step::{Backups, entries_at, terminal};
+use acas_step::terminal;
+use acas_step_choices::{Backups, entries_at};
 use acas_units::{Entry, Pair};
 
 /// The entry of a vertex with no second to go, under each present advisory: the cost at the end, and no advice, which is written 255.

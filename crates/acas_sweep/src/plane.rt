@@ -3,7 +3,7 @@
 ghost use Rattle.std.specs.Prelude.{◌≡◌, ℕ, ◌+◌, ◌*◌, ◌<◌, ◌≤◌, ◌^◌, length};
 ghost use Rattle.acas_spec.specs.Model.{states, vertices};
 ghost use Rattle.acas_process.specs.Compiled.{compiled};
-ghost use Rattle.acas_step.specs.Best.{AreColumnEntries};
+ghost use Rattle.acas_step_choices.specs.Best.{AreColumnEntries};
 ghost use Rattle.acas_step.specs.Columns.{columns};
 ghost use Rattle.acas_step.specs.Entries.{IsStateEntry};
 ghost use Rattle.acas_sweep.specs.Entries.{AreOver, AreWritten, IsWhole, SameElsewhere, listed_entry};
@@ -15,17 +15,16 @@ use crate::layer::terminal_entry;
 use crate::order::vertex_after;
 use acas_base::Model;
 use acas_plane::PlaneBlock;
-use acas_step::{
-    Backups, ColumnEntries, ColumnMeans, LayerMeans, VertexEntries, column_count, fill_entries,
-    reach_of, vertex_in_column,
-};
+use acas_step::{ColumnMeans, LayerMeans, column_count, reach_of, vertex_in_column};
+use acas_step_choices::{Backups, ColumnEntries, VertexEntries, fill_entries};
 
 // Writes the entries of a vertex with no second to go, under all present advisories.
 fn put_endings(model: &Model, vertex: u32, block: &mut PlaneBlock, advice: &mut [u8])
     requires vertex { vertex < vertices model.now.grid }
     requires filled { IsFilledTo model.now.grid (turn model.now.grid vertex) 0 block.old }
     requires advice { states model.now.grid ≤ length advice.old }
-    ensures endings { AreEndings model.now vertex model.now.grid.advisories (pairs_in block.new.work) advice.new }
+    ensures endings { AreEndings model.now vertex model.now.grid.advisories (pairs_in block.new.work)
+        advice.new }
     ensures others { SameElsewhere model.now.grid vertex (pairs_in block.old.work) advice.old
         (pairs_in block.new.work) advice.new }
     ensures filled { IsFilledTo model.now.grid (turn model.now.grid vertex + 1) 0 block.new }
@@ -119,7 +118,8 @@ pub(crate) fn put_over<M: LayerMeans>(
     requires filled { IsFilledTo model.now.grid 0 0 block.old }
     requires advice { states model.now.grid ≤ length advice.old }
     requires count { count.old + layer_backups model.now < 2 ^ 64 }
-    ensures over { AreOver model.now block.old.finished (vertices model.now.grid) (pairs_in block.new.work) advice.new }
+    ensures over { AreOver model.now block.old.finished (vertices model.now.grid) (pairs_in block.new.work)
+        advice.new }
     ensures filled { IsFilledTo model.now.grid (vertices model.now.grid) 0 block.new }
     ensures count { count.new ≡ count.old + layer_backups model.now }
 {

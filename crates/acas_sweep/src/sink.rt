@@ -31,10 +31,12 @@ pub trait LayerSink {
         requires left { 0 < left self.old }
         requires pairs { length pairs.now ≡ width self.old }
         requires advice { length advice.now ≡ width self.old }
-        ensures ok { OnOk result (adds self.old (record { n = n; pairs = pairs.now; advice = advice.now }) self.new) }
+        ensures ok { OnOk result (adds self.old (record { n = n; pairs = pairs.now; advice = advice.now })
+            self.new) }
         ensures left { OnOk result (left self.old ≡ left self.new + 1) }
         ensures width { OnOk result (width self.new ≡ width self.old) }
-        ensures err { OnErr result (cuts self.old (record { n = n; pairs = pairs.now; advice = advice.now }) self.new) }
+        ensures err { OnErr result
+            (cuts self.old (record { n = n; pairs = pairs.now; advice = advice.now }) self.new) }
         ensures failed { OnErr result (Rose (faults self.old) (faults self.new)) }
         ensures faults { faults self.old ≤ faults self.new };
 }

@@ -11,7 +11,8 @@ use crate::plane::{put_first, put_over};
 use crate::sink::{LayerFailed, LayerSink};
 use acas_base::Model;
 use acas_plane::{PlaneBlock, Turned};
-use acas_step::{Backups, ColumnEntries, ColumnMeans, LayerMeans};
+use acas_step::{ColumnMeans, LayerMeans};
+use acas_step_choices::{Backups, ColumnEntries};
 use acas_units::{Entry, GREATEST_ADVISORIES, GREATEST_VERTICES, Pair};
 
 /// Why a sweep ended before its last layer.

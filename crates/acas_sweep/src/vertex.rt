@@ -4,7 +4,7 @@ ghost use Rattle.acas_spec.specs.Model.{states, vertices};
 ghost use Rattle.acas_sweep.specs.Entries.{AreWritten, SameElsewhere};
 
 use acas_base::Model;
-use acas_step::VertexEntries;
+use acas_step_choices::VertexEntries;
 use acas_units::Pair;
 
 /// Writes the entries of a vertex under all present advisories.
@@ -18,7 +18,8 @@ pub(crate) fn fill_vertex(
     requires vertex { vertex < vertices model.now.grid }
     requires pairs { states model.now.grid ≤ length pairs.old }
     requires advice { states model.now.grid ≤ length advice.old }
-    ensures written { AreWritten model.now.grid vertex model.now.grid.advisories entries.now pairs.new advice.new }
+    ensures written { AreWritten model.now.grid vertex model.now.grid.advisories entries.now pairs.new
+        advice.new }
     ensures others { SameElsewhere model.now.grid vertex pairs.old advice.old pairs.new advice.new }
 {
     for present in 0..model.grid().advisories as u8 {

@@ -13,3 +13,7 @@ pub mod EntryLaws
 pub mod TextLaws
 pub mod Backward
 pub mod Found
+pub mod Nones
+pub mod Told
+pub mod Texts
+pub mod FieldFaults

@@ -175,7 +175,8 @@ impl Source {
     fn at_hand(&self, count: usize) -> &[u8]
         requires { count ≤ self.now.to - self.now.from }
         ensures long { length result.now ≡ count }
-        ensures value { (bytes : List ℕ) → IsAt self.now bytes → result.now ≡ part bytes self.now.place count }
+        ensures value { (bytes : List ℕ) → IsAt self.now bytes →
+            result.now ≡ part bytes self.now.place count }
         ensures is { result.now ≡ part self.now.buffer.items self.now.from count }
     {
         &self.buffer[self.from..self.from + count]

@@ -31,8 +31,8 @@ use Rattle.acas_table_file.specs.Worth.{RejectsTable}
 use Rattle.acas_table_commands.specs.AcceptedLine.{accepted_line}
 use Rattle.acas_table_commands.specs.Calls.{CallsForCheck, CallsForCompile, CallsForValues, check_of, compile_of, values_of}
 use Rattle.acas_table_commands.specs.CompiledLine.{compiled_line}
-use Rattle.acas_table_commands.specs.TableFile.{compiled_text}
-use Rattle.acas_table_commands.specs.ValuesText.{values_text}
+use Rattle.acas_table_rows.specs.TableFile.{compiled_text}
+use Rattle.acas_table_lines.specs.ValuesText.{values_text}
 use Rattle.acas_table_commands.specs.Worth.{AcceptsTable, CheckIsWorth, CompileIsWorth, PrintsTable, StoresTable, ValuesIsWorth}
 
 prints-cause : (o o' : Outcome) → o ≡ o' → MayPrint o'.cause → MayPrint o.cause

@@ -7,8 +7,8 @@ use Rattle.acas_table_file.specs.Calls.{with_table}
 use Rattle.acas_command.specs.Outcome.{Outcome, prints, stores}
 use Rattle.acas_table_commands.specs.AcceptedLine.{accepted_line}
 use Rattle.acas_table_commands.specs.CompiledLine.{compiled_line}
-use Rattle.acas_table_commands.specs.TableFile.{compiled_text}
-use Rattle.acas_table_commands.specs.ValuesText.{values_text}
+use Rattle.acas_table_rows.specs.TableFile.{compiled_text}
+use Rattle.acas_table_lines.specs.ValuesText.{values_text}
 
 -- `values M` prints the compiled table of the model
 abbrev pub values_of : Option (List ℕ) → Outcome

@@ -1,12 +1,5 @@
-pub mod ValuesText
 pub mod CompiledLine
 pub mod AcceptedLine
-pub mod TableFile
-pub mod BegunWriter
-pub mod SweepRoom
-pub mod TableRows
-pub mod LayerParts
-pub mod LineRows
 pub mod Calls
 pub mod Work
 pub mod Worth

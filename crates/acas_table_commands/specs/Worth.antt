@@ -16,7 +16,7 @@ use Rattle.acas_command.specs.Worth.{IsNotRefused}
 use Rattle.acas_table_file.specs.Worth.{RejectsTable}
 use Rattle.acas_command.specs.declared.status.Cause.{Cause}
 use Rattle.acas_command.specs.declared.status.Cause.TheVariants.{Done, Output, Table as Refused}
-use Rattle.acas_table_commands.specs.ValuesText.{table_lines}
+use Rattle.acas_table_lines.specs.ValuesText.{table_lines}
 
 -- M says a model, and what was printed are the lines of a table of it, which has two-sided bounds and is tight
 pub record PrintsTable (model : List ℕ) (files : Files) (before after : Outside) : Type 0 where

@@ -9,14 +9,16 @@ ghost use Rattle.acas_table_commands.specs.Calls.{CallsForCompile};
 ghost use Rattle.acas_table_commands.specs.CompiledLine.{compiled_line};
 ghost use Rattle.acas_table_commands.specs.Work.{CountsSweep};
 
-use crate::sweep_room::SweepRoom;
-use crate::swept_table::store_swept;
 use acas_command::{Cause, put_count, put_text, read_model_file};
 use acas_grid::Grid;
 use acas_outside::{Folder, Sink, emit};
 use acas_plane::Turned;
-use acas_step::{Backups, LayerMeans, StencilMeans};
+use acas_step::LayerMeans;
+use acas_step_choices::Backups;
+use acas_step_columns::StencilMeans;
+use acas_sweep::SweepRoom;
 use acas_table::TableWriter;
+use acas_table_rows::store_swept;
 use acas_units::Line;
 use std::alloc::Global;
 
@@ -42,7 +44,8 @@ pub fn compile<F: Folder, O: Sink>(
     ensures rising { backups.old ≤ backups.new }
     ensures rising_turned { turned.old ≤ turned.new }
     // Over a folder that tells its files, a done run has counted exactly one sweep of the model.
-    ensures work { CountsSweep model.now (F.holds folder.old) (ended result) backups.old backups.new turned.old turned.new }
+    ensures work { CountsSweep model.now (F.holds folder.old) (ended result) backups.old backups.new
+        turned.old turned.new }
 {
     let found = read_model_file(alloc, model, folder)?;
     let means = StencilMeans::make(alloc, &found.model)?;

@@ -6,13 +6,14 @@ ghost use Rattle.acas_command.specs.Answers.{Answers, ended};
 ghost use Rattle.acas_table_commands.specs.Calls.{CallsForValues};
 ghost use Rattle.acas_table_commands.specs.Work.{CountsSweep};
 
-use crate::sweep_room::SweepRoom;
-use crate::swept_lines::print_table;
-use crate::table_lines::Pen;
 use acas_command::{Cause, read_model_file};
 use acas_outside::{Folder, Sink};
 use acas_plane::Turned;
-use acas_step::{Backups, LayerMeans, StencilMeans};
+use acas_step::LayerMeans;
+use acas_step_choices::Backups;
+use acas_step_columns::StencilMeans;
+use acas_sweep::SweepRoom;
+use acas_table_lines::{Pen, print_table};
 use std::alloc::Global;
 
 /// Prints the compiled table of a model, layer by layer as the sweep goes. It takes all its memory before the first byte goes out. It
@@ -35,7 +36,8 @@ pub fn values<F: Folder, O: Sink>(
     ensures rising { backups.old ≤ backups.new }
     ensures rising_turned { turned.old ≤ turned.new }
     // Over a folder that tells its files, a done run has counted exactly one sweep of the model.
-    ensures work { CountsSweep model.now (F.holds folder.old) (ended result) backups.old backups.new turned.old turned.new }
+    ensures work { CountsSweep model.now (F.holds folder.old) (ended result) backups.old backups.new
+        turned.old turned.new }
 {
     let found = read_model_file(alloc, model, folder)?;
     let mut pen = Pen::make(alloc)?;

@@ -11,7 +11,7 @@ use acas_accept::{AcceptFault, accept};
 use acas_base::Advices;
 use acas_command::{Cause, FileRole, ModelFile};
 use acas_outside::Folder;
-use acas_step::StencilMeans;
+use acas_step_columns::StencilMeans;
 use std::alloc::Global;
 
 /// Reads and checks the file of a table and gives its advices, or gives the cause that ends every command that reads one.
@@ -22,7 +22,9 @@ pub fn read_table_file<F: Folder>(
     folder: &mut F,
 ) -> Result<Advices, Cause>
     requires { IsTrue (F.serves folder.old name.now) }
-    ensures ok { IfOk result (λ advices. Given (F.holds folder.old) name.now (λ file. IsTableFile found.now.model found.now.digest file advices)) }
+    ensures ok { IfOk result (λ advices.
+        Given (F.holds folder.old) name.now (λ file.
+        IsTableFile found.now.model found.now.digest file advices)) }
     ensures advices { IfOk result (λ advices. AreAdvicesOf found.now.model advices) }
     ensures err { IfErr result (λ cause. RefusesTable found.now.model found.now.digest name.now cause
         (beside F.Folder folder.old) (beside F.Folder folder.new)) }

@@ -1,6 +1,6 @@
 //! The models of drills.
 use acas_base::{Choice, Model, SigmaPoint};
-use acas_drill::drill_model;
+use acas_drill_model::drill_model;
 use acas_grid::Axis;
 use std::test::Fail;
 

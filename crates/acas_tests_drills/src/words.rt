@@ -1,5 +1,5 @@
 //! The words that name drills.
-use acas_drill::drill_number;
+use acas_drill_model::drill_number;
 use std::test::Fail;
 
 #[test]

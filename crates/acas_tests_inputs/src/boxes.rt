@@ -2,8 +2,9 @@
 use crate::faults::words_of;
 use crate::models::three;
 use crate::rows::{changed, zeros};
-use acas_boxes::{AuditBox, read_boxes};
+use acas_boxes::read_boxes;
 use acas_model::Model;
+use acas_rulings::AuditBox;
 use acas_units::Span;
 use std::alloc::Global;
 use std::test::Fail;

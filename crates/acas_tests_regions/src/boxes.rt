@@ -5,9 +5,8 @@ use crate::models::four;
 use crate::rows::{is_at, numbers, whole};
 use acas_base::Model;
 use acas_frac::Frac;
-use acas_region::{
-    BoxState, Extreme, Window, high_extreme, is_clear, low_extreme, window_of_box, window_of_cell,
-};
+use acas_region::{high_extreme, is_clear, low_extreme, window_of_box, window_of_cell};
+use acas_region_curves::{BoxState, Extreme, Window};
 use acas_units::Span;
 use std::test::Fail;
 

@@ -4,7 +4,8 @@ use crate::models::four;
 use crate::rows::{is_at, numbers, whole};
 use acas_base::Model;
 use acas_frac::Frac;
-use acas_region::{approach, held, highest, lowest};
+use acas_region::{highest, lowest};
+use acas_region_curves::{approach, held};
 use std::test::Fail;
 
 // The climb of an approach, if the row begins with numbers within its limits.

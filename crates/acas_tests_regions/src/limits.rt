@@ -1,10 +1,10 @@
 //! Tests of what the curves take. Each fraction is in lowest terms.
 ghost use Rattle.std.specs.Prelude.{◌≤◌, ◌⊎◌, IsTrue};
 ghost use Rattle.acas_frac.specs.Fraction.{Fraction};
-ghost use Rattle.acas_region.specs.Limits.{AreWhole, IsCurve, IsHeldCurve, IsHold, IsOneAtMostNotWhole, IsPull, IsRate, IsStart, IsTime, IsWhole};
+ghost use Rattle.acas_region_curves.specs.Limits.{AreWhole, IsCurve, IsHeldCurve, IsHold, IsOneAtMostNotWhole, IsPull, IsRate, IsStart, IsTime, IsWhole};
 
 use acas_frac::Frac;
-use acas_region::{HOLD_PARTS, PULL_PARTS, RATE_PARTS, TIME_PARTS};
+use acas_region_curves::{HOLD_PARTS, PULL_PARTS, RATE_PARTS, TIME_PARTS};
 
 fn is_whole(value: &Frac) -> bool
     ensures { IsTrue result → IsWhole value.now }
@@ -63,13 +63,15 @@ fn is_one_not_whole(v: &Frac, aim: &Frac, pull: &Frac) -> bool
 }
 
 fn is_fine(v: &Frac, aim: &Frac, pull: &Frac, t: &Frac) -> bool
-    ensures { IsTrue result → AreWhole v.now aim.now pull.now ⊎ ((Fraction.den t.now ≤ 5000) × IsOneAtMostNotWhole v.now aim.now pull.now) }
+    ensures { IsTrue result → AreWhole v.now aim.now pull.now
+        ⊎ ((Fraction.den t.now ≤ 5000) × IsOneAtMostNotWhole v.now aim.now pull.now) }
 {
     are_whole(v, aim, pull) || is_coarse(t) && is_one_not_whole(v, aim, pull)
 }
 
 fn is_hold_fine(v: &Frac, aim: &Frac, pull: &Frac, hold: &Frac, t: &Frac) -> bool
-    ensures { IsTrue result → IsWhole hold.now ⊎ (AreWhole v.now aim.now pull.now × (Fraction.den t.now ≤ 5000)) }
+    ensures { IsTrue result → IsWhole hold.now
+        ⊎ (AreWhole v.now aim.now pull.now × (Fraction.den t.now ≤ 5000)) }
 {
     is_whole(hold) || are_whole(v, aim, pull) && is_coarse(t)
 }

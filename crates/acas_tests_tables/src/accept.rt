@@ -7,7 +7,7 @@ use crate::models::{TIED, model_of};
 use acas_accept::accept;
 use acas_base::{Advices, Model};
 use acas_outside::MemoryFolder;
-use acas_step::StencilMeans;
+use acas_step_columns::StencilMeans;
 use acas_units::Pair;
 use std::alloc::{AllocError, Global};
 use std::test::Fail;

@@ -2,16 +2,19 @@
 ghost use Rattle.std.specs.Prelude.{◌≡◌, ◌<◌, length};
 ghost use Rattle.acas_spec.specs.Model.{states};
 ghost use Rattle.acas_step.specs.Columns.{columns};
-ghost use Rattle.acas_step.specs.Stencils.{AreStencilsOf};
+ghost use Rattle.acas_step_stencils.specs.Stencils.{AreStencilsOf};
 
 use crate::models::{FOUR, NOISY, WIDE, model_of};
 use acas_base::{Choice, Model};
 use acas_frac::{Down, Up};
 use acas_grid::{Point, state_present, state_vertex};
 use acas_step::{
-    Backups, ColumnMeans, Corner, CornerSet, Side, Stencils, backup, column_count, corners,
-    fill_column, mean, means_at, moved, reach_of, terminal, vertex_in_column,
+    ColumnMeans, Corner, CornerSet, Side, column_count, corners, mean, means_at, moved, reach_of,
+    terminal, vertex_in_column,
 };
+use acas_step_choices::{Backups, backup};
+use acas_step_columns::fill_column;
+use acas_step_stencils::Stencils;
 use acas_units::{GREATEST_ADVISORIES, GREATEST_VERTICES, Pair};
 use std::alloc::{AllocError, Global};
 use std::test::Fail;

@@ -1,6 +1,6 @@
 //! Compiled tables of small models, and how many backups they take.
 use crate::models::{FOUR, NOISY, TIED, model_of};
-use acas_step::Backups;
+use acas_step_choices::Backups;
 use acas_sweep::sweep_list;
 use acas_units::{Entry, Pair};
 use std::alloc::Global;

@@ -1,7 +1,7 @@
 //! The text of a witness, and of the gaps where there is none.
 use acas_frac::{Frac, print_frac};
-use acas_region::Extreme;
-use acas_witness::{Segment, Witness};
+use acas_region_curves::Extreme;
+use acas_rulings::{Segment, Witness};
 use std::alloc::Global;
 
 // A word, and a number after it.

@@ -5,9 +5,11 @@ use crate::models::{four, four_with_delay};
 use crate::print::{gaps_of, text_of};
 use crate::rows::{numbers, span};
 use acas_base::Model;
-use acas_region::{BoxState, Window, high_extreme, low_extreme, window_of_box, window_of_cell};
+use acas_region::{high_extreme, low_extreme, window_of_box, window_of_cell};
+use acas_region_curves::{BoxState, Window};
 use acas_units::Span;
-use acas_witness::{contact_in, of_box, of_cell};
+use acas_witness::contact_in;
+use acas_witness_response::{of_box, of_cell};
 use std::alloc::Global;
 use std::test::Fail;
 

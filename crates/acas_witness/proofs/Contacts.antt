@@ -8,22 +8,22 @@ use Rattle.acas_flight.specs.Response.{Demand}
 use Rattle.acas_flight.specs.Clear.{Area}
 use Rattle.acas_flight.specs.Window.{Times, IsDuring}
 use Rattle.acas_flight.specs.Values.{IsOver}
-use Rattle.acas_flight.proofs.IntRing.{at, ◌⊗◌, ring, mul_swapped_ℤ}
-use Rattle.acas_flight.proofs.Rising.{scaled_le}
-use Rattle.acas_region.specs.Limits.{IsHeldCurve, IsOneAtMostNotWhole, IsEnd}
+use Rattle.acas_frac.proofs.IntRing.{at, ◌⊗◌, ring, mul_swapped_ℤ}
+use Rattle.acas_flight_curves.proofs.Rising.{scaled_le}
+use Rattle.acas_region_curves.specs.Limits.{IsHeldCurve, IsOneAtMostNotWhole, IsEnd}
 use Rattle.acas_passes.specs.Value.{thinnest}
 use Rattle.acas_passes.specs.Flights.{Flight}
 use Rattle.acas_passes.specs.Search.{Search, IsSearch, IsTimed, IsFound, CanMeet, unit}
 use Rattle.acas_passes.specs.Responses.{IsResponse, fine}
-use Rattle.acas_passes.proofs.Ends.{found-contact}
-use Rattle.acas_passes.proofs.Touching.{lasts}
-use Rattle.acas_witness.specs.declared.plan.Plan.{Plan}
-use Rattle.acas_witness.specs.declared.flight.Flight as printed
-use Rattle.acas_witness.specs.Witness.{search_between, IsFlightInContact}
-use Rattle.acas_witness.specs.FoundPlans.{IsPlanIn}
-use Rattle.acas_witness.specs.Printed.{Prints, hold_part, some_part, flight_fractions}
-use Rattle.acas_witness.proofs.Assembly.{AreParts-append}
-use Rattle.acas_witness.proofs.Portions.{finer}
+use Rattle.acas_pass_laws.proofs.Ends.{found-contact}
+use Rattle.acas_pass_laws.proofs.Touching.{lasts}
+use Rattle.acas_witness_plans.specs.declared.plan.Plan.{Plan}
+use Rattle.acas_rulings.specs.declared.flight.Flight as printed
+use Rattle.acas_rulings.specs.Witness.{search_between, IsFlightInContact}
+use Rattle.acas_witness_laws.specs.FoundPlans.{IsPlanIn}
+use Rattle.acas_rulings.specs.Printed.{Prints, hold_part, some_part, flight_fractions}
+use Rattle.acas_witness_response.proofs.Assembly.{AreParts-append}
+use Rattle.acas_witness_plans.proofs.Portions.{finer}
 
 pub unit_positive : (a : Demand) (area : Area) (low high : Fraction) → IsEnd low → IsEnd high → 0 < unit (search_between a area low high)
 unit_positive a area low high l h = mul-pos (omega arith) (mul-pos l.some h.some)

@@ -1,15 +1,1 @@
-pub mod Lattices
-pub mod Casts
-pub mod Lines
-pub mod Overs
-pub mod Ways
-pub mod Chains
-pub mod Meetings
-pub mod Portions
-pub mod Assembly
 pub mod Contacts
-pub mod CellRanges
-pub mod BoxRanges
-pub mod Extremes
-pub mod Dangers
-pub mod LowestTerms

@@ -1,9 +1,0 @@
-pub mod Plans
-pub mod Surveys
-pub mod Passes
-pub mod Bends
-pub mod Printed
-pub mod PrintedPlans
-pub mod Witness
-pub mod FoundPlans
-pub mod Ranges

@@ -3,28 +3,24 @@ ghost use Rattle.std.specs.Prelude.{◌≡◌, ◌<◌};
 ghost use Rattle.std.specs.List.{All};
 ghost use Rattle.acas_frac.specs.Fraction.{IsReduced};
 ghost use Rattle.acas_flight.specs.Response.{demand_of};
-ghost use Rattle.acas_region.specs.Limits.{IsEnd, IsTime};
-ghost use Rattle.acas_region.specs.View.{area_of};
+ghost use Rattle.acas_region_curves.specs.Limits.{IsEnd, IsTime};
+ghost use Rattle.acas_region_curves.specs.View.{area_of};
 ghost use Rattle.acas_passes.specs.Search.{CanMeet, high_flight, low_flight, unit};
-ghost use Rattle.acas_witness.specs.Plans.{CanBeFlown, IsOutcomeOf};
-ghost use Rattle.acas_witness.specs.Printed.{flight_fractions};
-ghost use Rattle.acas_witness.specs.PrintedPlans.{PrintsPlan};
-ghost use Rattle.acas_witness.specs.Surveys.{search_of};
-ghost use Rattle.acas_witness.specs.Witness.{IsClearIn, IsEndangeredIn, IsInContactIn, IsTimeOf, IsWitnessIn, search_between};
-ghost use Rattle.acas_witness.specs.FoundPlans.{IsFoundPlan, IsPlanFor};
+ghost use Rattle.acas_witness_plans.specs.Plans.{CanBeFlown, IsOutcomeOf};
+ghost use Rattle.acas_rulings.specs.Printed.{flight_fractions};
+ghost use Rattle.acas_witness_response.specs.PrintedPlans.{PrintsPlan};
+ghost use Rattle.acas_witness_search.specs.Surveys.{search_of};
+ghost use Rattle.acas_rulings.specs.Witness.{IsClearIn, IsEndangeredIn, IsInContactIn, IsTimeOf, IsWitnessIn, search_between};
+ghost use Rattle.acas_witness_laws.specs.FoundPlans.{IsFoundPlan, IsPlanFor};
 
-use crate::flight::Flight;
-use crate::flown::{fly, is_in_contact};
-use crate::numbers::natural;
-use crate::plan::{Outcome, Plan};
-use crate::points::rate_steps;
-use crate::reduced::open_flight;
-use crate::response::{held_part, segments_of};
-use crate::search::through;
-use crate::survey::Survey;
 use acas_base::Model;
 use acas_frac::Frac;
-use acas_region::{BoxState, Window, high_extreme, low_extreme};
+use acas_region::{high_extreme, low_extreme};
+use acas_region_curves::{BoxState, Window};
+use acas_rulings::Flight;
+use acas_witness_plans::{Outcome, Plan, fly, is_in_contact, natural, rate_steps};
+use acas_witness_response::{held_part, open_flight, segments_of};
+use acas_witness_search::{Survey, through};
 
 // The low flight.
 fn low_outcome(survey: &Survey) -> Outcome

@@ -4,23 +4,6 @@
 
 mod contact;
 mod finding;
-mod flight;
-mod flown;
-mod lasts;
-mod laws;
-mod numbers;
-mod plan;
-mod plans;
-mod points;
-mod quantity;
-mod ranges;
-mod reduced;
-mod response;
-mod search;
-mod survey;
 
 pub use contact::contact_in;
 pub use finding::find;
-pub use flight::{Flight, Segment, Witness};
-pub use laws::areas_that_are_not_clear_are_endangered;
-pub use ranges::{of_box, of_cell};

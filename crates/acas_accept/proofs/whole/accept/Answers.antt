@@ -8,7 +8,7 @@ use Rattle.acas_table.specs.Shape.{entry_count}
 use Rattle.acas_accept.specs.Answers.{AreAllowed}
 use Rattle.acas_accept.specs.Checking.{HasAccepted, HasNoRefusal, IsAnswer}
 use Rattle.acas_accept.proofs.Accepting.{are_allowed, fault_accepts, reads_given, no_refusal_accepts}
-use Rattle.acas_accept.proofs.Told.{told_at, told_both, told_map}
+use Rattle.acas_table.proofs.Told.{told_at, told_both, told_map}
 use Rattle.acas_accept.proofs.whole.accept.Goals as goal
 
 pub returns-in_err-layers-clause-given : goal.returns-in_err-layers-clause-given

@@ -4,7 +4,7 @@ use Rattle.std.proofs.lemmas.Result.{err_from_is_err_and}
 use Rattle.toml.specs.Data.{boolean}
 use Rattle.toml.specs.View.{view}
 use Rattle.acas_spec.proofs.Each.{starts, goes_on, ends, is_done, all_push}
-use Rattle.acas_cell.specs.Boxes.{IsBoxOf, audited}
+use Rattle.acas_rulings.specs.Boxes.{IsBoxOf, audited}
 use Rattle.acas_boxes.specs.Whole.{box_items}
 use Rattle.acas_boxes.proofs.whole.box_items.Goals as goal
 

@@ -2,7 +2,7 @@ use Rattle.std.proofs.Common.{length, map}
 use Rattle.std.specs.List.{AllByRecursion}
 use Rattle.toml.specs.View.{view}
 use Rattle.acas_spec.proofs.Each.{Goes}
-use Rattle.acas_cell.specs.Boxes.{IsBoxOf, audited}
+use Rattle.acas_rulings.specs.Boxes.{IsBoxOf, audited}
 use Rattle.acas_boxes.specs.OneBox.{box_item}
 use Rattle.acas_boxes.specs.Whole as rules
 use Rattle.acas_boxes.proofs.whole.box_items.Given as goal

@@ -3,10 +3,10 @@ use Rattle.acas_frac.specs.Fraction.{Fraction}
 use Rattle.acas_flight.specs.Response.{demand_of}
 use Rattle.acas_flight.specs.State.{IsInCell}
 use Rattle.acas_flight.specs.Clear.{Area, IsEndangeredDuring}
-use Rattle.acas_flight.proofs.Endangered.{endangered_cell}
-use Rattle.acas_region.specs.View.{area_of, times_of}
-use Rattle.acas_witness.specs.declared.flight.Witness.{Witness}
-use Rattle.acas_cell.specs.Rulings.{IsReported, IsWitnessOfCell}
+use Rattle.acas_flight_laws.proofs.Endangered.{endangered_cell}
+use Rattle.acas_region_curves.specs.View.{area_of, times_of}
+use Rattle.acas_rulings.specs.declared.flight.Witness.{Witness}
+use Rattle.acas_rulings.specs.Rulings.{IsReported, IsWitnessOfCell}
 use Rattle.acas_cell.proofs.Showing.{reported_cell}
 use Rattle.acas_cell.proofs.verdicts.witness_in.Goals as goal
 

@@ -1,5 +1,5 @@
-use Rattle.acas_cell.specs.Blocks.{all_cells}
-use Rattle.acas_cell.proofs.Counted.{one_number}
+use Rattle.acas_cells.specs.Blocks.{all_cells}
+use Rattle.acas_audit_blocks.proofs.Counted.{one_number}
 use Rattle.acas_cell_examples.specs.Tabled.{stacked, tabled}
 use Rattle.acas_cell_examples.proofs.Decided.{both, lower, lower_alone, none_of_both, upper_of_both}
 use Rattle.acas_cell_examples.proofs.decisions.decided_numbers_are_one.Goals as goal

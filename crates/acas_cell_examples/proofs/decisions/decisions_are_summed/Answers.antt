@@ -1,7 +1,7 @@
 use Rattle.std.proofs.Common.{◌≡◌, ℕ, ◌+◌, refl, subst, arith}
-use Rattle.acas_cell.specs.Blocks.{all_cells}
-use Rattle.acas_cell.specs.Decisions.{AreDecisionsOf, IsDecidedBy}
-use Rattle.acas_cell.specs.DecisionCounts.{no_more, one_more}
+use Rattle.acas_cells.specs.Blocks.{all_cells}
+use Rattle.acas_audit_blocks.specs.Decisions.{AreDecisionsOf, IsDecidedBy}
+use Rattle.acas_cells.specs.DecisionCounts.{no_more, one_more}
 use Rattle.acas_cell_examples.specs.Tabled.{stacked, tabled}
 use Rattle.acas_cell_examples.proofs.Decided.{both, lower_of_both, none_of_both, upper_of_both}
 use Rattle.acas_cell_examples.proofs.decisions.decisions_are_summed.Goals as goal

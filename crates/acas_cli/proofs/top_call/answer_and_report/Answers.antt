@@ -3,9 +3,9 @@ use Rattle.std.specs.Prelude.{string_bytes}
 use Rattle.acas_outside.specs.Outside.{Outside, outside}
 use Rattle.acas_command.specs.declared.status.Cause.{Cause}
 use Rattle.acas_cli.specs.Calls.{AnswersCall}
-use Rattle.acas_cli.specs.Forms.{form_of_command}
-use Rattle.acas_cli.specs.Words.{Form}
-use Rattle.acas_cli.proofs.KnownForms.{known_form}
+use Rattle.acas_cli_words.specs.Forms.{form_of_command}
+use Rattle.acas_cli_words.specs.Words.{Form}
+use Rattle.acas_cli_words.proofs.KnownForms.{known_form}
 use Rattle.acas_cli.proofs.NeverWords.{never_words}
 use Rattle.acas_cli.proofs.top_call.answer_and_report.Goals as goal
 

@@ -1,5 +1,5 @@
 use Rattle.acas_outside.specs.MemoryFolder.{folder_state}
-use Rattle.acas_table_commands.specs.TableFile.{compiled_text}
+use Rattle.acas_table_rows.specs.TableFile.{compiled_text}
 use Rattle.acas_drill.specs.declared.table.TheConstants.{TABLE}
 use Rattle.acas_drill.proofs.Tables.{held}
 use Rattle.acas_drill.proofs.table.drill_table.Goals as goal

@@ -1,7 +1,7 @@
 use Rattle.std.proofs.Common.{◌≡◌, pos, to_z, of_z, arith}
 use Rattle.std.specs.Int.{w128}
 use Rattle.std.proofs.lemmas.Int.{ints}
-use Rattle.acas_region.proofs.Products.{small_reduces}
+use Rattle.acas_region_curves.proofs.Products.{small_reduces}
 use Rattle.acas_region.proofs.least.quotient.Goals as goal
 
 pub new-requires-clause-within : goal.new-requires-clause-within

@@ -1,4 +1,4 @@
-use Rattle.acas_cell.specs.Boxes.{box_at}
+use Rattle.acas_rulings.specs.Boxes.{box_at}
 use Rattle.acas_ruling_laws.proofs.RulingOnes.{boxes-one, cells-one}
 use Rattle.acas_report_laws.proofs.Reports.{begun_audit, begun_regions}
 use Rattle.acas_report_laws.proofs.laws.begun_reports_begin_the_report.Goals as goal

@@ -1,4 +1,4 @@
-use Rattle.acas_cell.specs.Boxes.{box_at}
+use Rattle.acas_rulings.specs.Boxes.{box_at}
 use Rattle.acas_ruling_laws.proofs.RulingOnes.{boxes-one, cells-one}
 use Rattle.acas_ruling_laws.proofs.RulingSomes.{boxes-some, cells-some}
 use Rattle.acas_report_laws.proofs.Reports.{one_audit, one_regions, some_audit, some_regions}

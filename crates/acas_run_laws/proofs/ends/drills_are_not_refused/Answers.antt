@@ -1,4 +1,4 @@
-use Rattle.acas_cli.specs.Words.{Drill}
+use Rattle.acas_cli_words.specs.Words.{Drill}
 use Rattle.acas_run_laws.proofs.NotRefused.{drill-ends, worth-form}
 use Rattle.acas_run_laws.proofs.ends.drills_are_not_refused.Goals as goal
 

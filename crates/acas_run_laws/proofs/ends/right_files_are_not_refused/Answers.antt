@@ -1,4 +1,4 @@
-use Rattle.acas_cli.specs.Words.{Audit, Check, Compile, Drill, Regions, Replay, Values}
+use Rattle.acas_cli_words.specs.Words.{Audit, Check, Compile, Drill, Regions, Replay, Values}
 use Rattle.acas_run_laws.proofs.NotRefused.{ends-well, worth-form}
 use Rattle.acas_run_laws.proofs.ends.right_files_are_not_refused.Goals as goal
 

@@ -1,4 +1,4 @@
-use Rattle.acas_cli.specs.Words.{Compile}
+use Rattle.acas_cli_words.specs.Words.{Compile}
 use Rattle.acas_run_laws.proofs.Causes.{agrees-form}
 use Rattle.acas_run_laws.proofs.CompiledFiles.{compiled-none, compiled-part, compiled-whole}
 use Rattle.acas_run_laws.proofs.folder.compile_writes_its_table.Goals as goal

@@ -2,8 +2,8 @@ use Rattle.std.proofs.Common.{ℕ}
 use Rattle.acas_spec.specs.Model.{ModelData}
 use Rattle.acas_flight.specs.Contact.{IsEndangered}
 use Rattle.acas_flight.specs.State.{State}
-use Rattle.acas_witness.specs.declared.flight.Witness.{Witness}
-use Rattle.acas_cell.specs.Rulings.{ShowsDanger}
+use Rattle.acas_rulings.specs.declared.flight.Witness.{Witness}
+use Rattle.acas_rulings.specs.Rulings.{ShowsDanger}
 use Rattle.acas_run_laws.proofs.verdicts.verdicts_tell_danger.Goals as goal
 
 shown : (m : ModelData) (advisory : ℕ) (IsIn : ℕ → State → Type 0) (w : Witness) (h : ShowsDanger m advisory IsIn w) → IsEndangered m advisory IsIn

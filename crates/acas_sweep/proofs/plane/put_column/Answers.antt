@@ -1,7 +1,7 @@
 use Rattle.std.proofs.Common.{◌≡◌, ℕ, ◌+◌, ◌*◌, ◌<◌, length, ap, subst, sym, ◌∙◌, arith}
 use Rattle.acas_spec.specs.Model.{GridData}
 use Rattle.acas_grid.specs.States.{vertex_at}
-use Rattle.acas_step.specs.Best.{AreVertexEntries, entries_in}
+use Rattle.acas_step_choices.specs.Best.{AreVertexEntries, entries_in}
 use Rattle.acas_step.specs.Columns.{vertex_in}
 use Rattle.acas_sweep.specs.Entries.{AreOver}
 use Rattle.acas_sweep.specs.Filled.{IsFilledTo, pairs_in}

@@ -1,9 +1,9 @@
 use Rattle.std.proofs.Common.{◌≡◌, ◌∙◌, ◌-◌, ◌*◌, ◌≤◌, pos, unsigned_abs, to_z, of_z, arith, mul-le-mul}
 use Rattle.std.specs.Int.{w64}
 use Rattle.std.proofs.lemmas.Int.{ints}
-use Rattle.acas_flight.proofs.Held.{min_scaled, sub_scaled}
-use Rattle.acas_witness.proofs.Portions.{finer}
-use Rattle.acas_witness.proofs.Assembly.{fine_some}
+use Rattle.acas_flight_curves.proofs.Held.{min_scaled, sub_scaled}
+use Rattle.acas_witness_plans.proofs.Portions.{finer}
+use Rattle.acas_witness_response.proofs.Assembly.{fine_some}
 use Rattle.acas_witness.proofs.Contacts.{planned_dens}
 use Rattle.acas_witness.proofs.finding.flight_of.Goals as goal
 

@@ -3,10 +3,10 @@ use Rattle.std.specs.Int.{w64}
 use Rattle.std.proofs.lemmas.Int.{ints}
 use Rattle.acas_passes.specs.declared.steps.TheConstants.{RATE_STEPS}
 use Rattle.acas_passes.specs.Search.{unit, grain, high_flight_from, high_flight}
-use Rattle.acas_witness.specs.Surveys.{search_of}
-use Rattle.acas_witness.proofs.Lines.{outcome_of}
-use Rattle.acas_witness.proofs.Overs.{eighths_of}
-use Rattle.acas_witness.specs.Plans.{IsPlanOf}
+use Rattle.acas_witness_search.specs.Surveys.{search_of}
+use Rattle.acas_witness_plans.proofs.Lines.{outcome_of}
+use Rattle.acas_witness_plans.proofs.Overs.{eighths_of}
+use Rattle.acas_witness_plans.specs.Plans.{IsPlanOf}
 use Rattle.acas_witness.proofs.finding.high_outcome.Goals as goal
 
 pub returns : goal.returns

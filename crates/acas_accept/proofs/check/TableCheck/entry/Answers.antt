@@ -9,7 +9,7 @@ use Rattle.acas_accept.specs.GivenTable.{entry_place}
 use Rattle.acas_accept.proofs.Places.{entry_place-below}
 use Rattle.acas_accept.proofs.Planes.{allowed_at, says_at}
 use Rattle.acas_accept.proofs.Steps.{IsOn, Keeps, Says, check_next, fault_answered, unsound_answered, in_layer_next}
-use Rattle.acas_accept.proofs.Told.{told_both, told_map}
+use Rattle.acas_table.proofs.Told.{told_both, told_map}
 use Rattle.acas_accept.proofs.check.TableCheck.entry.Goals as goal
 
 pub entry-requires-clause-more : goal.entry-requires-clause-more

@@ -1,7 +1,7 @@
 use Rattle.std.proofs.Common.{Ok, Err}
 use Rattle.acas_table.specs.Reader.{Finishes, HasRead}
 use Rattle.acas_accept.proofs.Steps.{end_answered, whole}
-use Rattle.acas_accept.proofs.Told.{told_map}
+use Rattle.acas_table.proofs.Told.{told_map}
 use Rattle.acas_accept.proofs.check.TableCheck.finish.Goals as goal
 
 pub returns-in-Ok-clause-given : goal.returns-in-Ok-clause-given

@@ -5,7 +5,7 @@ use Rattle.acas_grid.specs.Grid.{state_number}
 use Rattle.acas_accept.specs.Checking.{IsBeforeLayer, IsInLayer}
 use Rattle.acas_accept.proofs.Planes.{last_plane}
 use Rattle.acas_accept.proofs.Steps.{before_next_layer}
-use Rattle.acas_accept.proofs.Told.{told_all, told_at, told_then}
+use Rattle.acas_table.proofs.Told.{told_all, told_at, told_then}
 use Rattle.acas_accept.proofs.check.TableCheck.layer.Goals as goal
 
 pub returns-in_err-plane-clause-given : goal.returns-in_err-plane-clause-given

@@ -3,7 +3,7 @@ use Rattle.std.proofs.lemmas.Result.{err_from_is_err_and}
 use Rattle.acas_spec.specs.Model.{GridData, entries, states}
 use Rattle.acas_accept.specs.Checking.{HasAccepted, IsBeforeLayer}
 use Rattle.acas_accept.proofs.Steps.{accepted_at}
-use Rattle.acas_accept.proofs.Told.{told_all, told_at, told_then}
+use Rattle.acas_table.proofs.Told.{told_all, told_at, told_then}
 use Rattle.acas_accept.proofs.check.TableCheck.layers.Goals as goal
 
 pub returns-in_err-layer-clause-given : goal.returns-in_err-layer-clause-given

@@ -6,7 +6,7 @@ use Rattle.acas_table.specs.Reader.{Told}
 use Rattle.acas_accept.specs.GivenTable.{entry_place}
 use Rattle.acas_accept.specs.Checking.{IsCheckOf, IsInLayer}
 use Rattle.acas_accept.proofs.Planes.{next_plane, next_vertex, numbered, state_below}
-use Rattle.acas_accept.proofs.Told.{told_at, told_then}
+use Rattle.acas_table.proofs.Told.{told_at, told_then}
 use Rattle.acas_accept.proofs.check.TableCheck.plane.Goals as goal
 
 pub entry-requires-clause-state : goal.entry-requires-clause-state

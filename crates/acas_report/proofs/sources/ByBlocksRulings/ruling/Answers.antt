@@ -1,7 +1,7 @@
 use Rattle.std.proofs.Common.{◌≡◌, true, sym, ◌∙◌, ap, arith}
-use Rattle.acas_cell.specs.Audits.{certified_at, reported_at}
-use Rattle.acas_cell.specs.Sets.{holds}
-use Rattle.acas_cell.specs.declared.set.AdviceSet.{AdviceSet}
+use Rattle.acas_audit_blocks.specs.Audits.{certified_at, reported_at}
+use Rattle.acas_cells.specs.Sets.{holds}
+use Rattle.acas_cells.specs.declared.set.AdviceSet.{AdviceSet}
 use Rattle.acas_report.proofs.sources.ByBlocksRulings.ruling.Goals as goal
 
 pub certified-requires-clause-place : goal.certified-requires-clause-place

@@ -1,0 +1,6 @@
+pub mod Decided
+pub mod Halves
+pub mod Filled
+pub mod Blocks
+pub mod Counted
+pub mod Ruled

@@ -1,0 +1,257 @@
+-- How the lists of a block audit change while an advice is decided.
+use Rattle.std.proofs.Common.{◌≡◌, ℕ, ◌+◌, ◌*◌, ◌<◌, inl, inr, ◌==◌, ◌&&◌, ◌||◌, not, Bool, true, false, List, length, get_or, set, refl, sym, ◌∙◌, ap, subst, arith}
+use Rattle.std.proofs.lemmas.Bool.{cases_eq}
+use Rattle.std.proofs.lemmas.Bool.Decides.{nat_tests}
+use Rattle.std.proofs.lemmas.List.{get_or-set_other, get_or-set_same, length-set}
+use Rattle.std.proofs.lemmas.Nat.{mul-add-lt, same_from_place}
+use Rattle.acas_spec.specs.Model.{ModelData}
+use Rattle.acas_flight.specs.Contact.{IsEndangeredCell}
+use Rattle.acas_audit_blocks.specs.Audits.{BlockAuditData, HasLists, HaveSameCells, IsBlockIn, IsMoved, IsPlace, IsRuledIn, IsSorted, cell_count, certified_at, danger, no_advice, no_danger, not_asked, place_of, reported_at}
+use Rattle.acas_audit_blocks.specs.BlockStates.{IsEndangeredBlock}
+use Rattle.acas_cells.specs.Blocks.{IsInBlock, altitudes, intruder_rates, is_one_cell, own_rates}
+use Rattle.acas_cells.specs.Sets.{holds}
+use Rattle.acas_cells.specs.declared.block.Block.{Block}
+use Rattle.acas_cells.specs.declared.set.AdviceSet.{AdviceSet}
+use Rattle.acas_audit_blocks.proofs.Halves.{AreParts}
+
+-- ---- what becomes of an advice in the sets of one cell
+
+-- the same where the tests have the same answers
+pub resorted : {D : Type 0} (c r c' r' d s d' s' : Bool) → c ≡ d → r ≡ s → c' ≡ d' → r' ≡ s' → IsSorted D c r c' r' → IsSorted D d s d' s'
+resorted {D = D} c r c' r' d s d' s' e f g h sorted =
+    subst (λ (x : Bool). IsSorted D x s d' s') e
+    (subst (λ (x : Bool). IsSorted D c x d' s') f
+    (subst (λ (x : Bool). IsSorted D c r x s') g
+    (subst (λ (x : Bool). IsSorted D c r c' x) h sorted)))
+
+-- a test has one answer
+pub one_answer : (x : Bool) → x ≡ true → x ≡ false → ⊥
+one_answer x e f = cc
+
+-- nothing is changed where there is danger
+pub kept : {D : Type 0} (c r : Bool) → (r ≡ true → D) → IsSorted D c r c r
+kept c false in_danger = not_asked c
+kept c true in_danger = danger c (in_danger refl)
+
+-- where nothing could be in danger there is none
+pub safe : {D : Type 0} (c r c' r' : Bool) → ¬ D → IsSorted ⊥ c r c' r' → IsSorted D c r c' r'
+safe c r c' r' none (not_asked _) = not_asked c
+safe c r c' r' none (no_danger _ never) = no_danger c none
+safe c r c' r' none (danger _ never) = absurd never
+
+-- ---- places
+
+pub place_in_block : (a : BlockAuditData) (b : Block) (i j k : ℕ) → IsBlockIn a b → IsInBlock b i j k → IsPlace a i j k
+place_in_block a b i j k block inside = record {
+  altitude = omega (arith, block.i, inside.before_i);
+  own = omega (arith, block.j, inside.before_j);
+  intruder = omega (arith, block.k, inside.before_k);
+}
+
+pub same_place : (old new : BlockAuditData) (i j k : ℕ) → HaveSameCells old new → IsPlace old i j k → IsPlace new i j k
+same_place old new i j k same place = record {
+  altitude = omega (arith, place.altitude, same.altitudes);
+  own = omega (arith, place.own, same.own_rates);
+  intruder = omega (arith, place.intruder, same.intruder_rates);
+}
+
+pub place_within : (a : BlockAuditData) (i j k : ℕ) → IsPlace a i j k → place_of a i j k < cell_count a
+place_within a i j k place =
+    let row : i * a.own_rates + j < a.own_rates * a.altitudes = mul-add-lt i a.own_rates j a.altitudes place.altitude place.own in
+    let whole : (i * a.own_rates + j) * a.intruder_rates + k < a.intruder_rates * (a.own_rates * a.altitudes) =
+    mul-add-lt (i * a.own_rates + j) a.intruder_rates k (a.own_rates * a.altitudes) row place.intruder in
+    omega (arith, whole)
+
+-- two cells at one place of the lists are one
+pub one_place : (a : BlockAuditData) (i j k i' j' k' : ℕ) → IsPlace a i j k → IsPlace a i' j' k' → place_of a i j k ≡ place_of a i' j' k' →
+    (i ≡ i') × (j ≡ j') × (k ≡ k')
+one_place a i j k i' j' k' here there same =
+    let rows = same_from_place (i * a.own_rates + j) k (i' * a.own_rates + j') k' a.intruder_rates here.intruder there.intruder same in
+    let columns = same_from_place i j i' j' a.own_rates here.own there.own rows.0 in
+    (columns.0, columns.1, rows.1)
+
+-- ---- blocks
+
+-- an advice that is decided for both parts of a block is decided for the block
+pub ruled_parts : (D : ℕ → ℕ → ℕ → Type 0) (advice : ℕ) (b first second : Block) (old middle new : BlockAuditData) →
+    IsBlockIn old b → AreParts b first second → IsRuledIn D advice first old middle → IsRuledIn D advice second middle new →
+    IsRuledIn D advice b old new
+ruled_parts D advice b first second old middle new block parts before after = record {
+  same = record {
+    altitudes = after.same.altitudes ∙ before.same.altitudes;
+    own_rates = after.same.own_rates ∙ before.same.own_rates;
+    intruder_rates = after.same.intruder_rates ∙ before.same.intruder_rates;
+  };
+  lists = after.lists;
+  inside = λ i j k h.
+      let place = place_in_block old b i j k block h in
+      let later = same_place old middle i j k before.same place in
+      elim (parts.either i j k h) [
+        | inl in_first ↦
+            let stays = after.outside i j k later (parts.apart i j k in_first) in
+            resorted _ _ _ _ _ _ _ _ refl refl (ap (λ (s : AdviceSet). holds s advice) (sym stays.0)) (ap (λ (s : AdviceSet). holds s advice) (sym stays.1)) (before.inside i j k in_first)
+        | inr in_second ↦
+            let stays = before.outside i j k place (λ in_first. parts.apart i j k in_first in_second) in
+            resorted _ _ _ _ _ _ _ _ (ap (λ (s : AdviceSet). holds s advice) stays.0) (ap (λ (s : AdviceSet). holds s advice) stays.1) refl refl (after.inside i j k in_second)
+      ];
+  outside = λ i j k place not_in.
+      let first_stays = before.outside i j k place (λ h. not_in (parts.in_first i j k h)) in
+      let second_stays = after.outside i j k (same_place old middle i j k before.same place) (λ h. not_in (parts.in_second i j k h)) in
+      (second_stays.0 ∙ first_stays.0, second_stays.1 ∙ first_stays.1);
+  others = λ i j k other place apart.
+      let first_stays = before.others i j k other place apart in
+      let second_stays = after.others i j k other (same_place old middle i j k before.same place) apart in
+      (second_stays.0 ∙ first_stays.0, second_stays.1 ∙ first_stays.1);
+}
+
+-- an advice that is taken over for all cells of a block is decided where none of them is in danger
+pub ruled_safe : (D : ℕ → ℕ → ℕ → Type 0) (advice : ℕ) (b : Block) (old new : BlockAuditData) → ((i j k : ℕ) → IsInBlock b i j k → ¬ D i j k) →
+    IsRuledIn (λ i j k. ⊥) advice b old new → IsRuledIn D advice b old new
+ruled_safe D advice b old new none ruled = record {
+  same = ruled.same;
+  lists = ruled.lists;
+  inside = λ i j k h. safe _ _ _ _ (none i j k h) (ruled.inside i j k h);
+  outside = ruled.outside;
+  others = ruled.others;
+}
+
+-- an advice that stays is decided where each cell in which it waits is in danger
+pub ruled_kept : (D : ℕ → ℕ → ℕ → Type 0) (advice : ℕ) (b : Block) (old : BlockAuditData) → HasLists old →
+    ((i j k : ℕ) → IsInBlock b i j k → holds (reported_at old i j k) advice ≡ true → D i j k) → IsRuledIn D advice b old old
+ruled_kept D advice b old lists in_danger = record {
+  same = record { altitudes = refl; own_rates = refl; intruder_rates = refl };
+  lists = lists;
+  inside = λ i j k h. kept (holds (certified_at old i j k) advice) (holds (reported_at old i j k) advice) (in_danger i j k h);
+  outside = λ i j k place not_in. (refl, refl);
+  others = λ i j k other place apart. (refl, refl);
+}
+
+-- ---- an advice that is moved
+
+same_is : (x : ℕ) → (x == x) ≡ true
+same_is x = grind (arith, nat_tests)
+
+other_is : (x y : ℕ) → ¬ (x ≡ y) → (x == y) ≡ false
+other_is x y apart = grind (arith, nat_tests)
+
+or_true : (b h : Bool) → b ≡ true → (b || h) ≡ true
+or_true b h e = rw e refl
+
+or_false : (b h : Bool) → b ≡ false → (b || h) ≡ h
+or_false b h e = rw e refl
+
+not_true : (b h : Bool) → b ≡ true → (not b && h) ≡ false
+not_true b h e = rw e refl
+
+not_false : (b h : Bool) → b ≡ false → (not b && h) ≡ h
+not_false b h e = rw e refl
+
+-- the sets with the advice taken over
+pub moved_over : (advice : ℕ) (c r c' r' : AdviceSet) → holds r advice ≡ true → ((a : ℕ) → holds c' a ≡ (a == advice || holds c a)) →
+    ((a : ℕ) → holds r' a ≡ (not (a == advice) && holds r a)) → IsMoved advice c r c' r'
+moved_over advice c r c' r' there more less = record {
+  sorted = resorted (holds c advice) true true false _ _ _ _ refl (sym there)
+      (sym (more advice ∙ or_true (advice == advice) (holds c advice) (same_is advice)))
+      (sym (less advice ∙ not_true (advice == advice) (holds r advice) (same_is advice)))
+      (no_danger (holds c advice) (λ never. never));
+  others = λ other apart. (
+    more other ∙ or_false (other == advice) (holds c other) (other_is other advice apart),
+    less other ∙ not_false (other == advice) (holds r other) (other_is other advice apart),
+  );
+}
+
+-- the sets as they were, where it is not there
+pub moved_nothing : (advice : ℕ) (c r : AdviceSet) → holds r advice ≡ false → IsMoved advice c r c r
+moved_nothing advice c r none = record {
+  sorted = resorted (holds c advice) false (holds c advice) false _ _ _ _ refl (sym none) refl (sym none) (not_asked (holds c advice));
+  others = λ other apart. (refl, refl);
+}
+
+-- ---- one cell
+
+one_sides : (x y z : ℕ) → ((x == 1 && y == 1) && z == 1) ≡ true → (x ≡ 1) × (y ≡ 1) × (z ≡ 1)
+one_sides x y z h = (grind (arith, nat_tests), grind (arith, nat_tests), grind (arith, nat_tests))
+
+-- the one cell of a block
+pub in_one_cell : (b : Block) (i j k : ℕ) → is_one_cell b ≡ true → IsInBlock b i j k → (i ≡ b.i0) × (j ≡ b.j0) × (k ≡ b.k0)
+in_one_cell b i j k one h =
+    let sides = one_sides (altitudes b) (own_rates b) (intruder_rates b) one in
+    (omega (arith, sides.0, h.from_i, h.before_i), omega (arith, sides.1, h.from_j, h.before_j), omega (arith, sides.2, h.from_k, h.before_k))
+
+pub is_in_one_cell : (a : BlockAuditData) (b : Block) → IsBlockIn a b → IsInBlock b b.i0 b.j0 b.k0
+is_in_one_cell a b block = record {
+  from_i = omega arith;
+  from_j = omega arith;
+  from_k = omega arith;
+  before_i = block.some.i;
+  before_j = block.some.j;
+  before_k = block.some.k;
+}
+
+-- the audit with other sets at a place of the lists
+abbrev pub with_sets : BlockAuditData → ℕ → AdviceSet → AdviceSet → BlockAuditData
+with_sets old place certified reported = record old { certified = set old.certified place certified; reported = set old.reported place reported }
+
+-- an advice that is taken over in a cell
+pub ruled_cell : (advice : ℕ) (b : Block) (old : BlockAuditData) (certified reported : AdviceSet) → HasLists old → IsBlockIn old b → is_one_cell b ≡ true →
+    IsMoved advice (certified_at old b.i0 b.j0 b.k0) (reported_at old b.i0 b.j0 b.k0) certified reported →
+    IsRuledIn (λ i j k. ⊥) advice b old (with_sets old (place_of old b.i0 b.j0 b.k0) certified reported)
+ruled_cell advice b old certified reported lists block one moved = record {
+  same = record { altitudes = refl; own_rates = refl; intruder_rates = refl };
+  lists = record {
+    certified = length-set old.certified place certified ∙ lists.certified;
+    reported = length-set old.reported place reported ∙ lists.reported;
+  };
+  inside = λ i j k h.
+      let only = in_one_cell b i j k one h in
+      let here : place_of old i j k ≡ place = rw (only.0, only.1, only.2) refl in
+      resorted _ _ _ _ _ _ _ _
+      (ap (λ (p : ℕ). holds (get_or old.certified p no_advice) advice) (sym here))
+      (ap (λ (p : ℕ). holds (get_or old.reported p no_advice) advice) (sym here))
+      (ap (λ (s : AdviceSet). holds s advice) (sym (at_place old.certified certified lists.certified (place_of old i j k) here)))
+      (ap (λ (s : AdviceSet). holds s advice) (sym (at_place old.reported reported lists.reported (place_of old i j k) here)))
+      moved.sorted;
+  outside = λ i j k there not_in.
+      let apart : ¬ (place_of old i j k ≡ place) = λ same.
+      let only = one_place old i j k b.i0 b.j0 b.k0 there in_grid same in
+      not_in (rw (only.0, only.1, only.2) is_in)
+      in
+      (get_or-set_other old.certified place (place_of old i j k) certified no_advice apart, get_or-set_other old.reported place (place_of old i j k) reported no_advice apart);
+  others = λ i j k other there differs.
+      elim (cases_eq (place_of old i j k) place) [
+        | inl here ↦
+            let stays = moved.others other differs in (
+              ap (λ (s : AdviceSet). holds s other) (at_place old.certified certified lists.certified (place_of old i j k) here) ∙ stays.0
+                  ∙ ap (λ (p : ℕ). holds (get_or old.certified p no_advice) other) (sym here),
+              ap (λ (s : AdviceSet). holds s other) (at_place old.reported reported lists.reported (place_of old i j k) here) ∙ stays.1
+                  ∙ ap (λ (p : ℕ). holds (get_or old.reported p no_advice) other) (sym here),
+            )
+        | inr apart ↦ (
+          ap (λ (s : AdviceSet). holds s other) (get_or-set_other old.certified place (place_of old i j k) certified no_advice apart),
+          ap (λ (s : AdviceSet). holds s other) (get_or-set_other old.reported place (place_of old i j k) reported no_advice apart),
+        )
+      ];
+}
+  where
+    place : ℕ
+    place = place_of old b.i0 b.j0 b.k0
+
+    is_in : IsInBlock b b.i0 b.j0 b.k0
+    is_in = is_in_one_cell old b block
+
+    in_grid : IsPlace old b.i0 b.j0 b.k0
+    in_grid = place_in_block old b b.i0 b.j0 b.k0 block is_in
+
+    at_place : (list : List AdviceSet) (s : AdviceSet) → length list ≡ cell_count old → (p : ℕ) → p ≡ place → get_or (set list place s) p no_advice ≡ s
+    at_place list s long p here =
+        rw here (get_or-set_same list place s no_advice (omega (arith, place_within old b.i0 b.j0 b.k0 in_grid, long)))
+
+-- where a block of one cell is in danger, that cell is
+pub danger_everywhere : (m : ModelData) (n advice : ℕ) (b : Block) → is_one_cell b ≡ true → IsEndangeredBlock m n advice b →
+    (i j k : ℕ) → IsInBlock b i j k → IsEndangeredCell m n i j k advice
+danger_everywhere m n advice b one some i j k h =
+    let here = in_one_cell b i j k one h in
+    let there = in_one_cell b some.i some.j some.k one some.inside in
+    subst (λ (x : ℕ). IsEndangeredCell m n x j k advice) (there.0 ∙ sym here.0)
+    (subst (λ (y : ℕ). IsEndangeredCell m n some.i y k advice) (there.1 ∙ sym here.1)
+    (subst (λ (z : ℕ). IsEndangeredCell m n some.i some.j z advice) (there.2 ∙ sym here.2) some.danger))

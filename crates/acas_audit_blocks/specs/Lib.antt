@@ -1,0 +1,3 @@
+pub mod Audits
+pub mod BlockStates
+pub mod Decisions

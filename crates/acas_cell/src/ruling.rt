@@ -1,9 +1,0 @@
-//! What is found out of a cell or a box.
-use acas_witness::Witness;
-
-/// No flight from the cell or box that meets the advisory ends in contact; or one does, and the witness is such a flight.
-#[derive(Clone, Copy, Debug)]
-pub enum Ruling {
-    Certified,
-    Reported(Witness),
-}

@@ -1,0 +1,31 @@
+-- The form of a command.
+use Rattle.std.specs.Prelude.{◌≡◌, ◌≤◌, Option, Some, None, ⊤}
+use Rattle.acas_units.specs.declared.limits.TheConstants.{GREATEST_DRILL_NUMBER}
+use Rattle.acas_cli_words.specs.Words.{Form, Values, Compile, Check, Audit, Regions, Replay, Drill}
+use Rattle.acas_cli_words.specs.declared.words.Command.{Command}
+use Rattle.acas_cli_words.specs.declared.words.Command.TheVariants.{Values as ValuesCommand, Compile as CompileCommand, Check as CheckCommand, Audit as AuditCommand, Regions as RegionsCommand, Replay as ReplayCommand, Drill as DrillCommand}
+
+-- a command has the form of its words
+abbrev pub form_of_command : Command → Form
+form_of_command (ValuesCommand model) = Values model.now
+form_of_command (CompileCommand model table) = Compile model.now table.now
+form_of_command (CheckCommand model table) = Check model.now table.now
+form_of_command (AuditCommand model table which) = Audit model.now table.now which
+form_of_command (RegionsCommand model boxes) = Regions model.now boxes.now
+form_of_command (ReplayCommand model table encounter) = Replay model.now table.now encounter.now
+form_of_command (DrillCommand number) = Drill number
+
+-- there is a command exactly where there is a form, and it has that form
+abbrev pub HasForm : Option Command → Option Form → Type 0
+HasForm None form = form ≡ None
+HasForm (Some command) form = form ≡ Some (form_of_command command)
+
+-- a drill's number is within its limit
+abbrev pub HasNumber : Form → Type 0
+HasNumber (Values model) = ⊤
+HasNumber (Compile model table) = ⊤
+HasNumber (Check model table) = ⊤
+HasNumber (Audit model table which) = ⊤
+HasNumber (Regions model boxes) = ⊤
+HasNumber (Replay model table encounter) = ⊤
+HasNumber (Drill number) = number ≤ GREATEST_DRILL_NUMBER

@@ -1,0 +1,58 @@
+-- The forms of words.
+use Rattle.std.specs.Prelude.{ℕ, nat_le, not, ◌==◌, ◌&&◌, Bool, List, [], ◌∷◌, length, slice_index, Option, Some, None, if◌then◌else◌, codes}
+use Rattle.std.specs.Option.{option_map}
+use Rattle.std.specs.Str.{bytes_eq}
+use Rattle.acas_units.specs.declared.limits.TheConstants.{FILE_NAME_BYTES}
+use Rattle.acas_drill_model.specs.Word.{drill_number}
+use Rattle.acas_report_lines.specs.declared.counts.Which.{Which}
+use Rattle.acas_report_lines.specs.declared.counts.Which.TheVariants.{All, Reported}
+
+-- a command with the names of its files, each as the bytes of its word, which lines an audit prints, and a drill's number
+pub data Form : Type 0 where
+  Values : (model : List ℕ) → Form
+  Compile : (model table : List ℕ) → Form
+  Check : (model table : List ℕ) → Form
+  Audit : (model table : List ℕ) (which : Which) → Form
+  Regions : (model boxes : List ℕ) → Form
+  Replay : (model table encounter : List ℕ) → Form
+  Drill : (number : ℕ) → Form
+
+-- a file is named by at least one byte and not too many, the first of which is no `-`
+abbrev pub is_file_name : List ℕ → Bool
+is_file_name word = nat_le 1 (length word) && nat_le (length word) FILE_NAME_BYTES && not (slice_index word 0 == 45)
+
+-- two names of files, which may be the same
+abbrev pub are_file_names : List ℕ → List ℕ → Bool
+are_file_names first second = is_file_name first && is_file_name second
+
+-- two names of files, of which the second is written, and so is not the first
+abbrev pub are_apart : List ℕ → List ℕ → Bool
+are_apart read written = are_file_names read written && not (bytes_eq read written)
+
+-- the form that the words have; most words have none
+abbrev pub form_of : List (List ℕ) → Option Form
+form_of (verb ∷ word ∷ []) =
+    if bytes_eq verb (codes "values") && is_file_name word then Some (Values word)
+    else if bytes_eq verb (codes "drill") then option_map Drill (drill_number word)
+    else None
+form_of (verb ∷ model ∷ second ∷ []) =
+    if bytes_eq verb (codes "compile") && are_apart model second then Some (Compile model second)
+    else if bytes_eq verb (codes "check") && are_file_names model second then Some (Check model second)
+    else if bytes_eq verb (codes "audit") && are_file_names model second then Some (Audit model second All)
+    else if bytes_eq verb (codes "regions") && are_file_names model second then Some (Regions model second)
+    else None
+form_of (verb ∷ model ∷ table ∷ third ∷ []) =
+    if bytes_eq verb (codes "audit") && are_file_names model table && bytes_eq third (codes "--reported") then Some (Audit model table Reported)
+    else if bytes_eq verb (codes "replay") && are_file_names model table && is_file_name third then Some (Replay model table third)
+    else None
+form_of words = None
+
+-- the files that a form names
+abbrev pub names_of : Form → List (List ℕ)
+names_of (Values model) = model ∷ []
+names_of (Compile model table) = model ∷ table ∷ []
+names_of (Check model table) = model ∷ table ∷ []
+names_of (Audit model table which) = model ∷ table ∷ []
+names_of (Regions model boxes) = model ∷ boxes ∷ []
+names_of (Replay model table encounter) = model ∷ table ∷ encounter ∷ []
+names_of (Drill number) = []

@@ -1,0 +1,154 @@
+//! The forms of words.
+ghost use Rattle.std.specs.Prelude.{◌≡◌, ◌∷◌, [], map, string_bytes};
+ghost use Rattle.acas_cli_words.specs.Forms.{HasForm};
+ghost use Rattle.acas_cli_words.specs.Words.{are_apart, are_file_names, form_of, is_file_name};
+
+use acas_drill_model::drill_number;
+use acas_report_lines::Which;
+use acas_units::FILE_NAME_BYTES;
+
+/// A command, with the names of its files, which lines an audit prints, and the number of a drill.
+#[derive(Clone, Copy, Debug)]
+pub enum Command<'w> {
+    /// `values M`: print the table of a model.
+    Values {
+        model: &'w str,
+    },
+    /// `compile M T`: store the compiled table of a model.
+    Compile {
+        model: &'w str,
+        table: &'w str,
+    },
+    /// `check M T`: check a table of a model.
+    Check {
+        model: &'w str,
+        table: &'w str,
+    },
+    /// `audit M T`, and with `--reported` behind it: rule on each advisory cell of a table.
+    Audit {
+        model: &'w str,
+        table: &'w str,
+        which: Which,
+    },
+    /// `regions M B`: rule on each box of a file.
+    Regions {
+        model: &'w str,
+        boxes: &'w str,
+    },
+    /// `replay M T E`: fly an encounter under the advice of a table.
+    Replay {
+        model: &'w str,
+        table: &'w str,
+        encounter: &'w str,
+    },
+    /// `drill K`: compile, accept and audit the model of a number.
+    Drill {
+        number: u32,
+    },
+}
+
+/// The command of the words after the program's name, or None where they are no form. It takes no memory.
+pub fn command_of(words: &[String]) -> Option<Command<'_>>
+    ensures { HasForm result (form_of (map string_bytes words.now)) }
+{
+    match words {
+        [verb, word] => of_two_words(verb.as_str(), word.as_str()),
+        [verb, model, second] => of_three_words(verb.as_str(), model.as_str(), second.as_str()),
+        [verb, model, table, third] => {
+            of_four_words(
+                verb.as_str(),
+                model.as_str(),
+                table.as_str(),
+                third.as_str(),
+            )
+        }
+        _ => None,
+    }
+}
+
+fn of_two_words<'w>(verb: &str, word: &'w str) -> Option<Command<'w>>
+    ensures { HasForm result (form_of (verb.now ∷ word.now ∷ [])) }
+{
+    if verb == "values" && is_file_name(word) {
+        return Some(Command::Values { model: word });
+    }
+    if verb != "drill" {
+        return None;
+    }
+    match drill_number(word) {
+        Some(number) => Some(Command::Drill { number }),
+        None => None,
+    }
+}
+
+fn of_three_words<'w>(verb: &str, model: &'w str, second: &'w str) -> Option<Command<'w>>
+    ensures { HasForm result (form_of (verb.now ∷ model.now ∷ second.now ∷ [])) }
+{
+    if verb == "compile" && are_apart(model, second) {
+        Some(Command::Compile {
+            model,
+            table: second,
+        })
+    } else if verb == "check" && are_file_names(model, second) {
+        Some(Command::Check {
+            model,
+            table: second,
+        })
+    } else if verb == "audit" && are_file_names(model, second) {
+        Some(Command::Audit {
+            model,
+            table: second,
+            which: Which::All,
+        })
+    } else if verb == "regions" && are_file_names(model, second) {
+        Some(Command::Regions {
+            model,
+            boxes: second,
+        })
+    } else {
+        None
+    }
+}
+
+fn of_four_words<'w>(
+    verb: &str,
+    model: &'w str,
+    table: &'w str,
+    third: &'w str,
+) -> Option<Command<'w>>
+    ensures { HasForm result (form_of (verb.now ∷ model.now ∷ table.now ∷ third.now ∷ [])) }
+{
+    if verb == "audit" && are_file_names(model, table) && third == "--reported" {
+        Some(Command::Audit {
+            model,
+            table,
+            which: Which::Reported,
+        })
+    } else if verb == "replay" && are_file_names(model, table) && is_file_name(third) {
+        Some(Command::Replay {
+            model,
+            table,
+            encounter: third,
+        })
+    } else {
+        None
+    }
+}
+
+fn is_file_name(word: &str) -> bool
+    ensures { result ≡ is_file_name word.now }
+{
+    !word.is_empty() && word.len() <= FILE_NAME_BYTES && word.as_bytes()[0] != b'-'
+}
+
+fn are_apart(read: &str, written: &str) -> bool
+    ensures { result ≡ are_apart read.now written.now }
+{
+    are_file_names(read, written) && read != written
+}
+
+fn are_file_names(first: &str, second: &str) -> bool
+    ensures { result ≡ are_file_names first.now second.now }
+{
+    is_file_name(first) && is_file_name(second)
+}

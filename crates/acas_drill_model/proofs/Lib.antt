@@ -1,0 +1,3 @@
+pub mod WithinLimits
+pub mod Words
+pub mod SteppedAxes

@@ -1,0 +1,16 @@
+pub mod Gains
+pub mod Falling
+pub mod Within
+pub mod Approaches
+pub mod Gentle
+pub mod Turns
+pub mod Neighbours
+pub mod Deficits
+pub mod Ends
+pub mod Joins
+pub mod Ones
+pub mod Touching
+pub mod Founds
+pub mod Changes
+pub mod Flown
+pub mod Somes

@@ -1,5 +1,0 @@
-use Rattle.acas_passes.proofs.Ones.{found-one}
-use Rattle.acas_passes.proofs.laws.found_flights_are_one.Goals as goal
-
-pub returns : goal.returns
-returns c = found-one

@@ -1,0 +1,6 @@
+pub mod LeastGaps
+pub mod Scaling
+pub mod Sizes
+pub mod Products
+pub mod Ends
+pub mod Climbs

@@ -1,0 +1,5 @@
+pub mod Limits
+pub mod Scaling
+pub mod Chases
+pub mod Sizes
+pub mod View

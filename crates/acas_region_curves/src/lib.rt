@@ -1,0 +1,10 @@
+//! Areas and windows as values, and the two curves as exact fractions.
+#![tactic(auto)]
+
+mod curve;
+mod fineness;
+mod parts;
+
+pub use curve::{approach, held, numerator, rate_parts};
+pub use fineness::{HOLD_PARTS, PULL_PARTS, RATE_PARTS, TIME_PARTS};
+pub use parts::{Asked, BoxState, Chase, Extreme, Moment, Window};

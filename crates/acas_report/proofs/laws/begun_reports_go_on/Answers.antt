@@ -1,9 +1,0 @@
-use Rattle.acas_cell.specs.Corners.{advisory_cells}
-use Rattle.acas_cell.specs.Rulings.{IsRulingOfCell}
-use Rattle.acas_report.specs.Report.{clear_cells, report_text}
-use Rattle.acas_report.proofs.Begun.{goes_on}
-use Rattle.acas_report.proofs.laws.begun_reports_go_on.Goals as goal
-
-pub returns : goal.returns
-returns c m a which old new all begun =
-    goes_on (IsRulingOfCell m) (advisory_cells m a) (clear_cells m a) (report_text m a which) old new all begun

@@ -1,0 +1,65 @@
+use Rattle.std.proofs.Common.{◌≡◌, ◌==◌, ◌&&◌, ◌+◌, ℕ, false, not, cond, [], ◌∷◌, sym, ◌∙◌, ap, refl}
+use Rattle.std.specs.List.{flat_map}
+use Rattle.std.proofs.lemmas.List.{append-nil}
+use Rattle.acas_outside.proofs.Appended.{on_err_always}
+use Rattle.acas_cells.specs.Cells.{Cell, below, cell_at}
+use Rattle.acas_cells.specs.Corners.{under, names_at, is_at_corner, is_clear_cell}
+use Rattle.acas_cells.specs.Sets.{holds}
+use Rattle.acas_cells.specs.declared.set.AdviceSet.{AdviceSet}
+use Rattle.acas_spec.specs.Model.{ModelData}
+use Rattle.acas_base.specs.Advices.{AdvicesData}
+use Rattle.acas_report_lines.specs.Plan.{chosen}
+use Rattle.acas_report_lines.proofs.Carry.{carry_broke, names_eq, room_cell, room_clear, wrote_cell}
+use Rattle.acas_report_lines.proofs.cells.write_cell.Goals as goal
+
+-- the advices that are chosen are those that are tabled at the corners
+chosen_are : (m : ModelData) (a : AdvicesData) (cell : Cell) (set : AdviceSet) → ((b : ℕ) → holds set b ≡ is_at_corner m a cell b) → flat_map (chosen cell (holds set)) (below m.grid.advisories (λ b. b ∷ [])) ≡ names_at m a cell
+chosen_are m a cell set exact =
+    names_eq m.grid.advisories (chosen cell (holds set)) _
+    (λ b. ap (λ q. cond (not (b == 0) && q) (under cell b ∷ []) []) (exact b))
+
+pub count_cell-requires : goal.count_cell-requires
+count_cell-requires g c is =
+    let at = c.args.at in
+    let m = c.args.audit.now.model.now in
+    let a = c.args.audit.now.advices.now in
+    let cell = cell_at at.n at.present at.i at.j at.k in
+    room_clear m c.args.audit.now.which (names_at m a) (is_clear_cell m a) cell _ c.requires.room
+    (sym c.advices_at-set.ensures.clear ∙ sym c.has_no_advisory.ensures ∙ is)
+
+pub write_advised-requires-clause-room : goal.write_advised-requires-clause-room
+write_advised-requires-clause-room g c =
+    let at = c.args.at in
+    let m = c.args.audit.now.model.now in
+    let a = c.args.audit.now.advices.now in
+    let cell = cell_at at.n at.present at.i at.j at.k in
+    let clear = c.has_no_advisory.ensures ∙ c.advices_at-set.ensures.clear in
+    room_cell m c.args.audit.now.which (chosen cell (holds c.advices_at-set.result)) (below m.grid.advisories (λ b. b ∷ [])) (names_at m a) (is_clear_cell m a) cell _ _
+    (chosen_are m a cell c.advices_at-set.result c.advices_at-set.ensures.exact)
+    c.count_cell.ensures.certified c.count_cell.ensures.reported
+    (c.count_cell.ensures.clear ∙ ap (λ b. cond b (c.args.pen.now.counts.clear + 1) c.args.pen.now.counts.clear) clear)
+    c.requires.room
+
+pub returns-clause-ok : goal.returns-clause-ok
+returns-clause-ok g c =
+    let at = c.args.at in
+    let m = c.args.audit.now.model.now in
+    let a = c.args.audit.now.advices.now in
+    let cell = cell_at at.n at.present at.i at.j at.k in
+    let clear = c.has_no_advisory.ensures ∙ c.advices_at-set.ensures.clear in
+    wrote_cell m c.args.audit.now.which (chosen cell (holds c.advices_at-set.result)) (below m.grid.advisories (λ b. b ∷ [])) (names_at m a) (is_clear_cell m a) cell _ _ _
+    (chosen_are m a cell c.advices_at-set.result c.advices_at-set.ensures.exact) refl refl
+    c.count_cell.ensures.certified c.count_cell.ensures.reported
+    (c.count_cell.ensures.clear ∙ ap (λ b. cond b (c.args.pen.now.counts.clear + 1) c.args.pen.now.counts.clear) clear)
+    c.in_ok-write_advised.ensures.ok
+
+pub returns-in_err-write_advised-clause-err : goal.returns-in_err-write_advised-clause-err
+returns-in_err-write_advised-clause-err g c =
+    let at = c.args.at in
+    let m = c.args.audit.now.model.now in
+    let a = c.args.audit.now.advices.now in
+    let cell = cell_at at.n at.present at.i at.j at.k in
+    let names : flat_map (chosen cell (holds c.advices_at-set.result)) (below m.grid.advisories (λ b. b ∷ [])) ≡ flat_map (names_at m a) (cell ∷ []) =
+    chosen_are m a cell c.advices_at-set.result c.advices_at-set.ensures.exact ∙ sym (append-nil (names_at m a cell)) in
+    on_err_always _ (carry_broke m c.args.audit.now.which (chosen cell (holds c.advices_at-set.result)) (λ b. false) (names_at m a) (is_clear_cell m a) (below m.grid.advisories (λ b. b ∷ [])) (cell ∷ []) _ _ _
+    names c.in_err-write_advised.ensures.err)

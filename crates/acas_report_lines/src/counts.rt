@@ -1,0 +1,78 @@
+//! What a report counts, which lines it has, and why it may not be written.
+ghost use Rattle.std.specs.Prelude.{◌≡◌, ◌+◌, ◌<◌, ◌^◌, if◌then◌else◌, true};
+ghost use Rattle.acas_report_lines.specs.Plan.{total};
+ghost use Rattle.acas_report_lines.specs.Report.{is_left_out};
+ghost use Rattle.acas_report_lines.specs.Text.{is_certified};
+
+use acas_rulings::Ruling;
+use thiserror::Error;
+
+/// How many lines there are of each kind, those that are left out included, and how many clear cells.
+#[derive(Clone, Copy, Debug, PartialEq, Eq)]
+pub struct Counts {
+    pub certified: u64,
+    pub reported: u64,
+    pub clear: u64,
+}
+
+/// Which lines are written.
+#[derive(Clone, Copy, Debug, PartialEq, Eq)]
+pub enum Which {
+    /// Each line.
+    All,
+    /// Each line but the certified ones.
+    Reported,
+}
+
+/// Why a report was not written whole.
+#[derive(Clone, Copy, Debug, PartialEq, Eq, Error)]
+pub enum ReportFault {
+    /// The sink failed.
+    #[error("the sink failed")]
+    Sink = 1,
+    /// There was no memory for the line and the buffer.
+    #[error("out of memory")]
+    Memory = 2,
+}
+
+/// Whether the line of such a ruling is left out.
+pub(crate) fn leaves_out(which: Which, ruling: &Ruling) -> bool
+    ensures { result ≡ is_left_out which ruling.now }
+{
+    match which {
+        Which::All => false,
+        Which::Reported => match ruling {
+            Ruling::Certified => true,
+            Ruling::Reported(_) => false,
+        },
+    }
+}
+
+impl Counts {
+    /// Counts a ruling.
+    pub(crate) fn count(&mut self, ruling: &Ruling)
+        requires { total self.old + 1 < 2 ^ 64 }
+        ensures certified { self.new.certified ≡
+            (if is_certified ruling.now then self.old.certified + 1 else self.old.certified) }
+        ensures reported { self.new.reported ≡
+            (if is_certified ruling.now then self.old.reported else self.old.reported + 1) }
+        ensures clear { self.new.clear ≡ self.old.clear }
+    {
+        match ruling {
+            Ruling::Certified => self.certified += 1,
+            Ruling::Reported(_) => self.reported += 1,
+        }
+    }
+
+    /// Counts a cell, where it is clear.
+    pub(crate) fn count_cell(&mut self, is_clear: bool)
+        requires { is_clear ≡ true → total self.old + 1 < 2 ^ 64 }
+        ensures certified { self.new.certified ≡ self.old.certified }
+        ensures reported { self.new.reported ≡ self.old.reported }
+        ensures clear { self.new.clear ≡ (if is_clear then self.old.clear + 1 else self.old.clear) }
+    {
+        if is_clear {
+            self.clear += 1;
+        }
+    }
+}

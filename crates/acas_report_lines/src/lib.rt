@@ -1,0 +1,23 @@
+//! The lines of reports, one for each ruling of a cell or a box, whatever the rulings come from.
+#![tactic(auto)]
+
+mod audit;
+mod cells;
+mod counts;
+mod fields;
+mod laws;
+mod lines;
+mod pen;
+mod regions;
+mod report;
+mod rulings;
+mod witness_fields;
+
+pub use counts::{Counts, ReportFault, Which};
+pub use fields::line_frac;
+pub use laws::{begun_regions_reports_go_on, begun_reports_go_on};
+pub use lines::line_counts;
+pub use regions::write_regions_by;
+pub use report::write_report_by;
+pub use rulings::{BoxRulings, Rulings};
+pub use witness_fields::line_witness;

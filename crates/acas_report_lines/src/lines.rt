@@ -1,0 +1,128 @@
+//! The lines of a report.
+ghost use Rattle.std.specs.Prelude.{◌≡◌, ◌+◌, ◌<◌, ◌≤◌, ◌++◌, length};
+ghost use Rattle.acas_spec.specs.Model.{advisory_at};
+ghost use Rattle.acas_report_lines.specs.Text.{box_counts_text, box_line, cell_line, cell_text, counts_text, ruling_text};
+
+use crate::counts::Counts;
+use crate::fields::{line_count, line_name};
+use crate::witness_fields::{WITNESS_BYTES, line_witness};
+use acas_base::Model;
+use acas_cells::CellName;
+use acas_rulings::Ruling;
+use acas_units::{GREATEST_NAME_BYTES, LINE_BYTES, Line};
+
+/// The greatest number of bytes with which a line begins: a word, four numbers and two names.
+const HEAD_BYTES: usize = 88 + 2 * (GREATEST_NAME_BYTES + 1);
+
+/// The greatest number of bytes of the counts of an audit: three words, three numbers and the end of the line.
+pub const COUNTS_BYTES: usize = 88;
+
+/// The greatest number of bytes of a ruling: a word, a witness and the end of the line.
+const RULING_BYTES: usize = WITNESS_BYTES + 10;
+
+/// Makes the line of a cell under an advice.
+pub(crate) fn write_cell_line(line: &mut Line, model: &Model, name: &CellName, ruling: &Ruling)
+    requires present { name.now.present < model.now.grid.advisories }
+    requires advice { name.now.advice < model.now.grid.advisories }
+    ensures value { line.new ≡ cell_line model.now name.now ruling.now }
+    ensures short { length line.new ≤ LINE_BYTES }
+{
+    begin_cell_line(line, model, name);
+    line_ruling(line, ruling);
+}
+
+/// Makes the line of a box.
+#[tactic(auto, unfolding(crate::specs::Text::box_text))]
+pub(crate) fn write_box_line(line: &mut Line, number: u32, ruling: &Ruling)
+    ensures value { line.new ≡ box_line number ruling.now }
+    ensures short { length line.new ≤ LINE_BYTES }
+{
+    line.clear();
+    line.push(b"box");
+    line_count(line, u64::from(number));
+    line_ruling(line, ruling);
+}
+
+/// Makes the last line of an audit.
+pub(crate) fn write_counts(line: &mut Line, counts: &Counts)
+    ensures value { line.new ≡ counts_text counts.now }
+    ensures short { length line.new ≤ LINE_BYTES }
+{
+    line.clear();
+    line_counts(line, counts);
+}
+
+/// Appends the last line of an audit: the counts.
+#[tactic(auto, unfolding(crate::specs::Text::counts_text))]
+pub fn line_counts(line: &mut Line, counts: &Counts)
+    requires { length line.old + COUNTS_BYTES ≤ LINE_BYTES }
+    ensures value { line.new ≡ line.old ++ counts_text counts.now }
+    ensures room { length line.new ≤ length line.old + COUNTS_BYTES }
+{
+    line.push(b"certified");
+    line_count(line, counts.certified);
+    line.push(b" reported");
+    line_count(line, counts.reported);
+    line.push(b" clear");
+    line_count(line, counts.clear);
+    line.push(b"\n");
+}
+
+/// Makes the last line of a box file's report.
+#[tactic(auto, unfolding(crate::specs::Text::box_counts_text))]
+pub(crate) fn write_box_counts(line: &mut Line, counts: &Counts)
+    ensures value { line.new ≡ box_counts_text counts.now }
+    ensures short { length line.new ≤ LINE_BYTES }
+{
+    line.clear();
+    line.push(b"certified");
+    line_count(line, counts.certified);
+    line.push(b" reported");
+    line_count(line, counts.reported);
+    line.push(b"\n");
+}
+
+// Begins the line of a cell under an advice.
+#[tactic(auto, unfolding(crate::specs::Text::cell_text))]
+fn begin_cell_line(line: &mut Line, model: &Model, name: &CellName)
+    requires present { name.now.present < model.now.grid.advisories }
+    requires advice { name.now.advice < model.now.grid.advisories }
+    ensures value { line.new ≡ cell_text model.now name.now }
+    ensures short { length line.new ≤ HEAD_BYTES }
+{
+    line.clear();
+    line.push(b"cell");
+    line_count(line, u64::from(name.n));
+    line_name(line, name_of(model, name.present));
+    line_count(line, u64::from(name.i));
+    line_count(line, u64::from(name.j));
+    line_count(line, u64::from(name.k));
+    line_name(line, name_of(model, name.advice));
+}
+
+// The name of an advisory.
+fn name_of(model: &Model, advisory: u8) -> &[u8]
+    requires { advisory < model.now.grid.advisories }
+    ensures value { result.now ≡ (advisory_at model.now advisory).name }
+    ensures short { length result.now ≤ GREATEST_NAME_BYTES }
+{
+    // Its names are not too long, as all of a model's are.
+    let _ = model.grid();
+    model.advisory(advisory).name.bytes()
+}
+
+// Appends what the line says of a cell or box, and ends it.
+fn line_ruling(line: &mut Line, ruling: &Ruling)
+    requires { length line.old + RULING_BYTES ≤ LINE_BYTES }
+    ensures value { line.new ≡ line.old ++ ruling_text ruling.now }
+    ensures room { length line.new ≤ length line.old + RULING_BYTES }
+{
+    match ruling {
+        Ruling::Certified => line.push(b" certified\n"),
+        Ruling::Reported(witness) => {
+            line.push(b" reported");
+            line_witness(line, witness);
+            line.push(b"\n");
+        }
+    }
+}

@@ -1,0 +1,66 @@
+//! Where rulings come from.
+ghost use Rattle.std.specs.Prelude.{◌≡◌, ◌+◌, ◌<◌, ◌≤◌, ◌^◌, ℕ};
+ghost use Rattle.acas_spec.specs.Model.{ModelData};
+ghost use Rattle.acas_base.specs.Advices.{AdvicesData, AreAdvicesOf};
+ghost use Rattle.acas_rulings.specs.Boxes.{IsBoxOf, audited};
+ghost use Rattle.acas_cells.specs.Cells.{IsCellOf};
+ghost use Rattle.acas_cells.specs.DecisionCounts.{most_decisions};
+ghost use Rattle.acas_cells.specs.Order.{cell_of};
+ghost use Rattle.acas_rulings.specs.Rulings.{IsRulingOfBox, IsRulingOfCell};
+
+use acas_base::{Advices, Model};
+use acas_cells::CellName;
+use acas_count::Counter;
+use acas_rulings::{AuditBox, Ruling};
+
+/// A source of rulings on cells.
+pub trait Rulings {
+    /// The work that is one decision.
+    type Decision;
+
+    /// It was made for a model.
+    ghost fits: { Self → ModelData → Type 0 };
+
+    /// The cells of n seconds and a present advisory are prepared for a model.
+    ghost ready: { Self → ModelData → ℕ → ℕ → Type 0 };
+
+    /// So many decisions prepare the cells of n seconds and a present advisory, for a model and the advices of its table.
+    ghost takes: { ModelData → AdvicesData → ℕ → ℕ → ℕ → Type 0 };
+
+    /// Prepares the cells of n seconds and a present advisory. It counts each decision.
+    fn prepare(
+        &mut self,
+        model: &Model,
+        advices: &Advices,
+        n: u32,
+        present: u8,
+        count: &mut Counter<Self::Decision>,
+    )
+        requires fits { fits self.old model.now }
+        requires advices { AreAdvicesOf model.now advices.now }
+        requires n { n < model.now.grid.horizon }
+        requires present { present < model.now.grid.advisories }
+        requires room { count.old + most_decisions model.now < 2 ^ 64 }
+        ensures fits { fits self.new model.now }
+        ensures ready { ready self.new model.now n present }
+        ensures counted { (number : ℕ) × takes model.now advices.now n present number
+            × (count.new ≡ count.old + number) }
+        ensures most { count.new ≤ count.old + most_decisions model.now }
+        ensures rising { count.old ≤ count.new };
+
+    /// The ruling of a cell under an advice.
+    fn ruling(&self, model: &Model, name: &CellName) -> Ruling
+        requires ready { ready self.now model.now name.now.n name.now.present }
+        requires cell { IsCellOf model.now (cell_of name.now) }
+        requires advice { name.now.advice < model.now.grid.advisories }
+        ensures { IsRulingOfCell model.now name.now result };
+}
+
+/// A source of rulings on boxes.
+pub trait BoxRulings {
+    /// The ruling of a box under its advisory. The advisory is one of the model's, and the greatest range and the radius are flown
+    /// within the seconds of a window at the least closing speed.
+    fn ruling(&self, model: &Model, area: &AuditBox) -> Ruling
+        requires { IsBoxOf model.now (audited area.now) }
+        ensures { IsRulingOfBox model.now (audited area.now) result };
+}

@@ -1,0 +1,13 @@
+-- What contracts see of boxes.
+use Rattle.std.specs.Prelude.{◌≤◌, List, length, map}
+use Rattle.acas_units.specs.declared.limits.TheConstants.{GREATEST_BOXES}
+use Rattle.acas_rulings.specs.Boxes.{AuditedBox, audited}
+use Rattle.acas_rulings.specs.declared.boxes.Boxes.TheInside.{Inside}
+
+-- what each box stands for
+abbrev pub boxes_view : Inside → List AuditedBox
+boxes_view b = map audited b.boxes.items
+
+-- there are no more than a file may have
+abbrev pub AreFew : Inside → Type 0
+AreFew b = length (boxes_view b) ≤ GREATEST_BOXES

@@ -1,0 +1,12 @@
+//! Boxes under an advisory.
+use acas_region_curves::BoxState;
+use acas_units::Span;
+
+/// A box of states under an advisory: ranges in ft, closing speeds in ft/s, and an area of altitudes in ticks and rates in ft/min.
+#[derive(Clone, Copy, Debug)]
+pub struct AuditBox {
+    pub advisory: u8,
+    pub range: Span,
+    pub closing: Span,
+    pub area: BoxState,
+}

@@ -1,5 +1,0 @@
-use Rattle.acas_step.specs.ColumnSums.{AreColumnSums}
-use Rattle.acas_step.proofs.column_sums.fill_sums.Given as goal
-
-abbrev pub invariant-loop-sigma : goal.invariant-loop-sigma
-invariant-loop-sigma l = AreColumnSums l.model l.below l.reach.size l.column l.advisory l.sigma l.uppers l.lowers

@@ -1,0 +1,2 @@
+pub mod BestFrom
+pub mod BestEntries

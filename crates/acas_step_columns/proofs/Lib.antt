@@ -1,0 +1,4 @@
+pub mod UnitSums
+pub mod SourceMeans
+pub mod SharedMeans
+pub mod ColumnPoints

@@ -1,0 +1,5 @@
+use Rattle.acas_step_columns.specs.ColumnSums.{AreColumnSums}
+use Rattle.acas_step_columns.proofs.column_sums.fill_sums.Given as goal
+
+abbrev pub invariant-loop-sigma : goal.invariant-loop-sigma
+invariant-loop-sigma l = AreColumnSums l.model l.below l.reach.size l.column l.advisory l.sigma l.uppers l.lowers

@@ -1,0 +1,233 @@
+//! The sums of a column in 64 bits: those of both sides over the points to which a second leads from each of its vertices under an
+//! advisory, where no cell is too wide. A sigma point leads from all of them to the same rates, so that the values of the layer below
+//! are blended there once for each altitude.
+ghost use Rattle.std.specs.Prelude.{◌≡◌, ℕ, ◌+◌, ◌*◌, ◌^◌, ◌<◌, ◌≤◌, true, List, length, IfSome};
+ghost use Rattle.acas_spec.specs.Model.{states, total_weight, vertices};
+ghost use Rattle.acas_grid.specs.States as numbers;
+ghost use Rattle.acas_process.specs.Step as process;
+ghost use Rattle.acas_step.specs.Columns.{columns};
+ghost use Rattle.acas_step_columns.specs.ColumnSums.{AreBlends, AreBlendsWithin, AreColumnSums, AreSumsWithin};
+ghost use Rattle.acas_step_stencils.specs.Units.{HoldsRates};
+ghost use Rattle.acas_step.specs.Ends.{FitsGrid};
+ghost use Rattle.acas_step.specs.Layer.{AreWithin};
+ghost use Rattle.acas_step_narrow.specs.Narrow.{IsRaisedPoint};
+ghost use Rattle.acas_step_narrow.specs.Raised.{AreRaisedWithin, HasRoom, raised_in};
+ghost use Rattle.acas_step.specs.Reach.{IsReach};
+ghost use Rattle.acas_step_stencils.specs.Stencils.{AreStencilsOf};
+ghost use Rattle.acas_step.specs.declared.layer.Side.TheVariants.{Upper, Lower};
+ghost use Rattle.acas_units.specs.declared.pair.Pair.{Pair};
+
+use acas_base::Model;
+use acas_grid::Grid;
+use acas_step::{Cell, Reach, column_of_cell, first_state, sigma_count, vertex_in_column};
+use acas_step_narrow::{
+    Raised, SideColumn, along_h, along_v0, narrow_weight, quotient_down, quotient_up, with_point,
+};
+use acas_step_stencils::Stencils;
+use acas_units::Pair;
+
+// Writes the values of a layer, blended on both rates of a cell, for each place of the altitudes, where those of an advisory begin
+// at `first`.
+fn fill_blends(
+    grid: &Grid,
+    cell: &Cell,
+    first: usize,
+    by: u64,
+    below: &[Pair],
+    uppers: &mut SideColumn,
+    lowers: &mut SideColumn,
+)
+    requires fits { FitsGrid grid.now cell.now }
+    requires first { first + vertices grid.now ≤ length below.now }
+    requires upper { AreWithin by Upper below.now }
+    requires lower { AreWithin by Lower below.now }
+    requires room { HasRoom (2 * by) cell.now }
+    ensures blends { AreBlends grid.now cell.now first by below.now uppers.new lowers.new }
+    ensures within { AreBlendsWithin grid.now cell.now by uppers.new lowers.new }
+{
+    let row = grid.v1.len() as usize;
+    let column = column_of_cell(grid, cell);
+    for i in 0..grid.h.len() {
+        let at = first + vertex_in_column(grid, column, i) as usize;
+        let blend = along_v0(below, at, row, by, cell);
+        uppers[i as usize] = blend.upper;
+        lowers[i as usize] = blend.lower;
+    }
+}
+
+// Both sides at the point to which a sigma point leads from a vertex, where its cell is not too wide: by the blends at the rates of
+// a cell that holds the rates of the point.
+fn point_in_column(
+    model: &Model,
+    stencils: &Stencils,
+    reach: Reach,
+    vertex: u32,
+    advisory: u8,
+    sigma: u32,
+    rates: &Cell,
+    blend_uppers: &SideColumn,
+    blend_lowers: &SideColumn,
+) -> Option<Raised>
+    requires stencils { AreStencilsOf model.now stencils.now }
+    requires horizon { 0 < model.now.grid.horizon }
+    requires vertex { vertex < vertices model.now.grid }
+    requires advisory { advisory < model.now.grid.advisories }
+    requires sigma { sigma < length model.now.sigmas }
+    requires rates { let x = numbers.vertex_at model.now.grid vertex in
+        HoldsRates model.now.grid stencils.now.units (process.moved model.now x advisory sigma) rates.now }
+    requires room { reach.widest * (2 * reach.size + 1) < 2 ^ 63 }
+    requires within { AreBlendsWithin model.now.grid rates.now reach.size blend_uppers.now blend_lowers.now }
+    ensures within { IfSome result (AreRaisedWithin (2 * reach.size)) }
+    ensures point { (below : List Pair) → length below ≡ states model.now.grid
+        → AreWithin reach.size Upper below → AreWithin reach.size Lower below
+        → AreBlends model.now.grid rates.now (advisory * vertices model.now.grid) reach.size below blend_uppers.now blend_lowers.now
+        → let x = numbers.vertex_at model.now.grid vertex in
+        IfSome result (IsRaisedPoint model.now below reach.size advisory (process.moved model.now x advisory sigma)) }
+{
+    // Says what holds of each model.
+    let _ = model.grid();
+    let at = stencils.cell_at_rates(model, vertex, advisory, sigma, rates);
+    if at.divisor.by > reach.widest {
+        return None;
+    }
+    let sums = along_h(blend_uppers, blend_lowers, at.cell.h);
+    Some(Raised {
+        upper: quotient_up(sums.upper, at.divisor),
+        lower: quotient_down(sums.lower, at.divisor),
+    })
+}
+
+// Adds the points to which a sigma point leads from the vertices of a column, by its weight, where no cell is too wide.
+fn add_points(
+    model: &Model,
+    stencils: &Stencils,
+    reach: Reach,
+    column: u32,
+    advisory: u8,
+    sigma: u32,
+    rates: &Cell,
+    blend_uppers: &SideColumn,
+    blend_lowers: &SideColumn,
+    uppers: &mut SideColumn,
+    lowers: &mut SideColumn,
+) -> bool
+    requires stencils { AreStencilsOf model.now stencils.now }
+    requires horizon { 0 < model.now.grid.horizon }
+    requires column { column < columns model.now.grid }
+    requires advisory { advisory < model.now.grid.advisories }
+    requires sigma { sigma < length model.now.sigmas }
+    requires rates { let x = numbers.vertex_at model.now.grid column in
+        HoldsRates model.now.grid stencils.now.units (process.moved model.now x advisory sigma) rates.now }
+    requires room { reach.widest * (2 * reach.size + 1) < 2 ^ 63 }
+    requires weights { total_weight model.now * (2 * reach.size + 1) < 2 ^ 63 }
+    requires within { AreBlendsWithin model.now.grid rates.now reach.size blend_uppers.now blend_lowers.now }
+    requires sums { AreSumsWithin model.now reach.size sigma uppers.old lowers.old }
+    ensures within { result ≡ true → AreSumsWithin model.now reach.size (sigma + 1) uppers.new lowers.new }
+    ensures sums { (below : List Pair) → length below ≡ states model.now.grid
+        → AreWithin reach.size Upper below → AreWithin reach.size Lower below
+        → AreBlends model.now.grid rates.now (advisory * vertices model.now.grid) reach.size below blend_uppers.now blend_lowers.now
+        → AreColumnSums model.now below reach.size column advisory sigma uppers.old lowers.old
+        → result ≡ true → AreColumnSums model.now below reach.size column advisory (sigma + 1) uppers.new lowers.new }
+{
+    let grid = model.grid();
+    let weight = narrow_weight(model, sigma);
+    for i in 0..grid.h.len() {
+        let vertex = vertex_in_column(grid, column, i);
+        match point_in_column(
+            model,
+            stencils,
+            reach,
+            vertex,
+            advisory,
+            sigma,
+            rates,
+            blend_uppers,
+            blend_lowers,
+        ) {
+            Some(point) => {
+                let place = i as usize;
+                let sums = Raised {
+                    upper: uppers[place],
+                    lower: lowers[place],
+                };
+                let next = with_point(sums, weight, point);
+                uppers[place] = next.upper;
+                lowers[place] = next.lower;
+            }
+            None => return false,
+        }
+    }
+    true
+}
+
+// Writes the sums over no point.
+fn clear_sums(model: &Model, uppers: &mut SideColumn, lowers: &mut SideColumn)
+    ensures { (i : ℕ) → i < length model.now.grid.h
+        → raised_in uppers.new lowers.new i ≡ record { upper = 0; lower = 0 } }
+{
+    for i in 0..model.grid().h.len() as usize {
+        uppers[i] = 0;
+        lowers[i] = 0;
+    }
+}
+
+/// Writes the sums over all points to which a second leads from the vertices of a column under an advisory, and says whether no cell
+/// is too wide for that.
+pub(crate) fn fill_sums(
+    model: &Model,
+    stencils: &Stencils,
+    reach: Reach,
+    column: u32,
+    advisory: u8,
+    below: &[Pair],
+    blend_uppers: &mut SideColumn,
+    blend_lowers: &mut SideColumn,
+    uppers: &mut SideColumn,
+    lowers: &mut SideColumn,
+) -> bool
+    requires stencils { AreStencilsOf model.now stencils.now }
+    requires horizon { 0 < model.now.grid.horizon }
+    requires reach { IsReach model.now.grid below.now reach }
+    requires column { column < columns model.now.grid }
+    requires advisory { advisory < model.now.grid.advisories }
+    requires below { length below.now ≡ states model.now.grid }
+    requires weights { total_weight model.now * (2 * reach.size + 1) < 2 ^ 63 }
+    ensures { result ≡ true
+        → AreColumnSums model.now below.now reach.size column advisory (length model.now.sigmas) uppers.new lowers.new }
+{
+    let grid = model.grid();
+    let first = first_state(grid, advisory);
+    let lowest = vertex_in_column(grid, column, 0);
+    clear_sums(model, uppers, lowers);
+    for sigma in 0..sigma_count(model) {
+        let corner = stencils.unit_cell(model, lowest, advisory, sigma);
+        if corner.divisor.by > reach.widest {
+            return false;
+        }
+        fill_blends(
+            grid,
+            &corner.cell,
+            first,
+            reach.size,
+            below,
+            blend_uppers,
+            blend_lowers,
+        );
+        if !add_points(
+            model,
+            stencils,
+            reach,
+            column,
+            advisory,
+            sigma,
+            &corner.cell,
+            blend_uppers,
+            blend_lowers,
+            uppers,
+            lowers,
+        ) {
+            return false;
+        }
+    }
+    true
+}

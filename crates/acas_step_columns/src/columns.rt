@@ -1,0 +1,242 @@
+//! Both means of a layer column by column, by the stencils of a model: those of `means_at`, without a search of cells. Where two
+//! advisories lead to the same means from a column they are formed once.
+ghost use Rattle.std.specs.Prelude.{◌≡◌, ◌≢◌, ℕ, ◌+◌, ◌<◌, ◌≤◌, length, unsigned_abs};
+ghost use Rattle.acas_spec.specs.Model.{states};
+ghost use Rattle.acas_step.specs.Columns.{AreAllWithin, AreColumnChanges, AreColumnMeans, AreMeansIn, columns, pairs_at};
+ghost use Rattle.acas_step_columns.specs.ColumnSums.{IsSource};
+ghost use Rattle.acas_step.specs.Layer.{AreWithin, pair_at, value_of};
+ghost use Rattle.acas_step.specs.Reach.{IsReach};
+ghost use Rattle.acas_step_stencils.specs.Stencils.{AreStencilsOf};
+ghost use Rattle.acas_step.specs.declared.layer.Side.{Side};
+
+use crate::column_sums::fill_sums;
+use crate::stencil_values::mean_with;
+use acas_base::Model;
+use acas_frac::{Down, Up};
+use acas_step::{
+    Changes, ColumnMeans, Reach, Side, VertexMeans, advisory_count, changes_from, first_twin,
+    own_rate_at, vertex_in_column,
+};
+use acas_step_narrow::{Raised, SideColumn, means_of_sums};
+use acas_step_stencils::Stencils;
+use acas_units::{GREATEST_ADVISORIES, GREATEST_VERTICES, Pair};
+
+// What the means of a column under an advisory are taken from.
+#[derive(Clone, Copy)]
+enum Source {
+    // Those under an earlier advisory.
+    Twin(u8),
+
+    // Sums of 64 bits.
+    Sums,
+
+    // The layer below, in 128 bits.
+    Layer,
+}
+
+// Finds what the means of a column under an advisory are to be taken from, and writes their sums where 64 bits hold them: no value is
+// too large for the weights of the cells.
+fn source_of(
+    model: &Model,
+    stencils: &Stencils,
+    reach: Reach,
+    column: u32,
+    changes: &Changes,
+    advisory: u8,
+    below: &[Pair],
+    blend_uppers: &mut SideColumn,
+    blend_lowers: &mut SideColumn,
+    uppers: &mut SideColumn,
+    lowers: &mut SideColumn,
+) -> Source
+    requires stencils { AreStencilsOf model.now stencils.now }
+    requires horizon { 0 < model.now.grid.horizon }
+    requires reach { IsReach model.now.grid below.now reach }
+    requires column { column < columns model.now.grid }
+    requires advisory { advisory < model.now.grid.advisories }
+    requires below { length below.now ≡ states model.now.grid }
+    ensures { IsSource model.now below.now reach changes.now column advisory uppers.new lowers.new result }
+{
+    let _ = model.grid();
+    let twin = first_twin(&reach.likes, changes, advisory);
+    if twin < advisory {
+        return Source::Twin(twin);
+    }
+    if stencils.total.by <= reach.widest
+        && fill_sums(
+            model,
+            stencils,
+            reach,
+            column,
+            advisory,
+            below,
+            blend_uppers,
+            blend_lowers,
+            uppers,
+            lowers,
+        )
+    {
+        return Source::Sums;
+    }
+    Source::Layer
+}
+
+// Both means at a vertex of a column under an advisory, by what they are to be taken from, where those under the earlier advisories
+// stand already.
+fn mean_pair_from(
+    model: &Model,
+    stencils: &Stencils,
+    reach: Reach,
+    column: u32,
+    i: u32,
+    changes: &Changes,
+    advisory: u8,
+    source: Source,
+    below: &[Pair],
+    uppers: &SideColumn,
+    lowers: &SideColumn,
+    earlier: &VertexMeans,
+) -> Pair
+    requires stencils { AreStencilsOf model.now stencils.now }
+    requires horizon { 0 < model.now.grid.horizon }
+    requires reach { IsReach model.now.grid below.now reach }
+    requires column { column < columns model.now.grid }
+    requires place { i < length model.now.grid.h }
+    requires changes { AreColumnChanges model.now column changes.now }
+    requires advisory { advisory < model.now.grid.advisories }
+    requires source { IsSource model.now below.now reach changes.now column advisory uppers.now lowers.now
+        source }
+    requires below { length below.now ≡ states model.now.grid }
+    requires earlier { (b : ℕ) → b < advisory
+        → AreMeansIn model.now below.now column i b (pair_at earlier.now b) }
+    ensures means { AreMeansIn model.now below.now column i advisory result }
+    ensures bounded { (most : ℕ) (side : Side) → AreWithin most side below.now
+        → unsigned_abs (value_of side result) ≤ most }
+{
+    let grid = model.grid();
+    match source {
+        Source::Twin(twin) => earlier[usize::from(twin)],
+        Source::Sums => {
+            let sums = Raised {
+                upper: uppers[i as usize],
+                lower: lowers[i as usize],
+            };
+            means_of_sums(sums, stencils.total, reach.size)
+        }
+        Source::Layer => {
+            let vertex = vertex_in_column(grid, column, i);
+            Pair {
+                upper: mean_with::<Up>(model, stencils, vertex, advisory, Side::Upper, below),
+                lower: mean_with::<Down>(model, stencils, vertex, advisory, Side::Lower, below),
+            }
+        }
+    }
+}
+
+// Writes the pair of an advisory.
+fn set_pair(pairs: &mut VertexMeans, advisory: u8, pair: Pair)
+    requires { advisory < GREATEST_ADVISORIES }
+    ensures pair { pair_at pairs.new advisory ≡ pair }
+    ensures others { (b : ℕ) → b ≢ advisory → pair_at pairs.new b ≡ pair_at pairs.old b }
+    ensures bounded { (most : ℕ) (side : Side) → unsigned_abs (value_of side pair) ≤ most
+        → AreWithin most side pairs.old → AreWithin most side pairs.new }
+{
+    pairs[usize::from(advisory)] = pair;
+}
+
+// Writes both means at the vertices of a column under an advisory, where those under the earlier advisories stand already.
+fn fill_advisory(
+    model: &Model,
+    stencils: &Stencils,
+    reach: Reach,
+    column: u32,
+    changes: &Changes,
+    advisory: u8,
+    source: Source,
+    below: &[Pair],
+    uppers: &SideColumn,
+    lowers: &SideColumn,
+    means: &mut ColumnMeans,
+)
+    requires stencils { AreStencilsOf model.now stencils.now }
+    requires horizon { 0 < model.now.grid.horizon }
+    requires reach { IsReach model.now.grid below.now reach }
+    requires column { column < columns model.now.grid }
+    requires changes { AreColumnChanges model.now column changes.now }
+    requires advisory { advisory < model.now.grid.advisories }
+    requires source { IsSource model.now below.now reach changes.now column advisory uppers.now lowers.now
+        source }
+    requires below { length below.now ≡ states model.now.grid }
+    requires earlier { (i b : ℕ) → i < length model.now.grid.h → b < advisory
+        → AreMeansIn model.now below.now column i b (pair_at (pairs_at means.old i) b) }
+    ensures means { (i b : ℕ) → i < length model.now.grid.h → b < advisory + 1
+        → AreMeansIn model.now below.now column i b (pair_at (pairs_at means.new i) b) }
+    ensures bounded { (most : ℕ) (side : Side) → AreWithin most side below.now
+        → AreAllWithin most side means.old → AreAllWithin most side means.new }
+{
+    for i in 0..model.grid().h.len() {
+        let pair = mean_pair_from(
+            model,
+            stencils,
+            reach,
+            column,
+            i,
+            changes,
+            advisory,
+            source,
+            below,
+            uppers,
+            lowers,
+            &means[i as usize],
+        );
+        set_pair(&mut means[i as usize], advisory, pair);
+    }
+}
+
+/// Writes both means of a layer at the vertices of a column, under each advisory of the model by its number, by the model's stencils
+/// and the layer's reach. They are those of `means_at`. It takes no memory.
+pub fn fill_column(
+    model: &Model,
+    stencils: &Stencils,
+    reach: Reach,
+    column: u32,
+    below: &[Pair],
+    means: &mut ColumnMeans,
+)
+    requires stencils { AreStencilsOf model.now stencils.now }
+    requires horizon { 0 < model.now.grid.horizon }
+    requires reach { IsReach model.now.grid below.now reach }
+    requires column { column < columns model.now.grid }
+    requires below { length below.now ≡ states model.now.grid }
+    ensures means { AreColumnMeans model.now below.now column means.new }
+
+    // No mean is larger than the largest value.
+    ensures bounded { (most : ℕ) (side : Side) → AreWithin most side below.now
+        → AreAllWithin most side means.old → AreAllWithin most side means.new }
+{
+    let _ = model.grid();
+    let changes = changes_from(model, own_rate_at(model, column));
+    let mut blend_uppers = [0u64; GREATEST_VERTICES as usize];
+    let mut blend_lowers = [0u64; GREATEST_VERTICES as usize];
+    let mut uppers = [0u64; GREATEST_VERTICES as usize];
+    let mut lowers = [0u64; GREATEST_VERTICES as usize];
+    for advisory in 0..advisory_count(model) {
+        let source = source_of(
+            model,
+            stencils,
+            reach,
+            column,
+            &changes,
+            advisory,
+            below,
+            &mut blend_uppers,
+            &mut blend_lowers,
+            &mut uppers,
+            &mut lowers,
+        );
+        fill_advisory(
+            model, stencils, reach, column, &changes, advisory, source, below, &uppers, &lowers,
+            means,
+        );
+    }
+}

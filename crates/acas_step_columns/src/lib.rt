@@ -1,0 +1,12 @@
+//! The means of a layer, column by column, by stencils.
+#![tactic(auto)]
+
+mod column_sums;
+mod columns;
+mod stencil_backups;
+mod stencil_means;
+mod stencil_values;
+
+pub use columns::fill_column;
+pub use stencil_backups::backup_with;
+pub use stencil_means::StencilMeans;

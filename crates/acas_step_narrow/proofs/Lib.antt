@@ -1,0 +1,4 @@
+pub mod RaisedMeans
+pub mod RaisedWritten
+pub mod RaisedLaws
+pub mod RaisedSums

@@ -1,0 +1,6 @@
+use Rattle.std.proofs.Common.{pos, ap, ◌∙◌}
+use Rattle.acas_step_narrow.proofs.RaisedLaws.{up-raised}
+use Rattle.acas_step_narrow.proofs.narrow_means.quotient_up.Goals as goal
+
+pub returns-clause-value : goal.returns-clause-value
+returns-clause-value c = λ x by is. ap pos c.up.ensures ∙ up-raised x c.args.divisor.by by c.args.sum c.requires.divisor.some is

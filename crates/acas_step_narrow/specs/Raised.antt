@@ -1,0 +1,68 @@
+-- Values raised by a number so that none is below 0, and their sums over a cell in 64 bits.
+use Rattle.std.specs.Prelude.{◌≡◌, ℕ, ◌+◌, ◌*◌, ◌^◌, ◌<◌, ◌≤◌, ℤ, pos, ◌+ℤ◌, ◌*ℤ◌, unsigned_abs, List, get_or}
+use Rattle.acas_units.specs.declared.pair.Pair.{Pair}
+use Rattle.acas_step.specs.Layer.{value_at}
+use Rattle.acas_step.specs.declared.cell.Cell.{Cell}
+use Rattle.acas_step.specs.declared.cell.Ends.{Ends}
+use Rattle.acas_step.specs.declared.layer.Side.{Side}
+use Rattle.acas_step_narrow.specs.declared.raised.Raised.{Raised}
+
+-- a value that is raised by a number, where it is no further below 0 than that
+abbrev pub raised : ℕ → ℤ → ℕ
+raised by z = unsigned_abs (z +ℤ pos by)
+
+-- the raised value of one side at a place
+abbrev pub raised_at : ℕ → Side → List Pair → ℕ → ℕ
+raised_at by side pairs place = raised by (value_at side pairs place)
+
+-- the gap between the two ends of a cell on an axis
+abbrev pub width : Ends → ℕ
+width e = e.lower + e.upper
+
+-- two numbers at the ends of a cell on an axis, by their weights
+abbrev pub blended : Ends → ℕ → ℕ → ℕ
+blended e near far = near * e.lower + far * e.upper
+
+-- numbers by place, blended on the intruder rate, then on the own rate, then on the altitude, from the place n of a corner on
+abbrev pub along_v1 : Cell → (ℕ → ℕ) → ℕ → ℕ
+along_v1 t f n = blended t.v1 (f n) (f (n + 1))
+
+abbrev pub along_v0 : Cell → ℕ → (ℕ → ℕ) → ℕ → ℕ
+along_v0 t row f n = blended t.v0 (along_v1 t f n) (along_v1 t f (n + row))
+
+abbrev pub along_h : Cell → ℕ → ℕ → (ℕ → ℕ) → ℕ → ℕ
+along_h t row plane f n = blended t.h (along_v0 t row f n) (along_v0 t row f (n + plane))
+
+-- two values at the ends of a cell on an axis, by their weights
+abbrev pub mixed : Ends → ℤ → ℤ → ℤ
+mixed e near far = pos e.lower *ℤ near +ℤ pos e.upper *ℤ far
+
+-- a value no further from 0 than a number by which it is raised, and what it is then
+pub record IsRaised (by : ℕ) (z : ℤ) (n : ℕ) : Type 0 where
+  pub within : unsigned_abs z ≤ by
+  pub value : raised by z ≡ n
+
+-- blends over a cell of numbers up to so much have 64 bits
+pub record HasRoom (most : ℕ) (t : Cell) : Type 0 where
+  pub values : most < 2 ^ 63
+  pub v1 : most * width t.v1 < 2 ^ 63
+  pub v0 : most * width t.v1 * width t.v0 < 2 ^ 63
+  pub h : most * width t.v1 * width t.v0 * width t.h < 2 ^ 63
+
+-- neither number is more than so much
+pub record AreRaisedWithin (most : ℕ) (p : Raised) : Type 0 where
+  pub upper : p.upper ≤ most
+  pub lower : p.lower ≤ most
+
+-- both numbers, times a weight, have 64 bits
+pub record HaveRoom (weight : ℕ) (p : Raised) : Type 0 where
+  pub upper : p.upper * weight < 2 ^ 63
+  pub lower : p.lower * weight < 2 ^ 63
+
+-- the numbers at a place of a column, whose upper and lower numbers are listed apart
+abbrev pub raised_in : List ℕ → List ℕ → ℕ → Raised
+raised_in uppers lowers i = record { upper = get_or uppers i 0; lower = get_or lowers i 0 }
+
+-- no number of the first places of a column is more than so much
+pub record AreAllRaisedWithin (most count : ℕ) (uppers lowers : List ℕ) : Type 0 where
+  pub each : (i : ℕ) → i < count → AreRaisedWithin most (raised_in uppers lowers i)

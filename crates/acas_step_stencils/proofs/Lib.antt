@@ -1,0 +1,4 @@
+pub mod UnitLaws
+pub mod StencilLaws
+pub mod ColumnVertices
+pub mod ColumnCells

@@ -1,0 +1,55 @@
+use Rattle.std.proofs.Common.{refl, sym, subst, ◌∙◌, arith}
+use Rattle.acas_spec.specs.Model.{GridData}
+use Rattle.acas_spec.specs.declared.place.Vertex.{Vertex}
+use Rattle.acas_step.specs.Sizes.{altitude_gap, rate_gap}
+use Rattle.acas_step_stencils.specs.Units.{AreGapsWithin, IsVertexCell}
+use Rattle.acas_step_stencils.specs.declared.vertex_cells.VertexCell.{VertexCell}
+use Rattle.acas_step_stencils.proofs.UnitLaws.{altitude_gaps, intruder_gaps, own_gaps}
+use Rattle.acas_step_stencils.proofs.vertex_cells.cell_above.Goals as goal
+
+pub overflow_cast-result-4 : goal.overflow_cast-result-4
+overflow_cast-result-4 c =
+    let within = subst (λ (g : GridData). AreGapsWithin g.h altitude_gap) (sym c.grid.view_is) (altitude_gaps c.args.grid.now c.requires.grid) in
+    omega (arith, c.gap_in-h.ensures.small altitude_gap within (omega arith))
+
+pub overflow_cast-result-5 : goal.overflow_cast-result-5
+overflow_cast-result-5 c =
+    let within = subst (λ (g : GridData). AreGapsWithin g.v0 rate_gap) (sym c.grid.view_is) (own_gaps c.args.grid.now c.requires.grid) in
+    omega (arith, c.gap_in-v0.ensures.small rate_gap within (omega arith))
+
+pub overflow_cast-result-6 : goal.overflow_cast-result-6
+overflow_cast-result-6 c =
+    let within = subst (λ (g : GridData). AreGapsWithin g.v1 rate_gap) (sym c.grid.view_is) (intruder_gaps c.args.grid.now c.requires.grid) in
+    omega (arith, c.gap_in-v1.ensures.small rate_gap within (omega arith))
+
+pub product-requires-clause-h : goal.product-requires-clause-h
+product-requires-clause-h c =
+    let within = subst (λ (g : GridData). AreGapsWithin g.h altitude_gap) (sym c.grid.view_is) (altitude_gaps c.args.grid.now c.requires.grid) in
+    c.gap_in-h.ensures.small altitude_gap within (omega arith)
+
+pub product-requires-clause-v0 : goal.product-requires-clause-v0
+product-requires-clause-v0 c =
+    let within = subst (λ (g : GridData). AreGapsWithin g.v0 rate_gap) (sym c.grid.view_is) (own_gaps c.args.grid.now c.requires.grid) in
+    c.gap_in-v0.ensures.small rate_gap within (omega arith)
+
+pub product-requires-clause-v1 : goal.product-requires-clause-v1
+product-requires-clause-v1 c =
+    let within = subst (λ (g : GridData). AreGapsWithin g.v1 rate_gap) (sym c.grid.view_is) (intruder_gaps c.args.grid.now c.requires.grid) in
+    c.gap_in-v1.ensures.small rate_gap within (omega arith)
+
+pub returns : goal.returns
+returns c =
+    let y : Vertex = c.vertex_at-vertex.result in
+    let cell : VertexCell = record { i = y.i; j = y.j; k = y.k; h = c.gap_in-h.result; v0 = c.gap_in-v0.result; v1 = c.gap_in-v1.result; divisor = c.new.result } in
+    subst (λ (x : Vertex). IsVertexCell c.args.grid.now c.args.units x cell) c.vertex_at-vertex.ensures.value
+    (subst (λ (g : GridData). IsVertexCell g c.args.units y cell) c.grid.view_is
+    (record {
+      i = refl;
+      j = refl;
+      k = refl;
+      h = c.gap_in-h.ensures.gap;
+      v0 = c.gap_in-v0.ensures.gap;
+      v1 = c.gap_in-v1.ensures.gap;
+      divisor = c.new.ensures.divisor;
+      by = c.new.ensures.by ∙ c.product.ensures.value;
+    }))

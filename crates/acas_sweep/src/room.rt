@@ -1,0 +1,76 @@
+//! The memory of a sweep, which is taken before anything is written.
+ghost use Rattle.std.specs.Prelude.{◌≡◌, ◌+◌, ◌≤◌, ◌^◌, IfOk, OnOk, OnErr};
+ghost use Rattle.acas_spec.specs.Model.{entries, states};
+ghost use Rattle.acas_outside.specs.Counts.{Rose};
+ghost use Rattle.acas_sweep.specs.Handed.{AddsBelow, CutBelow, compiled_layer};
+ghost use Rattle.acas_sweep.specs.Layers.{backup_count};
+ghost use Rattle.acas_sweep.specs.Room.{IsRoomFor};
+
+use crate::laws::backups_are_few;
+use crate::sink::LayerSink;
+use crate::stream::{SweepFault, sweep};
+use acas_base::Model;
+use acas_plane::{PlaneBlock, Turned};
+use acas_step::LayerMeans;
+use acas_step_choices::Backups;
+use std::alloc::{AllocError, Global};
+
+/// What a sweep of a model takes beside what forms the means: a block of two planes, and a byte for the advice of each state.
+#[derive(Drop)]
+pub struct SweepRoom {
+    pub(crate) block: PlaneBlock,
+    pub(crate) advice: Vec<u8>,
+}
+
+impl SweepRoom {
+    /// The room for a sweep of a model.
+    pub fn make(alloc: Global, model: &Model) -> Result<SweepRoom, AllocError>
+        ensures { IfOk result (λ room. IsRoomFor model.now room) }
+    {
+        let states = model.grid().states();
+        let block = PlaneBlock::make(alloc, states)?;
+        let advice = vec![in alloc; 0u8; states as usize]?;
+        Ok(SweepRoom { block, advice })
+    }
+}
+
+/// Hands all layers of the compiled table of a model to a sink, by what forms the model's means. It takes no memory. It counts the backups and the turned pairs of the
+/// sweep.
+pub fn sweep_to<M: LayerMeans, S: LayerSink>(
+    model: &Model,
+    layer_means: &M,
+    room: &mut SweepRoom,
+    rows: &mut S,
+    backups: &mut Backups,
+    turned: &mut Turned,
+) -> Result<(), SweepFault>
+    requires fits { M.fits layer_means.now model.now }
+    requires room { IsRoomFor model.now room.old }
+    requires width { S.width rows.old ≡ states model.now.grid }
+    requires left { S.left rows.old ≡ model.now.grid.horizon + 1 }
+    requires backups { backups.old ≤ 2 ^ 63 }
+    requires turned { turned.old ≤ 2 ^ 63 }
+    ensures ok { OnOk result
+        (AddsBelow S.adds (compiled_layer model.now) rows.old (model.now.grid.horizon + 1) rows.new) }
+    ensures err { OnErr result
+        (CutBelow S.adds (compiled_layer model.now) S.cuts rows.old (model.now.grid.horizon + 1) rows.new) }
+    ensures failed { OnErr result (Rose (S.faults rows.old) (S.faults rows.new)) }
+    ensures faults { S.faults rows.old ≤ S.faults rows.new }
+    ensures counted { OnOk result (backups.new ≡ backups.old + backup_count model.now) }
+    ensures turns { OnOk result (turned.new ≡ turned.old + entries model.now.grid) }
+    ensures rising { backups.old ≤ backups.new }
+    ensures rising_turned { turned.old ≤ turned.new }
+{
+    // By the model's limits a table takes fewer backups, and has fewer entries, than the counters still hold.
+    let _ = model.grid();
+    backups_are_few();
+    sweep(
+        model,
+        layer_means,
+        &mut room.block,
+        &mut room.advice,
+        rows,
+        backups,
+        turned,
+    )
+}

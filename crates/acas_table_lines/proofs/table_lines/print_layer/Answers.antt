@@ -1,0 +1,18 @@
+use Rattle.std.proofs.Common.{◌<◌, arith}
+use Rattle.acas_spec.specs.Model.{states}
+use Rattle.acas_outside.proofs.Appended.{on_err_always}
+use Rattle.acas_print.proofs.PrintedPieces.{part_of_below, prints_below}
+use Rattle.acas_table_lines.specs.LayerParts.{layer_data}
+use Rattle.acas_table_lines.specs.ValuesText.{listed_line}
+use Rattle.acas_table_lines.proofs.table_lines.print_layer.Goals as goal
+
+pub returns-in_err-print_state-clause-err : goal.returns-in_err-print_state-clause-err
+returns-in_err-print_state-clause-err g c =
+    let here : c.loop-state.state < states c.args.model.now.grid = rw (← c.grid.ensures.value, ← c.states-state-end.ensures.value) c.loop-state-test.true in
+    on_err_always _ (part_of_below _ _ _ _ _ (listed_line c.args.model.now (layer_data c.args.layer.now)) c.loop-state.state _ here c.loop-state.invariant.printed c.in_err-print_state.ensures.err)
+
+pub loop-state-preserved : goal.loop-state-preserved
+loop-state-preserved g c = record {
+  printed = prints_below _ _ _ _ _ _ (listed_line c.args.model.now (layer_data c.args.layer.now)) c.loop-state.state c.loop-state.invariant.printed c.in_ok-print_state.ensures.ok;
+  frame = grind arith;
+}

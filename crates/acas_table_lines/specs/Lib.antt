@@ -1,0 +1,3 @@
+pub mod LayerParts
+pub mod ValuesText
+pub mod LineRows

@@ -1,0 +1,3 @@
+pub mod BegunWriters
+pub mod SweptTable
+pub mod StoredLayers

@@ -1,0 +1,3 @@
+pub mod BegunWriter
+pub mod TableRows
+pub mod TableFile

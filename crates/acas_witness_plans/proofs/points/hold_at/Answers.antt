@@ -1,0 +1,10 @@
+use Rattle.std.proofs.Common.{◌≡◌, pos, to_z, arith}
+use Rattle.std.specs.Int.{w64}
+use Rattle.std.proofs.lemmas.Int.{ints}
+use Rattle.acas_witness_plans.proofs.Lattices.{hold_of}
+use Rattle.acas_witness_plans.proofs.points.hold_at.Goals as goal
+
+pub returns-clause-hold : goal.returns-clause-hold
+returns-clause-hold c =
+    let e : to_z w64 c.args.steps ≡ pos c.args.steps = omega (arith, ints) in
+    hold_of c.ratio.result c.args.steps c.ratio.ensures.lowest (rw e at c.ratio.ensures.value) c.requires

@@ -1,0 +1,4 @@
+pub mod Assembly
+pub mod BoxRanges
+pub mod CellRanges
+pub mod LowestTerms

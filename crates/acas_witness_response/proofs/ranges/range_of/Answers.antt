@@ -1,0 +1,14 @@
+use Rattle.std.proofs.Common.{◌≡◌, ◌+◌, ◌*◌, ◌≤◌, pos, to_z, arith, mul-le-mul}
+use Rattle.std.specs.Int.{w64}
+use Rattle.acas_units.specs.declared.limits.TheConstants.{WINDOW_SECONDS}
+use Rattle.acas_region_curves.specs.declared.fineness.TheConstants.{TIME_PARTS}
+use Rattle.std.proofs.lemmas.Int.{ints}
+use Rattle.acas_witness_response.proofs.ranges.range_of.Goals as goal
+
+pub ratio-requires-clause-num : goal.ratio-requires-clause-num
+ratio-requires-clause-num c =
+    let m : c.min.result ≤ WINDOW_SECONDS * TIME_PARTS = omega (arith, c.requires.time) in
+    let a = mul-le-mul c.requires.radius c.requires.den in
+    let b = mul-le-mul c.requires.speed m in
+    let e : to_z w64 (c.args.radius * c.args.den + c.args.speed * c.min.result) ≡ pos (c.args.radius * c.args.den + c.args.speed * c.min.result) = omega (arith, ints, a, b) in
+    rw e (omega (arith, a, b))
