@@ -22,6 +22,8 @@ from acas_texts import Fault
 FOLDERS = ("models", "tables", "checks", "reports", "rows", "pictures")
 PROCESSORS = ("-c", "--cores", "-j", "--jobs", "--profile")
 """Snakemake's words that say how much runs at a time."""
+DRY = frozenset(("-n", "--dry-run", "--dryrun"))
+"""Snakemake's words for a run that does nothing."""
 LOG = "snakemake.log"
 """The file of the results to which all goes that Snakemake and its steps say."""
 LOOK = """import sys
@@ -105,7 +107,8 @@ def cancel_left(results: Path) -> None:
         time.sleep(EVERY)
     shutil.rmtree(results / scheduler.JOBS, ignore_errors=True)
     if numbers:
-        print(f"study: {len(numbers)} {'job' if len(numbers) == 1 else 'jobs'} of a run before {'is' if len(numbers) == 1 else 'are'} cancelled", file=sys.stderr)
+        jobs, are = ("job", "is") if len(numbers) == 1 else ("jobs", "are")
+        print(f"study: {len(numbers)} {jobs} of a run before {are} cancelled", file=sys.stderr)
 
 
 def build(program: Path) -> None:
@@ -209,7 +212,8 @@ def run(chosen: argparse.Namespace, others: Sequence[str]) -> int:
     log = chosen.results / LOG
     environment = {"USER": user_name()} | os.environ
     with lock(results) as held:
-        cancel_left(results)
+        if not DRY.intersection(others):
+            cancel_left(results)
         prepare(study, results)
         print(f"study: {len(study.models)} models; what Snakemake says goes to {log}", file=sys.stderr)
         words = snakemake_words(results, program, chosen.study.name, with_profile(others, environment))

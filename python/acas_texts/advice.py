@@ -183,11 +183,11 @@ def weights(site: Site, cause: Cause) -> Advice:
 def window(site: Site, cause: Cause) -> Advice:
     model, needed, allowed = cause.allowed
     horizon, speed, radius = model.horizon, model.closing_least, model.radius
-    found = f"horizon {horizon} * closing.least {speed} + 2 * puck.radius {radius} = {needed}, over {GREATEST_WINDOW} * closing.least = {allowed}"
+    found = f"horizon {horizon} * closing.least {speed} + 2 * puck.radius {radius} = {needed}"
     ways = [f"closing.least at least {-(-2 * radius // (GREATEST_WINDOW - horizon))} (closing.greatest no less)"]
     ways += [f"puck.radius at most {most}" for most in [(GREATEST_WINDOW - horizon) * speed // 2] if most >= 1]
     ways += [f"horizon at most {most}" for most in [(allowed - 2 * radius) // speed] if most >= 0]
-    return found, f"one of these is enough: {'; '.join(ways)}"
+    return f"{found}, over {GREATEST_WINDOW} * closing.least = {allowed}", f"one of these is enough: {'; '.join(ways)}"
 
 
 def entries(site: Site, cause: Cause) -> Advice:

@@ -7,6 +7,7 @@ numbers of 64 bits, floats that are finite. Python's tomllib reads TOML 1.0 and 
 """
 import re
 from bisect import bisect_left
+from typing import Any
 
 from acas_texts.scalars import NUMBER, matches, value_of
 
@@ -297,7 +298,7 @@ def closed(table):
     return table
 
 
-def read(content):
+def read(content: bytes) -> Table:
     """The document that bytes are, a Table; NotToml where they are none."""
     try:
         text = content.decode("utf-8")
@@ -307,7 +308,7 @@ def read(content):
     return Reader(text.removeprefix("\ufeff")).document()
 
 
-def plain(value):
+def plain(value: Any) -> Any:
     """A value without what is known of its lines: tables as dict, lists as list."""
     if isinstance(value, dict):
         return {key: plain(item) for key, item in value.items()}

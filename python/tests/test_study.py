@@ -185,8 +185,9 @@ def cluster(acas, tmp_path, monkeypatch) -> Path:
 
 
 def begun(hanging, study, results) -> subprocess.Popen:
-    words = [study, results, "--profile", "study/cluster", "--acas", hanging]
-    return subprocess.Popen([sys.executable, "-B", RUN, *words], stdout=subprocess.PIPE, stderr=subprocess.PIPE, text=True, start_new_session=True)
+    words = [sys.executable, "-B", RUN, study, results, "--profile", "study/cluster", "--acas", hanging]
+    pipes = {"stdout": subprocess.PIPE, "stderr": subprocess.PIPE, "text": True}
+    return subprocess.Popen(words, start_new_session=True, **pipes)
 
 
 def wait_for_the_third(results: Path, running: subprocess.Popen) -> str:

@@ -74,7 +74,8 @@ def test_what_boxes_ask_of_a_model(tmp_path):
     """As the program refuses them beside a model with a greater puck, so they are ok beside one with a lesser."""
     text = (EXAMPLES / "d-boxes.toml").read_text(encoding="utf-8").replace("range = [10500, 11000]", "range = [10500, 299501]")
     (tmp_path / "t").write_text(text, encoding="utf-8")
-    assert said(tmp_path, "t") == (0, ["t: ok, boxes beside a model with the advisories climb, descend, clear and a puck.radius of at most 499"])
+    what = "boxes beside a model with the advisories climb, descend, clear and a puck.radius of at most 499"
+    assert said(tmp_path, "t") == (0, [f"t: ok, {what}"])
     assert said(tmp_path, "--model", EXAMPLES / "d.toml", "t")[1][:3] == [
         "t: input refused: window at 0", "  line 19: range = [10500, 299501]",
         "  found: range[1] 299501 + puck.radius 500 of the model = 300001, over 600 * closing[0] 500 = 300000"]
