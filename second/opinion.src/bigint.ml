@@ -3,6 +3,7 @@ include Z
 
 let same n = n
 let twice n = shift_left n 1
+let half n = shift_right n 1
 let twice_and_one n = succ (shift_left n 1)
 let div_floor a b = if sign b = 0 then zero else fdiv a b
 let not_below_zero n = if sign n < 0 then zero else n
