@@ -1,62 +1,109 @@
 -- A table that is accepted or refused, from its header to its end.
-use Rattle.std.proofs.Common.{◌≡◌, ℕ, ◌≤◌, List, Option, None, Some, Result, Ok, Err, sym, subst, arith}
-use Rattle.std.specs.Prelude.{IfOk, IfSome, MatchResult}
+use Rattle.std.proofs.Common.{ℕ, ◌+◌, ◌≤◌, List, Option, None, Some, Result, Ok, Err, sym, subst, arith}
+use Rattle.std.specs.Prelude.{IfOk, IfSome}
 use Rattle.std.specs.FinMap.{get}
 use Rattle.acas_spec.specs.Limits.{IsModel}
 use Rattle.acas_spec.specs.Model.{ModelData, entries}
 use Rattle.acas_base.specs.Advices.{AdvicesData}
+use Rattle.acas_layers.specs.Layers.{LayersData}
 use Rattle.acas_outside.specs.Bytes.{IsBytes}
 use Rattle.acas_outside.specs.Files.{Files, Given}
-use Rattle.acas_table.specs.Shape.{shape_of}
-use Rattle.acas_accept.specs.Answers.{Accepts, AreAllowed, HasAdvices}
 use Rattle.acas_table.specs.Reader.{Told}
-use Rattle.acas_accept.specs.Checking.{Begins, HasAccepted, HasNoRefusal, IsAnswer, IsCheckOf}
+use Rattle.acas_table_text.specs.Shape.{shape_of}
+use Rattle.acas_table_text.proofs.FieldFaults.{advice_small}
+use Rattle.acas_table_text.specs.Format.{format_of}
+use Rattle.acas_table_text.proofs.Twice.{each_entry_none}
+use Rattle.acas_table_text.proofs.Texts.{text_given_small}
+use Rattle.acas_table.proofs.Told.{told_both, told_map}
+use Rattle.acas_accept.specs.Answers.{AreAllowed, AreWhole, Gives, HasAdvices, HasLayers}
+use Rattle.acas_accept.specs.Checking.{Begins, HasAccepted, HasNoRefusal, IsAnswer}
+use Rattle.acas_accept.specs.Keeping.{AreAdvicesBelow, AreAllowedBelow, AreLayersBelow}
 use Rattle.acas_accept.specs.declared.check.TableCheck.{TableCheck}
 use Rattle.acas_accept.specs.declared.refusal.AcceptFault.{AcceptFault}
 use Rattle.acas_accept.specs.declared.refusal.AcceptFault.TheVariants.{Refused, Absent, Failed, Memory}
-use Rattle.acas_table.proofs.FieldFaults.{advice_small}
 use Rattle.acas_accept.proofs.NoRefusal.{refused_none}
-use Rattle.acas_accept.proofs.Places.{entry_place-below}
-use Rattle.acas_accept.proofs.Tables.{entries_none}
-use Rattle.acas_table.proofs.Texts.{text_small}
-
--- ---- no table
-
-pub fault_accepts : (m : ModelData) (digest bytes : List ℕ) (fault : AcceptFault) → IsAnswer m digest bytes fault → Accepts m digest (Some bytes) (Err fault)
-fault_accepts m digest bytes (Refused refusal) answer = answer
-fault_accepts m digest bytes Absent answer = absurd answer
-fault_accepts m digest bytes Failed answer = tt
-fault_accepts m digest bytes Memory answer = tt
-
--- ---- what is answered of a file whose header was read
-
-reads_file : (m : ModelData) (digest : List ℕ) (file : Option (List ℕ)) (t : TableCheck) (result : Result AdvicesData AcceptFault) → Begins m digest file (Ok t)
-    → IfSome file (λ bytes. HasAccepted m digest t 0 bytes → Accepts m digest (Some bytes) result) → Accepts m digest file result
-reads_file m digest None t result begins reads = absurd begins
-reads_file m digest (Some bytes) t result begins reads = reads begins
-
-pub reads_given : (holds : Option Files) (name : List ℕ) (m : ModelData) (digest : List ℕ) (t : TableCheck) (result : Result AdvicesData AcceptFault) → Given holds name (λ file. Begins m digest file (Ok t))
-    → Told holds name (λ bytes. HasAccepted m digest t 0 bytes → Accepts m digest (Some bytes) result) → Given holds name (λ file. Accepts m digest file result)
-reads_given None name m digest t result begins reads = tt
-reads_given (Some files) name m digest t result begins reads = reads_file m digest (get files name) t result begins reads
-
--- ---- a table
 
 text_is_bytes : (m : ModelData) (digest bytes : List ℕ) → IsModel m → IsBytes digest → HasNoRefusal m digest bytes → IsBytes bytes
 text_is_bytes m digest bytes v small whole =
+    let s = shape_of m.grid in
     let has = refused_none m digest bytes whole.none in
     let few : m.grid.advisories ≤ 256 = omega (arith, v.grid.few_advisories) in
-    subst IsBytes (sym whole.text)
-    (text_small digest (shape_of m.grid) bytes (entries m.grid) small (λ i within. advice_small (shape_of m.grid) bytes i few (entries_none m digest bytes i has.form within)))
+    subst IsBytes (sym whole.text) (text_given_small (format_of bytes) digest s bytes small (λ i within. advice_small s bytes i few (each_entry_none digest s bytes i has.form within)))
 
-has_advices : (m : ModelData) (digest : List ℕ) (t : TableCheck) (bytes : List ℕ) → HasAccepted m digest t (entries m.grid) bytes → HasAdvices m bytes t.advices
-has_advices m digest t bytes accepted = record { each = λ n state some seconds inside. accepted.advices n state some inside (entry_place-below m.grid n state seconds inside) }
+-- ---- what is answered of a file whose header was read
 
-pub are_allowed : (m : ModelData) (t : TableCheck) → IsCheckOf m t (entries m.grid) → AreAllowed m t.advices
-are_allowed m t check = record { each = λ n state some seconds inside. check.allowed n state some inside (entry_place-below m.grid n state seconds inside) }
+module _ {X : Type 0} (IsOf : List ℕ → X → Type 0) (m : ModelData) (digest : List ℕ) where
+  fault_given : (bytes : List ℕ) (fault : AcceptFault) → IsAnswer m digest bytes fault → Gives IsOf m digest (Some bytes) (Err fault)
+  fault_given bytes (Refused refusal) answer = answer
+  fault_given bytes Absent answer = absurd answer
+  fault_given bytes Failed answer = tt
+  fault_given bytes Memory answer = tt
 
-pub no_refusal_accepts : (m : ModelData) (digest bytes : List ℕ) (t : TableCheck) (result : Result AdvicesData AcceptFault) → IsModel m → IsBytes digest → IfOk result (λ advices. advices ≡ t.advices)
-    → HasAccepted m digest t (entries m.grid) bytes → MatchResult result (λ _. HasNoRefusal m digest bytes) (IsAnswer m digest bytes) → Accepts m digest (Some bytes) result
-no_refusal_accepts m digest bytes t (Ok advices) v small same accepted whole =
-    (whole.none, text_is_bytes m digest bytes v small whole, subst (λ (a : AdvicesData). HasAdvices m bytes a) (sym same) (has_advices m digest t bytes accepted))
-no_refusal_accepts m digest bytes t (Err fault) v small same accepted answer = fault_accepts m digest bytes fault answer
+  reads_file : (file : Option (List ℕ)) (t : TableCheck) (result : Result X AcceptFault) → Begins m digest file (Ok t)
+      → IfSome file (λ bytes. HasAccepted m digest t 0 bytes → Gives IsOf m digest (Some bytes) result) → Gives IsOf m digest file result
+  reads_file None t result begins reads = absurd begins
+  reads_file (Some bytes) t result begins reads = reads begins
+
+  reads_given : (holds : Option Files) (name : List ℕ) (t : TableCheck) (result : Result X AcceptFault) → Given holds name (λ file. Begins m digest file (Ok t))
+      → Told holds name (λ bytes. HasAccepted m digest t 0 bytes → Gives IsOf m digest (Some bytes) result) → Given holds name (λ file. Gives IsOf m digest file result)
+  reads_given None name t result begins reads = tt
+  reads_given (Some files) name t result begins reads = reads_file (get files name) t result begins reads
+
+  -- a fault in the entries
+  pub fault_in_layers : (holds : Option Files) (name : List ℕ) (t : TableCheck) (fault : AcceptFault) → Given holds name (λ file. Begins m digest file (Ok t))
+      → Told holds name (λ bytes. HasAccepted m digest t 0 bytes → IsAnswer m digest bytes fault) → Given holds name (λ file. Gives IsOf m digest file (Err fault))
+  fault_in_layers holds name t fault begins answers =
+      reads_given holds name t (Err fault) begins
+      (told_map holds name (λ bytes. HasAccepted m digest t 0 bytes → IsAnswer m digest bytes fault) _ (λ bytes answer accepted. fault_given bytes fault (answer accepted)) answers)
+
+  -- a fault behind them
+  pub fault_at_end : (holds : Option Files) (name : List ℕ) (t all : TableCheck) (given : X) (fault : AcceptFault) → Given holds name (λ file. Begins m digest file (Ok t))
+      → Told holds name (λ bytes. HasAccepted m digest t 0 bytes → HasAccepted m digest all (entries m.grid) bytes × IsOf bytes given)
+      → Told holds name (λ bytes. HasAccepted m digest all (entries m.grid) bytes → IsAnswer m digest bytes fault) → Given holds name (λ file. Gives IsOf m digest file (Err fault))
+  fault_at_end holds name t all given fault begins reads answers =
+      fault_in_layers holds name t fault begins
+      (told_map holds name
+      (λ bytes. (HasAccepted m digest t 0 bytes → HasAccepted m digest all (entries m.grid) bytes × IsOf bytes given) × (HasAccepted m digest all (entries m.grid) bytes → IsAnswer m digest bytes fault)) _
+      (λ bytes both accepted. both.1 (both.0 accepted).0)
+      (told_both holds name _ _ reads answers))
+
+  -- no fault
+  pub whole_given : (holds : Option Files) (name : List ℕ) (t all : TableCheck) (given : X) → IsModel m → IsBytes digest → Given holds name (λ file. Begins m digest file (Ok t))
+      → Told holds name (λ bytes. HasAccepted m digest t 0 bytes → HasAccepted m digest all (entries m.grid) bytes × IsOf bytes given)
+      → Told holds name (λ bytes. HasAccepted m digest all (entries m.grid) bytes → HasNoRefusal m digest bytes) → Given holds name (λ file. Gives IsOf m digest file (Ok given))
+  whole_given holds name t all given v small begins reads ends =
+      reads_given holds name t (Ok given) begins
+      (told_map holds name
+      (λ bytes. (HasAccepted m digest t 0 bytes → HasAccepted m digest all (entries m.grid) bytes × IsOf bytes given) × (HasAccepted m digest all (entries m.grid) bytes → HasNoRefusal m digest bytes)) _
+      (λ bytes both accepted.
+      let whole = both.1 (both.0 accepted).0 in
+      (whole.none, text_is_bytes m digest bytes v small whole, (both.0 accepted).1))
+      (told_both holds name _ _ reads ends))
+
+-- ---- what is given
+
+pub given_as : {X : Type 0} (P Q : List ℕ → X → Type 0) (m : ModelData) (digest : List ℕ) (holds : Option Files) (name : List ℕ) (result : Result X AcceptFault) → IfOk result (λ given. (bytes : List ℕ) → P bytes given → Q bytes given)
+    → Given holds name (λ file. Gives P m digest file result) → Given holds name (λ file. Gives Q m digest file result)
+given_as {X = X} P Q m digest None name result as_is given = tt
+given_as {X = X} P Q m digest (Some files) name result as_is given = file_as (get files name) result as_is given
+  where
+    file_as : (file : Option (List ℕ)) (answer : Result X AcceptFault) → IfOk answer (λ given. (bytes : List ℕ) → P bytes given → Q bytes given) → Gives P m digest file answer → Gives Q m digest file answer
+    file_as None (Ok x) leads given = absurd given
+    file_as (Some bytes) (Ok x) leads given = (given.0, given.1, leads bytes given.2)
+    file_as None (Err (Refused refusal)) leads given = absurd given
+    file_as None (Err Absent) leads given = given
+    file_as None (Err Failed) leads given = tt
+    file_as None (Err Memory) leads given = tt
+    file_as (Some bytes) (Err (Refused refusal)) leads given = given
+    file_as (Some bytes) (Err Absent) leads given = given
+    file_as (Some bytes) (Err Failed) leads given = tt
+    file_as (Some bytes) (Err Memory) leads given = tt
+
+pub has_advices : (m : ModelData) (bytes : List ℕ) (advices : AdvicesData) → AreAdvicesBelow m bytes (m.grid.horizon + 1) advices → HasAdvices m bytes advices
+has_advices m bytes advices are = record { each = λ n state some seconds inside. are.each n state some (omega arith) inside }
+
+pub are_allowed : (m : ModelData) (advices : AdvicesData) → AreAllowedBelow m (m.grid.horizon + 1) advices → AreAllowed m advices
+are_allowed m advices allowed = record { each = λ n state some seconds inside. allowed.each n state some (omega arith) inside }
+
+pub has_layers : (m : ModelData) (bytes : List ℕ) (layers : LayersData) → AreWhole m layers → AreLayersBelow m bytes (m.grid.horizon + 1) layers → HasLayers m bytes layers
+has_layers m bytes layers whole are = record { whole = whole; each = λ n seconds. are.each n (omega arith) }

@@ -3,18 +3,18 @@ use Rattle.std.proofs.Common.{◌≡◌, ℕ, ◌<◌, List, Option, None, Some,
 use Rattle.std.specs.FinMap.{get}
 use Rattle.acas_spec.specs.Model.{ModelData, entries}
 use Rattle.acas_outside.specs.Files.{Files, Given}
-use Rattle.acas_table.specs.Faults.{entry_fault, first_below, header_fault}
+use Rattle.acas_table_text.specs.Faults.{entry_fault, first_below, header_fault}
 use Rattle.acas_table.specs.Reader.{reader_state, Finishes, GivesEntry, HasRead, Starts}
-use Rattle.acas_table.specs.Shape.{shape_of}
-use Rattle.acas_table.specs.declared.shape.TableShape.{TableShape}
+use Rattle.acas_table_text.specs.Shape.{shape_of}
+use Rattle.acas_table_text.specs.declared.shape.TableShape.{TableShape}
 use Rattle.acas_table.specs.declared.reader.TableReader.{TableReader}
-use Rattle.acas_table.specs.declared.fault.TableFault.{TableFault}
-use Rattle.acas_table.specs.declared.fault.TableFault.TheVariants.{Magic, Version, OtherModel, Shape, Length, Advice, Digest, Failed, Absent, Memory}
+use Rattle.acas_table_text.specs.declared.fault.TableFault.{TableFault}
+use Rattle.acas_table_text.specs.declared.fault.TableFault.TheVariants.{Magic, Version, OtherModel, Shape, Length, Advice, Digest, LayerDigest, Failed, Absent, Memory}
 use Rattle.acas_accept.specs.Checking.{Begins, IsAnswer}
 use Rattle.acas_accept.specs.Faults.{answered}
 use Rattle.acas_accept.specs.Refusals.{entry_refusal, first_refusal}
 use Rattle.acas_accept.specs.declared.refusal.AcceptFault.{AcceptFault}
-use Rattle.acas_table.specs.declared.refusal.TableRefusal.TheVariants.{Form}
+use Rattle.acas_table_text.specs.declared.refusal.TableRefusal.TheVariants.{Form}
 use Rattle.acas_accept.proofs.Firsts.{at_end, form_refusal, in_entry, in_header}
 
 -- ---- in the header
@@ -27,6 +27,7 @@ start_file m digest None (Shape a b d) starts = absurd starts
 start_file m digest None (Length a b) starts = absurd starts
 start_file m digest None (Advice a b d) starts = absurd starts
 start_file m digest None (Digest a b) starts = absurd starts
+start_file m digest None (LayerDigest a b d) starts = absurd starts
 start_file m digest None Failed starts = tt
 start_file m digest None Absent starts = starts
 start_file m digest None Memory starts = tt
@@ -37,6 +38,7 @@ start_file m digest (Some bytes) (Shape a b d) starts = in_header m digest bytes
 start_file m digest (Some bytes) (Length a b) starts = in_header m digest bytes _ starts.0
 start_file m digest (Some bytes) (Advice a b d) starts = in_header m digest bytes _ starts.0
 start_file m digest (Some bytes) (Digest a b) starts = in_header m digest bytes _ starts.0
+start_file m digest (Some bytes) (LayerDigest a b d) starts = in_header m digest bytes _ starts.0
 start_file m digest (Some bytes) Failed starts = tt
 start_file m digest (Some bytes) Absent starts = starts
 start_file m digest (Some bytes) Memory starts = tt
@@ -79,6 +81,7 @@ entry_answered m digest r i bytes (Shape a b d) past within gives = entry_form m
 entry_answered m digest r i bytes (Length a b) past within gives = entry_form m digest r i bytes _ past within gives.0
 entry_answered m digest r i bytes (Advice a b d) past within gives = entry_form m digest r i bytes _ past within gives.0
 entry_answered m digest r i bytes (Digest a b) past within gives = entry_form m digest r i bytes _ past within gives.0
+entry_answered m digest r i bytes (LayerDigest a b d) past within gives = entry_form m digest r i bytes _ past within gives.0
 entry_answered m digest r i bytes Failed past within gives = tt
 entry_answered m digest r i bytes Absent past within gives = absurd gives
 entry_answered m digest r i bytes Memory past within gives = tt
@@ -99,6 +102,7 @@ finish_answered X m digest r bytes (Shape a b d) past ends = at_end m digest byt
 finish_answered X m digest r bytes (Length a b) past ends = at_end m digest bytes _ (header_of m digest r bytes past.stands past.shape) past.none ends.0
 finish_answered X m digest r bytes (Advice a b d) past ends = at_end m digest bytes _ (header_of m digest r bytes past.stands past.shape) past.none ends.0
 finish_answered X m digest r bytes (Digest a b) past ends = at_end m digest bytes _ (header_of m digest r bytes past.stands past.shape) past.none ends.0
+finish_answered X m digest r bytes (LayerDigest a b d) past ends = at_end m digest bytes _ (header_of m digest r bytes past.stands past.shape) past.none ends.0
 finish_answered X m digest r bytes Failed past ends = tt
 finish_answered X m digest r bytes Absent past ends = absurd ends
 finish_answered X m digest r bytes Memory past ends = tt

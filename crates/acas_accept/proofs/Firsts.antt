@@ -4,14 +4,14 @@ use Rattle.std.proofs.lemmas.Nat.{div-mul-add, mod-mul-add}
 use Rattle.std.specs.Option.{option_map}
 use Rattle.acas_spec.specs.Model.{ModelData, entries, states}
 use Rattle.acas_spec.specs.declared.fault.BoundFault.{BoundFault}
-use Rattle.acas_table.specs.Faults.{entry_fault, first, first_below, header_fault, tail_fault}
-use Rattle.acas_table.specs.Shape.{entry_count, shape_of}
-use Rattle.acas_table.specs.declared.fault.TableFault.{TableFault}
+use Rattle.acas_table_text.specs.Faults.{entry_fault, first, first_below, header_fault, tail_fault}
+use Rattle.acas_table_text.specs.Shape.{entry_count, shape_of}
+use Rattle.acas_table_text.specs.declared.fault.TableFault.{TableFault}
 use Rattle.acas_table.proofs.Found.{found_below}
 use Rattle.acas_accept.specs.GivenTable.{entry_place}
 use Rattle.acas_accept.specs.Refusals.{entry_refusal, first_refusal, soundness_refusal, given_fault}
-use Rattle.acas_table.specs.declared.refusal.TableRefusal.{TableRefusal}
-use Rattle.acas_table.specs.declared.refusal.TableRefusal.TheVariants.{Form, Entry}
+use Rattle.acas_table_text.specs.declared.refusal.TableRefusal.{TableRefusal}
+use Rattle.acas_table_text.specs.declared.refusal.TableRefusal.TheVariants.{Form, Entry}
 
 -- ---- in the header
 

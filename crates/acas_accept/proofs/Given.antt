@@ -1,75 +1,47 @@
--- The entries of all layers of a table, and of the table that bytes are read as.
-use Rattle.std.proofs.Common.{◌≡◌, ℕ, zero, suc, ◌+◌, ◌*◌, ◌/◌, ◌%◌, ◌<◌, ◌≤◌, List, [], ◌∷◌, ◌++◌, length, get_or, refl, sym, ◌∙◌, ap, inl, inr, arith, length-append}
-use Rattle.std.proofs.Math.ListN.{get_or-append}
-use Rattle.std.proofs.Math.Seq.{get_or-append_seam}
-use Rattle.std.proofs.lemmas.Bool.{cases_lt}
-use Rattle.std.proofs.lemmas.List.{ext_get_or}
-use Rattle.std.proofs.lemmas.List.FromFn.{length-map-range_with_len, get_or-map-range_with_len}
+-- The layers of a table, and of the table that bytes are read as.
+use Rattle.std.proofs.Common.{◌≡◌, ℕ, ◌+◌, ◌*◌, ◌<◌, List, [], length, get_or, ◌∙◌, ap, arith}
+use Rattle.std.proofs.lemmas.List.FromFn.{fill_by_all, length-map-range_with_len, get_or-map-range_with_len}
 use Rattle.acas_spec.specs.Model.{GridData, states}
 use Rattle.acas_units.specs.declared.pair.Entry.{Entry}
 use Rattle.acas_spec.specs.Table.{Table}
 use Rattle.acas_grid.specs.States.{state_present, state_vertex}
-use Rattle.acas_table.specs.Layers.{layer_entries, layers_of, state_entry}
-use Rattle.acas_table.specs.Tables.{all_entries, entries_below, no_entry}
-use Rattle.acas_table.specs.Text.{entry_at}
+use Rattle.acas_table_text.specs.Layers.{layer_entries, layers_of, state_entry}
+use Rattle.acas_table_text.specs.Shape.{shape_of}
+use Rattle.acas_table_text.specs.Tables.{entry_of_state, layer_at, layers_at, no_entry}
+use Rattle.acas_table_text.specs.Text.{entry_at}
 use Rattle.acas_accept.specs.GivenTable.{entry_place, given_entry, given_table}
 use Rattle.acas_grid.proofs.StateNumbers.{state_number-parts}
-use Rattle.acas_accept.proofs.Places.{is_place}
-use Rattle.acas_accept.proofs.Rows.{length-rows, row_at}
 
 -- the entry of a state by its number
-pub given-place : (g : GridData) (bytes : List ℕ) (n state : ℕ) → given_entry g bytes n (state_present g state) (state_vertex g state) ≡ entry_at bytes (entry_place g n state)
-given-place g bytes n state = ap (λ (k : ℕ). entry_at bytes (n * states g + k)) (state_number-parts g state)
+pub given-place : (g : GridData) (bytes : List ℕ) (n state : ℕ) → given_entry g bytes n (state_present g state) (state_vertex g state) ≡ entry_at (shape_of g) bytes (entry_place g n state)
+given-place g bytes n state = ap (λ (k : ℕ). entry_at (shape_of g) bytes (n * states g + k)) (state_number-parts g state)
 
--- ---- all entries of a table
+-- ---- the layers of a table
 
-length-layer : (g : GridData) (t : Table) (n : ℕ) → length (layer_entries g t n) ≡ states g
+pub length-layers : (g : GridData) (t : Table) → length (layers_of g t) ≡ g.horizon + 1
+length-layers g t = length-map-range_with_len (layer_entries g t) 0 (g.horizon + 1)
+
+pub length-layer : (g : GridData) (t : Table) (n : ℕ) → length (layer_entries g t n) ≡ states g
 length-layer g t n = length-map-range_with_len (state_entry g t n) 0 (states g)
 
-pub length-all_entries : (g : GridData) (t : Table) → length (all_entries (layers_of g t)) ≡ (g.horizon + 1) * states g
-length-all_entries g t = length-rows (layer_entries g t) (states g) 0 (g.horizon + 1) (length-layer g t)
+pub layers-at : (g : GridData) (t : Table) (n : ℕ) → n < g.horizon + 1 → get_or (layers_of g t) n [] ≡ layer_entries g t n
+layers-at g t n seconds = get_or-map-range_with_len (layer_entries g t) 0 (g.horizon + 1) n n [] seconds (omega arith)
 
-pub all_entries-place : (g : GridData) (t : Table) (n state : ℕ) → n ≤ g.horizon → state < states g → get_or (all_entries (layers_of g t)) (entry_place g n state) no_entry ≡ state_entry g t n state
-all_entries-place g t n state seconds inside =
-    row_at (layer_entries g t) (states g) 0 (g.horizon + 1) n state no_entry (length-layer g t) (omega arith) inside
-    ∙ ap (λ (k : ℕ). get_or (layer_entries g t k) state no_entry) (omega arith)
-    ∙ get_or-map-range_with_len (state_entry g t n) 0 (states g) state state no_entry inside (omega arith)
+layer-at : (g : GridData) (t : Table) (n state : ℕ) → state < states g → get_or (layer_entries g t n) state no_entry ≡ state_entry g t n state
+layer-at g t n state inside = get_or-map-range_with_len (state_entry g t n) 0 (states g) state state no_entry inside (omega arith)
 
-pub all_entries-at : (g : GridData) (t : Table) (i : ℕ) → i < (g.horizon + 1) * states g → get_or (all_entries (layers_of g t)) i no_entry ≡ state_entry g t (i / states g) (i % states g)
-all_entries-at g t i within =
-    let at = is_place g i within in
-    ap (λ (k : ℕ). get_or (all_entries (layers_of g t)) k no_entry) (sym at.is) ∙ all_entries-place g t (i / states g) (i % states g) at.seconds at.state
+pub entry-at : (g : GridData) (t : Table) (n state : ℕ) → n < g.horizon + 1 → state < states g → entry_of_state (layers_of g t) n state ≡ state_entry g t n state
+entry-at g t n state seconds inside = ap (λ (layer : List Entry). get_or layer state no_entry) (layers-at g t n seconds) ∙ layer-at g t n state inside
 
--- ---- the first entries of bytes
+-- ---- of the table that bytes are read as
 
-length-entries_below : (bytes : List ℕ) (n : ℕ) → length (entries_below bytes n) ≡ n
-length-entries_below bytes zero = refl
-length-entries_below bytes (suc n) = length-append (entries_below bytes n) (entry_at bytes n ∷ []) ∙ omega (arith, length-entries_below bytes n)
+layer-given : (g : GridData) (bytes : List ℕ) (n : ℕ) → layer_entries g (given_table g bytes) n ≡ layer_at (shape_of g) bytes n
+layer-given g bytes n =
+    fill_by_all (λ (state : ℕ). entry_at (shape_of g) bytes (entry_place g n state)) (layer_entries g (given_table g bytes) n) (states g) no_entry (length-layer g (given_table g bytes) n)
+    (λ state inside. layer-at g (given_table g bytes) n state inside ∙ given-place g bytes n state)
 
-entries_below-at : (bytes : List ℕ) (n i : ℕ) (d : Entry) → i < n → get_or (entries_below bytes n) i d ≡ entry_at bytes i
-entries_below-at bytes zero i d within = absurd (omega (arith, within))
-entries_below-at bytes (suc n) i d within =
-    elim (cases_lt i n) [
-      | inl lt ↦ get_or-append (entries_below bytes n) (entry_at bytes n ∷ []) d i (omega (arith, length-entries_below bytes n)) ∙ entries_below-at bytes n i d lt
-      | inr le ↦
-          let last : i ≡ n = omega (arith, within) in
-          ap (λ (k : ℕ). get_or (entries_below bytes n ++ entry_at bytes n ∷ []) k d) (last ∙ sym (length-entries_below bytes n))
-          ∙ get_or-append_seam (entries_below bytes n) (entry_at bytes n) [] d
-          ∙ ap (λ (k : ℕ). entry_at bytes k) (sym last)
-    ]
-
-given_state : (g : GridData) (bytes : List ℕ) (n state : ℕ) → state_entry g (given_table g bytes) n state ≡ entry_at bytes (entry_place g n state)
-given_state g bytes n state = given-place g bytes n state
-
--- those of the table that bytes are read as are their first entries
-pub all_entries-given : (g : GridData) (bytes : List ℕ) → all_entries (layers_of g (given_table g bytes)) ≡ entries_below bytes ((g.horizon + 1) * states g)
-all_entries-given g bytes =
-    let count : ℕ = (g.horizon + 1) * states g in
-    let long = length-all_entries g (given_table g bytes) in
-    ext_get_or no_entry (all_entries (layers_of g (given_table g bytes))) (entries_below bytes count) (long ∙ sym (length-entries_below bytes count))
-    (λ i within.
-    let inside : i < (g.horizon + 1) * states g = omega (arith, long) in
-    all_entries-at g (given_table g bytes) i inside
-    ∙ given_state g bytes (i / states g) (i % states g)
-    ∙ ap (λ (k : ℕ). entry_at bytes k) (is_place g i inside).is
-    ∙ sym (entries_below-at bytes count i no_entry inside))
+-- they are those that the bytes have
+pub layers-given : (g : GridData) (bytes : List ℕ) → layers_of g (given_table g bytes) ≡ layers_at (shape_of g) bytes
+layers-given g bytes =
+    fill_by_all (layer_at (shape_of g) bytes) (layers_of g (given_table g bytes)) (g.horizon + 1) [] (length-layers g (given_table g bytes))
+    (λ n seconds. layers-at g (given_table g bytes) n seconds ∙ layer-given g bytes n)

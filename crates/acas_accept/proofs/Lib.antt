@@ -1,5 +1,4 @@
 pub mod Places
-pub mod Rows
 pub mod Given
 pub mod NoRefusal
 pub mod Same
@@ -10,5 +9,6 @@ pub mod Firsts
 pub mod Kept
 pub mod Answered
 pub mod Steps
+pub mod Frames
 pub mod Accepting
 pub mod Planes

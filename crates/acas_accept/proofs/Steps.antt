@@ -8,7 +8,6 @@ use borrow.Author.Count.{below_more}
 use Rattle.acas_spec.specs.Model.{ModelData, entries, states}
 use Rattle.acas_units.specs.declared.pair.Entry.{Entry}
 use Rattle.acas_units.specs.declared.pair.Pair.{Pair}
-use Rattle.acas_base.specs.Advices.{AdvicesData, AreAdvicesOf, advice_at}
 use Rattle.acas_spec.specs.Table.{Table}
 use Rattle.acas_process.specs.Cost.{MayChoose}
 use Rattle.acas_grid.specs.States.{state_present, state_vertex}
@@ -18,41 +17,42 @@ use Rattle.acas_step.specs.Means.{AreMeansOf}
 use Rattle.acas_bounds.specs.Checks.{OfBelow, state_fault}
 use Rattle.acas_spec.specs.declared.fault.BoundFault.{BoundFault}
 use Rattle.acas_bounds.proofs.Faults.{OfBelow-map}
-use Rattle.acas_table.specs.Faults.{entry_fault, first_below}
+use Rattle.acas_table_text.specs.Faults.{entry_fault, first_below}
 use Rattle.acas_table.specs.Reader.{reader_state, Finishes, GivesEntry, HasRead}
-use Rattle.acas_table.specs.Shape.{shape_of}
-use Rattle.acas_table.specs.Text.{entry_at}
-use Rattle.acas_table.specs.declared.fault.TableFault.{TableFault}
-use Rattle.acas_table.specs.declared.shape.TableShape.{TableShape}
+use Rattle.acas_table_text.specs.Shape.{shape_of}
+use Rattle.acas_table_text.specs.Text.{entry_at}
+use Rattle.acas_table_text.specs.declared.fault.TableFault.{TableFault}
+use Rattle.acas_table_text.specs.declared.shape.TableShape.{TableShape}
 use Rattle.acas_table.specs.declared.reader.TableReader.{TableReader}
 use Rattle.acas_table.proofs.Found.{none_below}
-use Rattle.acas_accept.specs.Checking.{HasAccepted, HasNoRefusal, IsAnswer, IsBeforeLayer, IsCheckOf, IsInLayer, with_advice}
+use Rattle.acas_accept.specs.Checking.{HasAccepted, HasNoRefusal, IsAnswer, IsBeforeLayer, IsCheckOf, IsInLayer}
 use Rattle.acas_accept.specs.GivenTable.{entry_place, given_entry, given_table}
+use Rattle.acas_accept.specs.Keeping.{AreRead, MayBeChosen, listed_entry}
 use Rattle.acas_accept.specs.Refusals.{entry_refusal}
 use Rattle.acas_accept.specs.declared.check.TableCheck.{TableCheck}
 use Rattle.acas_accept.specs.Faults.{answered}
 use Rattle.acas_accept.specs.declared.refusal.AcceptFault.{AcceptFault}
 use Rattle.acas_accept.specs.declared.refusal.AcceptFault.TheVariants.{Refused}
-use Rattle.acas_table.specs.declared.refusal.TableRefusal.TheVariants as refusals
+use Rattle.acas_table_text.specs.declared.refusal.TableRefusal.TheVariants as refusals
 use Rattle.acas_accept.proofs.Answered.{IsPast, entry_answered_as, entry_same, finish_answered_as, header_of}
 use Rattle.acas_accept.proofs.Firsts.{at_end, in_entry, sound_refusal}
 use Rattle.acas_accept.proofs.Given.{given-place}
-use Rattle.acas_accept.proofs.Kept.{AreAdvicesOf-with, each_kept}
 use Rattle.acas_accept.proofs.Places.{entry_place-below}
 
-pub past : (m : ModelData) (digest : List ℕ) (t : TableCheck) (i : ℕ) (bytes : List ℕ) → IsCheckOf m t i → HasAccepted m digest t i bytes → IsPast m digest t.reader i bytes
-past m digest t i bytes check accepted = record { stands = accepted.stands; none = accepted.none; shape = check.shape; given = check.given }
+pub past : (m : ModelData) (digest : List ℕ) (t : TableCheck) (n state : ℕ) (bytes : List ℕ) → IsCheckOf m t n state → HasAccepted m digest t (entry_place m.grid n state) bytes
+    → IsPast m digest t.reader (entry_place m.grid n state) bytes
+past m digest t n state bytes check accepted = record { stands = accepted.stands; none = accepted.none; shape = check.shape; given = check.given }
 
 -- ---- an entry
 
 -- what an entry that is given says of the bytes
 pub record Takes (m : ModelData) (entry : Entry) (n state : ℕ) (bytes : List ℕ) : Type 0 where
-  pub is : entry ≡ entry_at bytes (entry_place m.grid n state)
+  pub is : entry ≡ entry_at (shape_of m.grid) bytes (entry_place m.grid n state)
   pub form : entry_fault (shape_of m.grid) bytes (entry_place m.grid n state) ≡ None
 
 pub takes : (m : ModelData) (digest : List ℕ) (r : TableReader) (n state : ℕ) (bytes : List ℕ) (entry : Entry) → IsPast m digest r (entry_place m.grid n state) bytes → GivesEntry digest (reader_state r) bytes (Ok entry) → Takes m entry n state bytes
 takes m digest r n state bytes entry is gives = record {
-  is = gives.0 ∙ ap (λ (k : ℕ). entry_at bytes k) is.given;
+  is = gives.0 ∙ ap (λ (s : TableShape). entry_at s bytes (reader_state r).given) is.shape ∙ ap (entry_at (shape_of m.grid) bytes) is.given;
   form = entry_same m digest r (entry_place m.grid n state) bytes is ∙ gives.1;
 }
 
@@ -74,26 +74,26 @@ refusal_is m digest t n state bytes entry fault inside within taken says =
 
 -- an entry that is not as it is to be
 pub fault_answered : (m : ModelData) (digest : List ℕ) (t : TableCheck) (n state : ℕ) (bytes : List ℕ) (fault : TableFault) (answer : AcceptFault) → answer ≡ answered fault
-    → IsCheckOf m t (entry_place m.grid n state) → n ≤ m.grid.horizon → state < states m.grid → IsInLayer m digest t n state bytes → GivesEntry digest (reader_state t.reader) bytes (Err fault)
+    → IsCheckOf m t n state → n ≤ m.grid.horizon → state < states m.grid → IsInLayer m digest t n state bytes → GivesEntry digest (reader_state t.reader) bytes (Err fault)
     → IsAnswer m digest bytes answer
 fault_answered m digest t n state bytes fault answer is check seconds inside within gives =
-    entry_answered_as m digest t.reader (entry_place m.grid n state) bytes fault answer is (past m digest t (entry_place m.grid n state) bytes check within.accepted) (entry_place-below m.grid n state seconds inside) gives
+    entry_answered_as m digest t.reader (entry_place m.grid n state) bytes fault answer is (past m digest t n state bytes check within.accepted) (entry_place-below m.grid n state seconds inside) gives
 
 -- an entry that is not sound
 pub unsound_answered : (m : ModelData) (digest : List ℕ) (t : TableCheck) (n state : ℕ) (bytes : List ℕ) (entry : Entry) (fault : BoundFault)
-    → IsCheckOf m t (entry_place m.grid n state) → n ≤ m.grid.horizon → state < states m.grid → IsInLayer m digest t n state bytes → GivesEntry digest (reader_state t.reader) bytes (Ok entry)
+    → IsCheckOf m t n state → n ≤ m.grid.horizon → state < states m.grid → IsInLayer m digest t n state bytes → GivesEntry digest (reader_state t.reader) bytes (Ok entry)
     → Says m t.means.items entry n state (Some fault) → IsAnswer m digest bytes (Refused (refusals.Entry n state fault))
 unsound_answered m digest t n state bytes entry fault check seconds inside within gives says =
-    let is = past m digest t (entry_place m.grid n state) bytes check within.accepted in
+    let is = past m digest t n state bytes check within.accepted in
     in_entry m digest bytes (entry_place m.grid n state) (refusals.Entry n state fault) (header_of m digest t.reader bytes is.stands is.shape) is.none (entry_place-below m.grid n state seconds inside)
     (refusal_is m digest t n state bytes entry (Some fault) inside within (takes m digest t.reader n state bytes entry is gives) says)
 
 -- what a check keeps of an entry, when its reader has gone on
-pub record Keeps (old : TableCheck) (r : TableReader) (new : TableCheck) (n state : ℕ) (entry : Entry) : Type 0 where
+pub record Keeps (old : TableCheck) (r : TableReader) (new : TableCheck) (state : ℕ) (entry : Entry) : Type 0 where
   pub reader : new.reader ≡ r
   pub means : new.means ≡ old.means
   pub pairs : new.pairs.items ≡ set old.pairs.items state entry.pair
-  pub advices : new.advices ≡ with_advice old.advices n state entry.advice
+  pub advice : new.advice.items ≡ set old.advice.items state entry.advice
 
 -- what a reader is after one more
 pub record IsOn (old new : TableReader) : Type 0 where
@@ -102,8 +102,18 @@ pub record IsOn (old new : TableReader) : Type 0 where
   pub no_fault : (reader_state new).fault ≡ None
   pub not_done : (reader_state new).done ≡ false
 
-pub check_next : (m : ModelData) (old : TableCheck) (r : TableReader) (new : TableCheck) (n state : ℕ) (entry : Entry) → IsCheckOf m old (entry_place m.grid n state) → n ≤ m.grid.horizon → state < states m.grid → IsOn old.reader r
-    → Keeps old r new n state entry → (1 ≤ n → MayChoose m (state_present m.grid state) entry.advice) → IsCheckOf m new (entry_place m.grid n (state + 1))
+-- the advices of the states below one that is written, and its own
+chosen_next : (m : ModelData) (n state : ℕ) (advice : List ℕ) (byte : ℕ) → state < length advice → MayBeChosen m n state advice → (1 ≤ n → MayChoose m (state_present m.grid state) byte)
+    → MayBeChosen m n (state + 1) (set advice state byte)
+chosen_next m n state advice byte inside before here = record {
+  each = λ s some below.
+      below_more (λ (k : ℕ). MayChoose m (state_present m.grid k) (get_or (set advice state byte) k 0)) state
+      (λ k h. let apart : k ≢ state = λ e. absurd (omega arith) in rw (get_or-set_other advice state k byte 0 apart) (before.each k some h))
+      (rw (get_or-set_same advice state byte 0 inside) (here some)) s below;
+}
+
+pub check_next : (m : ModelData) (old : TableCheck) (r : TableReader) (new : TableCheck) (n state : ℕ) (entry : Entry) → IsCheckOf m old n state → n ≤ m.grid.horizon → state < states m.grid → IsOn old.reader r
+    → Keeps old r new state entry → (1 ≤ n → MayChoose m (state_present m.grid state) entry.advice) → IsCheckOf m new n (state + 1)
 check_next m old r new n state entry check seconds inside on keeps allowed = record {
   valid = check.valid;
   shape = ap (λ (x : TableReader). (reader_state x).shape) keeps.reader ∙ on.shape ∙ check.shape;
@@ -111,47 +121,49 @@ check_next m old r new n state entry check seconds inside on keeps allowed = rec
   no_fault = ap (λ (x : TableReader). (reader_state x).fault) keeps.reader ∙ on.no_fault;
   not_done = ap (λ (x : TableReader). (reader_state x).done) keeps.reader ∙ on.not_done;
   pairs = ap length keeps.pairs ∙ length-set old.pairs.items state entry.pair ∙ check.pairs;
+  advice = ap length keeps.advice ∙ length-set old.advice.items state entry.advice ∙ check.advice;
   means = ap (λ (v : Vec Pair Global). length v.items) keeps.means ∙ check.means;
-  advices = subst (λ (a : AdvicesData). AreAdvicesOf m a) (sym keeps.advices) (AreAdvicesOf-with m old.advices n state entry.advice check.advices);
-  allowed =
-      subst (λ (a : AdvicesData). (k s : ℕ) → 1 ≤ k → s < states m.grid → entry_place m.grid k s < entry_place m.grid n (state + 1) → MayChoose m (state_present m.grid s) (advice_at a k s)) (sym keeps.advices)
-      (each_kept m old.advices n state entry.advice (λ k s a. MayChoose m (state_present m.grid s) a) check.advices seconds inside check.allowed allowed);
+  allowed = subst (MayBeChosen m n (state + 1)) (sym keeps.advice) (chosen_next m n state old.advice.items entry.advice (omega (arith, check.advice)) check.allowed allowed);
 }
 
--- of the places below one that is written, and of that one
-each_written : (P : ℕ → Pair → Type 0) (xs : List Pair) (i : ℕ) (y d : Pair) → i < length xs → ((k : ℕ) → k < i → P k (get_or xs k d)) → P i y → (k : ℕ) → k < i + 1 → P k (get_or (set xs i y) k d)
-each_written P xs i y d inside before here =
-    below_more (λ (k : ℕ). P k (get_or (set xs i y) k d)) i
-    (λ k h. let apart : k ≢ i = λ e. absurd (omega arith) in subst (λ (z : Pair). P k z) (sym (get_or-set_other xs i k y d apart)) (before k h))
-    (subst (λ (z : Pair). P i z) (sym (get_or-set_same xs i y d inside)) here)
+-- the entries of the states below one that is written, and its own
+read_next : (m : ModelData) (bytes : List ℕ) (n state : ℕ) (pairs : List Pair) (advice : List ℕ) (entry : Entry) → state < length pairs → state < length advice → AreRead m bytes n state pairs advice
+    → entry ≡ entry_at (shape_of m.grid) bytes (entry_place m.grid n state) → AreRead m bytes n (state + 1) (set pairs state entry.pair) (set advice state entry.advice)
+read_next m bytes n state pairs advice entry inside within before is = record { each = each }
+  where
+    each : (s : ℕ) → s < state + 1 → listed_entry (set pairs state entry.pair) (set advice state entry.advice) s ≡ entry_at (shape_of m.grid) bytes (entry_place m.grid n s)
+    each =
+        below_more (λ (s : ℕ). listed_entry (set pairs state entry.pair) (set advice state entry.advice) s ≡ entry_at (shape_of m.grid) bytes (entry_place m.grid n s)) state
+        (λ s h.
+        let apart : s ≢ state = λ e. absurd (omega arith) in
+        rw (get_or-set_other pairs state s entry.pair no_pair apart, get_or-set_other advice state s entry.advice 0 apart) (before.each s h))
+        (rw (get_or-set_same pairs state entry.pair no_pair inside, get_or-set_same advice state entry.advice 0 within) is)
 
 place-next : (m : ModelData) (n state : ℕ) → entry_place m.grid n (state + 1) ≡ entry_place m.grid n state + 1
 place-next m n state = omega arith
 
-accepted_next : (m : ModelData) (digest : List ℕ) (old : TableCheck) (r : TableReader) (new : TableCheck) (n state : ℕ) (bytes : List ℕ) (entry : Entry) → IsCheckOf m old (entry_place m.grid n state) → n ≤ m.grid.horizon → state < states m.grid
-    → IsInLayer m digest old n state bytes → Takes m entry n state bytes → HasRead digest r bytes → Says m old.means.items entry n state None → Keeps old r new n state entry
+accepted_next : (m : ModelData) (digest : List ℕ) (old : TableCheck) (r : TableReader) (new : TableCheck) (n state : ℕ) (bytes : List ℕ) (entry : Entry) → IsCheckOf m old n state → n ≤ m.grid.horizon → state < states m.grid
+    → IsInLayer m digest old n state bytes → Takes m entry n state bytes → HasRead digest r bytes → Says m old.means.items entry n state None → Keeps old r new state entry
     → HasAccepted m digest new (entry_place m.grid n (state + 1)) bytes
 accepted_next m digest old r new n state bytes entry check seconds inside within taken stands says keeps = record {
   stands = subst (λ (x : TableReader). HasRead digest x bytes) (sym keeps.reader) stands;
   none =
       ap (first_below (entry_refusal m bytes)) (place-next m n state)
       ∙ none_below (entry_refusal m bytes) (entry_place m.grid n state) within.accepted.none (refusal_is m digest old n state bytes entry None inside within taken says);
-  advices =
-      subst (λ (a : AdvicesData). (k s : ℕ) → 1 ≤ k → s < states m.grid → entry_place m.grid k s < entry_place m.grid n (state + 1) → advice_at a k s ≡ (entry_at bytes (entry_place m.grid k s)).advice) (sym keeps.advices)
-      (each_kept m old.advices n state entry.advice (λ k s a. a ≡ (entry_at bytes (entry_place m.grid k s)).advice) check.advices seconds inside within.accepted.advices (λ some. ap (λ (e : Entry). e.advice) taken.is));
 }
 
 -- an entry that is sound
-pub in_layer_next : (m : ModelData) (digest : List ℕ) (old : TableCheck) (r : TableReader) (new : TableCheck) (n state : ℕ) (bytes : List ℕ) (entry : Entry) → IsCheckOf m old (entry_place m.grid n state) → n ≤ m.grid.horizon → state < states m.grid
-    → IsInLayer m digest old n state bytes → GivesEntry digest (reader_state old.reader) bytes (Ok entry) → HasRead digest r bytes → Says m old.means.items entry n state None → Keeps old r new n state entry
+pub in_layer_next : (m : ModelData) (digest : List ℕ) (old : TableCheck) (r : TableReader) (new : TableCheck) (n state : ℕ) (bytes : List ℕ) (entry : Entry) → IsCheckOf m old n state → n ≤ m.grid.horizon → state < states m.grid
+    → IsInLayer m digest old n state bytes → GivesEntry digest (reader_state old.reader) bytes (Ok entry) → HasRead digest r bytes → Says m old.means.items entry n state None → Keeps old r new state entry
     → IsInLayer m digest new n (state + 1) bytes
 in_layer_next m digest old r new n state bytes entry check seconds inside within gives stands says keeps =
-    let taken = takes m digest old.reader n state bytes entry (past m digest old (entry_place m.grid n state) bytes check within.accepted) gives in
+    let taken = takes m digest old.reader n state bytes entry (past m digest old n state bytes check within.accepted) gives in
     record {
       accepted = accepted_next m digest old r new n state bytes entry check seconds inside within taken stands says keeps;
-      pairs =
-          subst (λ (xs : List Pair). (s : ℕ) → s < state + 1 → get_or xs s no_pair ≡ (entry_at bytes (entry_place m.grid n s)).pair) (sym keeps.pairs)
-          (each_written (λ s p. p ≡ (entry_at bytes (entry_place m.grid n s)).pair) old.pairs.items state entry.pair no_pair (omega (arith, check.pairs)) within.pairs (ap (λ (e : Entry). e.pair) taken.is));
+      read =
+          subst (λ (xs : List Pair). AreRead m bytes n (state + 1) xs new.advice.items) (sym keeps.pairs)
+          (subst (λ (xs : List ℕ). AreRead m bytes n (state + 1) (set old.pairs.items state entry.pair) xs) (sym keeps.advice)
+          (read_next m bytes n state old.pairs.items old.advice.items entry (omega (arith, check.pairs)) (omega (arith, check.advice)) within.read taken.is));
       means = subst (λ (v : Vec Pair Global). OfBelow (λ k. AreMeansOf m (given_table m.grid bytes) k v.items) n) (sym keeps.means) within.means;
     }
 
@@ -162,50 +174,62 @@ pub accepted_at : (m : ModelData) (digest : List ℕ) (t : TableCheck) (i j : �
 accepted_at m digest t i j bytes same accepted = subst (λ (k : ℕ). HasAccepted m digest t k bytes) same accepted
 
 -- before its first entry, with the means of the layer below it
-pub in_layer_first : (m : ModelData) (digest : List ℕ) (old new : TableCheck) (n : ℕ) (bytes : List ℕ) → new.reader ≡ old.reader → new.advices ≡ old.advices
+pub in_layer_first : (m : ModelData) (digest : List ℕ) (old new : TableCheck) (n : ℕ) (bytes : List ℕ) → new.reader ≡ old.reader
     → ((t : Table) (k : ℕ) → AreValuesOf m t k old.pairs.items → AreMeansOf m t k new.means.items) → IsBeforeLayer m digest old n bytes → IsInLayer m digest new n 0 bytes
-in_layer_first m digest old new n bytes reader advices means before =
+in_layer_first m digest old new n bytes reader means before =
     let at : n * states m.grid ≡ entry_place m.grid n 0 = omega arith in
     let accepted : HasAccepted m digest old (entry_place m.grid n 0) bytes = accepted_at m digest old (n * states m.grid) (entry_place m.grid n 0) bytes at before.accepted in
     record {
-      accepted = record {
-        stands = subst (λ (x : TableReader). HasRead digest x bytes) (sym reader) accepted.stands;
-        none = accepted.none;
-        advices =
-            subst (λ (a : AdvicesData). (k s : ℕ) → 1 ≤ k → s < states m.grid → entry_place m.grid k s < entry_place m.grid n 0 → advice_at a k s ≡ (entry_at bytes (entry_place m.grid k s)).advice) (sym advices) accepted.advices;
-      };
-      pairs = λ s none. absurd (omega (arith, none));
+      accepted = record { stands = subst (λ (x : TableReader). HasRead digest x bytes) (sym reader) accepted.stands; none = accepted.none };
+      read = record { each = λ s none. absurd (omega (arith, none)) };
       means =
           OfBelow-map (λ k. AreValuesOf m (given_table m.grid bytes) k old.pairs.items) (λ k. AreMeansOf m (given_table m.grid bytes) k new.means.items) n (λ k values. means (given_table m.grid bytes) k values) before.values;
     }
 
 layer_values_are : (m : ModelData) (digest : List ℕ) (t : TableCheck) (n : ℕ) (bytes : List ℕ) → IsInLayer m digest t n (states m.grid) bytes → AreValuesOf m (given_table m.grid bytes) n t.pairs.items
 layer_values_are m digest t n bytes within = record {
-  upper = λ s inside. ap (λ (p : Pair). p.upper) (within.pairs s inside) ∙ ap (λ (e : Entry). e.pair.upper) (sym (given-place m.grid bytes n s));
-  lower = λ s inside. ap (λ (p : Pair). p.lower) (within.pairs s inside) ∙ ap (λ (e : Entry). e.pair.lower) (sym (given-place m.grid bytes n s));
+  upper = λ s inside. ap (λ (e : Entry). e.pair.upper) (within.read.each s inside ∙ sym (given-place m.grid bytes n s));
+  lower = λ s inside. ap (λ (e : Entry). e.pair.lower) (within.read.each s inside ∙ sym (given-place m.grid bytes n s));
 }
 
 row_end : (n width : ℕ) → n * width + width ≡ (n + 1) * width
 row_end n width = omega arith
 
 -- a layer that is read is the one below the next
-pub before_next_layer : (m : ModelData) (digest : List ℕ) (t : TableCheck) (n state : ℕ) (bytes : List ℕ) → state ≡ states m.grid → IsInLayer m digest t n state bytes → IsBeforeLayer m digest t (n + 1) bytes
-before_next_layer m digest t n state bytes all within =
-    let whole = subst (λ (k : ℕ). IsInLayer m digest t n k bytes) all within in
-    record {
-      accepted = accepted_at m digest t (entry_place m.grid n (states m.grid)) ((n + 1) * states m.grid) bytes (row_end n (states m.grid)) whole.accepted;
-      values = subst (λ (k : ℕ). OfBelow (λ j. AreValuesOf m (given_table m.grid bytes) j t.pairs.items) k) (sym (add-one n)) (layer_values_are m digest t n bytes whole);
-    }
+pub before_next_layer : (m : ModelData) (digest : List ℕ) (t : TableCheck) (n : ℕ) (bytes : List ℕ) → IsInLayer m digest t n (states m.grid) bytes → IsBeforeLayer m digest t (n + 1) bytes
+before_next_layer m digest t n bytes whole = record {
+  accepted = accepted_at m digest t (entry_place m.grid n (states m.grid)) ((n + 1) * states m.grid) bytes (row_end n (states m.grid)) whole.accepted;
+  values = subst (λ (k : ℕ). OfBelow (λ j. AreValuesOf m (given_table m.grid bytes) j t.pairs.items) k) (sym (add-one n)) (layer_values_are m digest t n bytes whole);
+}
+
+row_next : (n width : ℕ) → n * width + width ≡ (n + 1) * width + 0
+row_next n width = omega arith
+
+pub check_next_layer : (m : ModelData) (t : TableCheck) (n : ℕ) → IsCheckOf m t n (states m.grid) → IsCheckOf m t (n + 1) 0
+check_next_layer m t n check = record {
+  valid = check.valid;
+  shape = check.shape;
+  given = check.given ∙ row_next n (states m.grid);
+  no_fault = check.no_fault;
+  not_done = check.not_done;
+  pairs = check.pairs;
+  advice = check.advice;
+  means = check.means;
+  allowed = record { each = λ s some none. absurd (omega (arith, none)) };
+}
 
 -- ---- what follows the entries
 
-pub end_answered : (X : Type 0) (m : ModelData) (digest : List ℕ) (t : TableCheck) (bytes : List ℕ) (fault : TableFault) (answer : AcceptFault) → answer ≡ answered fault → IsCheckOf m t (entries m.grid)
+past_all : (m : ModelData) (digest : List ℕ) (t : TableCheck) (bytes : List ℕ) → IsCheckOf m t (m.grid.horizon + 1) 0 → HasAccepted m digest t (entries m.grid) bytes → IsPast m digest t.reader (entries m.grid) bytes
+past_all m digest t bytes check accepted = record { stands = accepted.stands; none = accepted.none; shape = check.shape; given = omega (arith, check.given) }
+
+pub end_answered : (X : Type 0) (m : ModelData) (digest : List ℕ) (t : TableCheck) (bytes : List ℕ) (fault : TableFault) (answer : AcceptFault) → answer ≡ answered fault → IsCheckOf m t (m.grid.horizon + 1) 0
     → HasAccepted m digest t (entries m.grid) bytes → Finishes {X = X} digest t.reader.shape bytes (Err fault) → IsAnswer m digest bytes answer
 end_answered X m digest t bytes fault answer is check accepted ends =
-    finish_answered_as X m digest t.reader bytes fault answer is (past m digest t (entries m.grid) bytes check accepted)
+    finish_answered_as X m digest t.reader bytes fault answer is (past_all m digest t bytes check accepted)
     (subst (λ (s : TableShape). Finishes {X = X} digest s bytes (Err fault)) check.shape ends)
 
-pub whole : (X : Type 0) (m : ModelData) (digest : List ℕ) (t : TableCheck) (bytes : List ℕ) (x : X) → IsCheckOf m t (entries m.grid) → HasAccepted m digest t (entries m.grid) bytes
+pub whole : (X : Type 0) (m : ModelData) (digest : List ℕ) (t : TableCheck) (bytes : List ℕ) (x : X) → IsCheckOf m t (m.grid.horizon + 1) 0 → HasAccepted m digest t (entries m.grid) bytes
     → Finishes {X = X} digest t.reader.shape bytes (Ok x) → HasNoRefusal m digest bytes
 whole X m digest t bytes x check accepted ends =
     let good = subst (λ (s : TableShape). Finishes {X = X} digest s bytes (Ok x)) check.shape ends in

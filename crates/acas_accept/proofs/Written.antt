@@ -1,5 +1,5 @@
 -- The text of a table whose entries are sound and fit is read as that table.
-use Rattle.std.proofs.Common.{◌≡◌, ℕ, zero, suc, ◌+◌, ◌*◌, ◌/◌, ◌%◌, ◌<◌, ◌≤◌, Bool, cond, List, length, None, sym, ◌∙◌, ap, subst, arith, w64}
+use Rattle.std.proofs.Common.{◌≡◌, ℕ, zero, suc, ◌<◌, ◌≤◌, Bool, cond, List, length, None, sym, ◌∙◌, ap, subst, arith, w64}
 use Rattle.std.proofs.lemmas.Bool.{eq-eqb, le-ltb, lt-ltb}
 use Rattle.std.specs.Prelude.{◌==◌, FitsSigned, nat_lt}
 use Rattle.acas_spec.specs.Limits.{IsModel}
@@ -12,21 +12,20 @@ use Rattle.acas_process.specs.Bounds.{IsSound, IsSoundEntry}
 use Rattle.acas_process.specs.Cost.{IsEntry}
 use Rattle.acas_process.proofs.ModelLaws.{is_chosen}
 use Rattle.acas_grid.specs.States.{state_present, state_vertex}
-use Rattle.acas_table.specs.Faults.{advice_fault, first_fault}
-use Rattle.acas_table.specs.Layers.{layers_of, state_entry, table_text}
-use Rattle.acas_table.specs.Shape.{shape_of}
-use Rattle.acas_table.specs.Tables.{IsTable, all_entries, flat_text}
-use Rattle.acas_table.specs.Text.{entry_at}
-use Rattle.acas_table.proofs.Flat.{flat}
-use Rattle.acas_table.proofs.Shapes.{limited}
-use Rattle.acas_table.proofs.TextLaws.{entry_read, good_if, text_is_good}
+use Rattle.acas_table_text.specs.Faults.{advice_fault}
+use Rattle.acas_table_text.specs.Layers.{layers_of, state_entry, table_text}
+use Rattle.acas_table_text.specs.Shape.{shape_of}
+use Rattle.acas_table_text.specs.Tables.{IsTable}
+use Rattle.acas_table_text.specs.declared.format.Format.{Format}
+use Rattle.acas_table_text.proofs.Shapes.{limited}
+use Rattle.acas_table_text.proofs.TextLaws.{entry_read, good_if}
 use Rattle.acas_accept.specs.Accepted.{IsWritable}
 use Rattle.acas_accept.specs.GivenTable.{entry_place, given_entry, given_table}
-use Rattle.acas_accept.proofs.Given.{all_entries-at, all_entries-place, length-all_entries}
+use Rattle.acas_accept.proofs.Given.{entry-at, layers-at, length-layer, length-layers}
 use Rattle.acas_grid.proofs.StateNumbers.{state_present-state_number, state_vertex-state_number}
 use Rattle.acas_grid.proofs.Vertices.{vertices-one_to_one}
 use Rattle.acas_step.proofs.NumberedStates.{state_number-below}
-use Rattle.acas_accept.proofs.Places.{is_place, entry_place-below, state_entry_is}
+use Rattle.acas_accept.proofs.Places.{state_entry_is}
 use Rattle.acas_accept.proofs.Same.{AreSame}
 
 -- an advice that may stand in a layer
@@ -49,36 +48,22 @@ advice_good m t (suc n) state v writable sound seconds inside =
     (ap (λ (b : Bool). cond b (byte == 255) (nat_lt byte g.advisories)) (le-ltb (entry_place g (suc n) state) (states g) (omega arith))
     ∙ lt-ltb byte g.advisories ((is_chosen m p byte v at.present entry.0).inside))
 
--- the entries of a table, in one list
-pub is_table : (m : ModelData) (digest : List ℕ) (t : Table) → IsModel m → length digest ≡ 32 → IsWritable m t → IsSound m t → IsTable digest (shape_of m.grid) (all_entries (layers_of m.grid t))
+-- the layers of a table
+pub is_table : (m : ModelData) (digest : List ℕ) (t : Table) → IsModel m → length digest ≡ 32 → IsWritable m t → IsSound m t → IsTable digest (shape_of m.grid) (layers_of m.grid t)
 is_table m digest t v long writable sound =
     let g = m.grid in
-    let count = length-all_entries g t in
     record {
       digest_is = long;
       shape = limited g v.grid;
-      count = count;
-      upper = λ i within.
-          let inside : i < (g.horizon + 1) * states g = omega (arith, count) in
-          let at = is_place g i inside in
-          subst (λ (e : Entry). FitsSigned w64 e.pair.upper) (sym (all_entries-at g t i inside)) (writable.upper (i / states g) (state_present g (i % states g)) (state_vertex g (i % states g)) (state_entry_is m (i / states g) (i % states g) at.seconds at.state));
-      lower = λ i within.
-          let inside : i < (g.horizon + 1) * states g = omega (arith, count) in
-          let at = is_place g i inside in
-          subst (λ (e : Entry). FitsSigned w64 e.pair.lower) (sym (all_entries-at g t i inside)) (writable.lower (i / states g) (state_present g (i % states g)) (state_vertex g (i % states g)) (state_entry_is m (i / states g) (i % states g) at.seconds at.state));
-      advice = λ i within.
-          let inside : i < (g.horizon + 1) * states g = omega (arith, count) in
-          let at = is_place g i inside in
-          ap (λ (e : Entry). advice_fault (shape_of g) i e.advice) (all_entries-at g t i inside)
-          ∙ ap (λ (k : ℕ). advice_fault (shape_of g) k (state_entry g t (i / states g) (i % states g)).advice) (sym at.is)
-          ∙ advice_good m t (i / states g) (i % states g) v writable sound at.seconds at.state;
+      count = length-layers g t;
+      states = λ n seconds. ap length (layers-at g t n seconds) ∙ length-layer g t n;
+      upper = λ n state seconds inside.
+          subst (λ (e : Entry). FitsSigned w64 e.pair.upper) (sym (entry-at g t n state seconds inside)) (writable.upper n (state_present g state) (state_vertex g state) (state_entry_is m n state (omega arith) inside));
+      lower = λ n state seconds inside.
+          subst (λ (e : Entry). FitsSigned w64 e.pair.lower) (sym (entry-at g t n state seconds inside)) (writable.lower n (state_present g state) (state_vertex g state) (state_entry_is m n state (omega arith) inside));
+      advice = λ n state seconds inside.
+          ap (λ (e : Entry). advice_fault (shape_of g) (entry_place g n state) e.advice) (entry-at g t n state seconds inside) ∙ advice_good m t n state v writable sound (omega arith) inside;
     }
-
-text-flat : (m : ModelData) (digest : List ℕ) (t : Table) → table_text digest m.grid t ≡ flat_text digest (shape_of m.grid) (all_entries (layers_of m.grid t))
-text-flat m digest t = flat digest (shape_of m.grid) (layers_of m.grid t)
-
-pub text_without_fault : (m : ModelData) (digest : List ℕ) (t : Table) → IsTable digest (shape_of m.grid) (all_entries (layers_of m.grid t)) → first_fault digest (shape_of m.grid) (table_text digest m.grid t) ≡ None
-text_without_fault m digest t is = ap (λ (bytes : List ℕ). first_fault digest (shape_of m.grid) bytes) (text-flat m digest t) ∙ text_is_good digest (shape_of m.grid) (all_entries (layers_of m.grid t)) is
 
 -- the entry of a state, at the vertex of its number
 state_entry-at : (m : ModelData) (t : Table) (n p : ℕ) (x : Vertex) → IsEntry m n p x
@@ -88,22 +73,20 @@ state_entry-at m t n p x at =
     ap (λ (q : ℕ). made q (state_vertex m.grid (state_number m.grid p (vertex_number m.grid x)))) (state_present-state_number m.grid p (vertex_number m.grid x) ((vertices-one_to_one m.grid).below x at.vertex))
     ∙ ap (λ (y : Vertex). made p y) (state_vertex-state_number m.grid p x at.vertex)
 
-entry_again : (m : ModelData) (digest : List ℕ) (t : Table) (n p : ℕ) (x : Vertex) → IsTable digest (shape_of m.grid) (all_entries (layers_of m.grid t)) → IsEntry m n p x
-    → given_entry m.grid (table_text digest m.grid t) n p x ≡ record { pair = record { upper = t.upper n p x; lower = t.lower n p x }; advice = t.advice n p x }
-entry_again m digest t n p x is at =
+entry_again : (m : ModelData) (f : Format) (digest : List ℕ) (t : Table) (n p : ℕ) (x : Vertex) → IsTable digest (shape_of m.grid) (layers_of m.grid t) → IsEntry m n p x
+    → given_entry m.grid (table_text f digest m.grid t) n p x ≡ record { pair = record { upper = t.upper n p x; lower = t.lower n p x }; advice = t.advice n p x }
+entry_again m f digest t n p x is at =
     let g = m.grid in
     let state : ℕ = state_number m.grid p (vertex_number m.grid x) in
     let inside = state_number-below g p x at.present at.vertex in
-    let within = entry_place-below g n state at.seconds inside in
-    ap (λ (bytes : List ℕ). entry_at bytes (entry_place g n state)) (text-flat m digest t)
-    ∙ entry_read digest (shape_of g) (all_entries (layers_of g t)) (entry_place g n state) is (omega (arith, length-all_entries g t))
-    ∙ all_entries-place g t n state at.seconds inside
+    entry_read f digest (shape_of g) (layers_of g t) n state is (omega (arith, at.seconds)) inside
+    ∙ entry-at g t n state (omega (arith, at.seconds)) inside
     ∙ state_entry-at m t n p x at
 
 -- the text is read as the table
-pub read_again : (m : ModelData) (digest : List ℕ) (t : Table) → IsTable digest (shape_of m.grid) (all_entries (layers_of m.grid t)) → AreSame m t (given_table m.grid (table_text digest m.grid t))
-read_again m digest t is = record {
-  upper = λ n p x at. ap (λ (e : Entry). e.pair.upper) (entry_again m digest t n p x is at);
-  lower = λ n p x at. ap (λ (e : Entry). e.pair.lower) (entry_again m digest t n p x is at);
-  advice = λ n p x at. ap (λ (e : Entry). e.advice) (entry_again m digest t n p x is at);
+pub read_again : (m : ModelData) (f : Format) (digest : List ℕ) (t : Table) → IsTable digest (shape_of m.grid) (layers_of m.grid t) → AreSame m t (given_table m.grid (table_text f digest m.grid t))
+read_again m f digest t is = record {
+  upper = λ n p x at. ap (λ (e : Entry). e.pair.upper) (entry_again m f digest t n p x is at);
+  lower = λ n p x at. ap (λ (e : Entry). e.pair.lower) (entry_again m f digest t n p x is at);
+  advice = λ n p x at. ap (λ (e : Entry). e.advice) (entry_again m f digest t n p x is at);
 }

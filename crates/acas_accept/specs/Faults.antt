@@ -1,9 +1,9 @@
 -- What a fault of the reader is answered as.
 use Rattle.std.specs.Prelude.{⊤}
-use Rattle.acas_table.specs.declared.fault.TableFault.{TableFault}
-use Rattle.acas_table.specs.declared.fault.TableFault.TheVariants as faults
-use Rattle.acas_table.specs.Refusals.{IsOfBytes}
-use Rattle.acas_table.specs.declared.refusal.TableRefusal.TheVariants.{Form}
+use Rattle.acas_table_text.specs.declared.fault.TableFault.{TableFault}
+use Rattle.acas_table_text.specs.declared.fault.TableFault.TheVariants as faults
+use Rattle.acas_table_text.specs.Refusals.{IsOfBytes}
+use Rattle.acas_table_text.specs.declared.refusal.TableRefusal.TheVariants.{Form}
 use Rattle.acas_accept.specs.declared.refusal.AcceptFault.{AcceptFault}
 use Rattle.acas_accept.specs.declared.refusal.AcceptFault.TheVariants.{Refused, Absent, Failed, Memory}
 

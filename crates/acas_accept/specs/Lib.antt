@@ -1,6 +1,7 @@
 pub mod GivenTable
 pub mod Refusals
 pub mod Accepted
+pub mod Keeping
 pub mod Answers
 pub mod Faults
 pub mod Checking

@@ -4,11 +4,11 @@ use Rattle.std.specs.Option.{option_map}
 use Rattle.acas_spec.specs.Model.{ModelData, states}
 use Rattle.acas_bounds.specs.Checks.{state_fault}
 use Rattle.acas_spec.specs.declared.fault.BoundFault.{BoundFault}
-use Rattle.acas_table.specs.Faults.{entry_fault, first, first_below, header_fault, tail_fault}
-use Rattle.acas_table.specs.Shape.{entry_count, shape_of}
+use Rattle.acas_table_text.specs.Faults.{entry_fault, first, first_below, header_fault, tail_fault}
+use Rattle.acas_table_text.specs.Shape.{entry_count, shape_of}
 use Rattle.acas_accept.specs.GivenTable.{given_table}
-use Rattle.acas_table.specs.declared.refusal.TableRefusal.{TableRefusal}
-use Rattle.acas_table.specs.declared.refusal.TableRefusal.TheVariants.{Form, Entry}
+use Rattle.acas_table_text.specs.declared.refusal.TableRefusal.{TableRefusal}
+use Rattle.acas_table_text.specs.declared.refusal.TableRefusal.TheVariants.{Form, Entry}
 
 -- the part of soundness that the entry of a state with n seconds to go fails
 abbrev pub given_fault : ModelData → List ℕ → ℕ → ℕ → Option BoundFault

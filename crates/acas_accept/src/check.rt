@@ -1,21 +1,22 @@
 //! A table in check: it is read entry by entry, and each entry is looked at before the next is read.
-ghost use Rattle.std.specs.Prelude.{◌≡◌, ◌≤◌, ◌<◌, ◌+◌, ◌-◌, ◌*◌, List, ℕ, None, false, length, set, IsTrue, IsErrOf, IfErr, IfOk, MatchResult};
+ghost use Rattle.std.specs.Prelude.{◌≡◌, ◌≤◌, ◌<◌, ◌+◌, ◌-◌, List, ℕ, None, false, length, set, IsTrue, IsErrOf, IfErr, IfOk, OnOk, MatchResult};
 ghost use Rattle.acas_spec.specs.Model.{ModelData, entries, states, vertices};
 ghost use Rattle.acas_grid.specs.Grid.{state_number};
 ghost use Rattle.acas_outside.specs.Counts.{raised};
 ghost use Rattle.acas_outside.specs.Files.{Given};
 ghost use Rattle.acas_outside.specs.Frame.{OnlyReads};
 ghost use Rattle.acas_table.specs.Reader.{Told, reader_state};
-ghost use Rattle.acas_table.specs.Shape.{entry_count, shape_of};
+ghost use Rattle.acas_table_text.specs.Shape.{entry_count, shape_of};
 ghost use Rattle.acas_table.specs.Source.{Takes};
-ghost use Rattle.acas_table.specs.Text.{length_1};
+ghost use Rattle.acas_table_text.specs.Format.{expected_length, length_of};
+ghost use Rattle.acas_table_text.specs.declared.format.Format.TheVariants.{Layered};
 ghost use Rattle.acas_bounds.specs.Planes.{IsPlane};
-ghost use Rattle.acas_accept.specs.GivenTable.{entry_place};
-ghost use Rattle.acas_accept.specs.Checking.{Begins, HasAccepted, HasNoRefusal, IsAnswer, IsBeforeLayer, IsCheckOf, IsInLayer, with_advice};
+ghost use Rattle.acas_accept.specs.Checking.{Begins, HasAccepted, HasNoRefusal, IsAnswer, IsBeforeLayer, IsCheckOf, IsInLayer};
 ghost use Rattle.acas_accept.specs.Faults.{IsAnswerable, answered};
 
+use crate::keeping::KeepsLayers;
 use crate::refusal::AcceptFault;
-use acas_base::{Advices, Model};
+use acas_base::Model;
 use acas_bounds::{Plane, check_at};
 use acas_outside::Folder;
 use acas_step::{LayerMeans, fill_means_with};
@@ -23,13 +24,13 @@ use acas_table::{TableFault, TableReader, TableRefusal};
 use acas_units::{Entry, Pair};
 use std::alloc::{AllocError, Global};
 
-/// A table in check: its reader, the values of the layer in work, the means of the layer below it, and the advices that were read.
+/// A table in check: its reader, the values and advices of the layer in work, and the means of the layer below it.
 #[derive(Drop)]
 pub struct TableCheck {
     reader: TableReader,
     pairs: Vec<Pair>,
+    advice: Vec<u8>,
     means: Vec<Pair>,
-    advices: Advices,
 }
 
 fn refused(fault: TableFault) -> AcceptFault
@@ -56,11 +57,14 @@ impl TableCheck {
         requires served { IsTrue (F.serves folder.old name.now) }
         ensures given { Given (F.holds folder.old) name.now (λ file.
             Begins model.now digest.now file result) }
-        ensures check { IfOk result (λ t. IsCheckOf model.now t 0) }
+        ensures check { IfOk result (λ t. IsCheckOf model.now t 0 0) }
         ensures taken { IfOk result (λ t.
             Takes F.Folder folder.old folder.new 0 (reader_state t.reader).taken) }
-        ensures most_taken { let most = length_1 (shape_of model.now.grid) + 1 in
+        ensures most_taken { let most = length_of Layered (shape_of model.now.grid) + 1 in
             F.taken folder.new ≤ raised (F.taken folder.old) most }
+        ensures most_of_file { Told (F.holds folder.old) name.now (λ bytes.
+            let most = expected_length (shape_of model.now.grid) bytes + 1 in
+            F.taken folder.new ≤ raised (F.taken folder.old) most) }
         ensures kind { IfErr result IsAnswerable }
         ensures frame { OnlyReads F.Folder folder.old folder.new
             (IsErrOf result AcceptFault.Failed) (IsErrOf result AcceptFault.Absent) }
@@ -81,14 +85,14 @@ impl TableCheck {
         requires no_fault { (reader_state reader).fault ≡ None }
         requires not_done { (reader_state reader).done ≡ false }
         ensures reader { IfOk result (λ t. t.reader ≡ reader) }
-        ensures check { IfOk result (λ t. IsCheckOf model.now t 0) }
+        ensures check { IfOk result (λ t. IsCheckOf model.now t 0 0) }
     {
         let states = model.grid().states() as usize;
         Ok(TableCheck {
             reader,
             pairs: vec![in alloc; Pair { upper: 0, lower: 0 }; states]?,
+            advice: vec![in alloc; 0u8; states]?,
             means: vec![in alloc; Pair { upper: 0, lower: 0 }; states]?,
-            advices: Advices::new(alloc, model)?,
         })
     }
 
@@ -96,8 +100,8 @@ impl TableCheck {
     fn begin_layer<M: LayerMeans>(&mut self, model: &Model, layer_means: &M, n: u32)
         requires fits { M.fits layer_means.now model.now }
         requires n { n ≤ model.now.grid.horizon }
-        requires check { IsCheckOf model.now self.old (n * states model.now.grid) }
-        ensures check { IsCheckOf model.now self.new (n * states model.now.grid) }
+        requires check { IsCheckOf model.now self.old n 0 }
+        ensures check { IsCheckOf model.now self.new n 0 }
         ensures given { (digest bytes : List ℕ) →
             IsBeforeLayer model.now digest self.old n bytes → IsInLayer model.now digest self.new n 0 bytes }
         ensures reader { self.new.reader ≡ self.old.reader }
@@ -107,24 +111,20 @@ impl TableCheck {
         }
     }
 
-    // Keeps the values of an entry, and with at least one second to go its advice.
-    fn keep(&mut self, n: u32, state: u32, entry: &Entry)
+    // Keeps the values and the advice of a state.
+    fn keep(&mut self, state: u32, entry: &Entry)
         requires pairs { state < length self.old.pairs.items }
-        requires n { n ≤ self.old.advices.horizon }
-        requires state { state < self.old.advices.states }
-        requires advice { 0 < n → entry.now.advice < self.old.advices.advisories }
+        requires advice { state < length self.old.advice.items }
         ensures reader { self.new.reader ≡ self.old.reader }
         ensures means { self.new.means ≡ self.old.means }
         ensures pairs { self.new.pairs.items ≡ set self.old.pairs.items state entry.now.pair }
-        ensures advices { self.new.advices ≡ with_advice self.old.advices n state entry.now.advice }
+        ensures advice { self.new.advice.items ≡ set self.old.advice.items state entry.now.advice }
     {
         self.pairs[state as usize] = entry.pair;
-        if n > 0 {
-            self.advices.set(n, state, entry.advice);
-        }
+        self.advice[state as usize] = entry.advice;
     }
 
-    // Reads and checks the entry with n seconds to go of the state at a vertex under the present advisory of a plane.
+    // Reads and checks the entry with n seconds to go of the state at a vertex under a plane's present advisory.
     fn entry<F: Folder>(
         &mut self,
         model: &Model,
@@ -141,14 +141,14 @@ impl TableCheck {
         requires vertex { vertex < vertices model.now.grid }
         requires state { state < states model.now.grid }
         requires place { state ≡ state_number model.now.grid plane.now.present vertex }
-        requires check { IsCheckOf model.now self.old (entry_place model.now.grid n state) }
+        requires check { IsCheckOf model.now self.old n state }
         ensures given { (digest : List ℕ) → Told (F.holds folder.old) name.now (λ bytes.
             IsInLayer model.now digest self.old n state bytes → MatchResult result
             (λ _. IsInLayer model.now digest self.new n (state + 1) bytes)
             (IsAnswer model.now digest bytes)) }
-        ensures check { IfOk result (λ _.
-            IsCheckOf model.now self.new (entry_place model.now.grid n (state + 1))) }
+        ensures check { OnOk result (IsCheckOf model.now self.new n (state + 1)) }
         ensures shape { (reader_state self.new.reader).shape ≡ (reader_state self.old.reader).shape }
+        ensures format { (reader_state self.new.reader).format ≡ (reader_state self.old.reader).format }
         ensures taken { Takes F.Folder folder.old folder.new
             (reader_state self.old.reader).taken (reader_state self.new.reader).taken }
         ensures kind { IfErr result IsAnswerable }
@@ -161,7 +161,7 @@ impl TableCheck {
         };
         match check_at(model, n, plane, vertex, &entry, &self.means) {
             Ok(()) => {
-                self.keep(n, state, &entry);
+                self.keep(state, &entry);
                 Ok(())
             }
             Err(fault) => Err(AcceptFault::Refused(TableRefusal::Entry {
@@ -184,15 +184,16 @@ impl TableCheck {
         requires served { IsTrue (F.serves folder.old name.now) }
         requires n { n ≤ model.now.grid.horizon }
         requires present { present < model.now.grid.advisories }
-        requires check { IsCheckOf model.now self.old
-            (entry_place model.now.grid n (state_number model.now.grid present 0)) }
+        requires check { IsCheckOf model.now self.old n (state_number model.now.grid present 0) }
         ensures given { (digest : List ℕ) → Told (F.holds folder.old) name.now (λ bytes.
-            IsInLayer model.now digest self.old n (state_number model.now.grid present 0) bytes → MatchResult result
+            IsInLayer model.now digest self.old n (state_number model.now.grid present 0) bytes
+            → MatchResult result
             (λ _. IsInLayer model.now digest self.new n (state_number model.now.grid (present + 1) 0) bytes)
             (IsAnswer model.now digest bytes)) }
-        ensures check { IfOk result (λ _. IsCheckOf model.now self.new
-            (entry_place model.now.grid n (state_number model.now.grid (present + 1) 0))) }
+        ensures check { OnOk result
+            (IsCheckOf model.now self.new n (state_number model.now.grid (present + 1) 0)) }
         ensures shape { (reader_state self.new.reader).shape ≡ (reader_state self.old.reader).shape }
+        ensures format { (reader_state self.new.reader).format ≡ (reader_state self.old.reader).format }
         ensures taken { Takes F.Folder folder.old folder.new
             (reader_state self.old.reader).taken (reader_state self.new.reader).taken }
         ensures kind { IfErr result IsAnswerable }
@@ -220,13 +221,14 @@ impl TableCheck {
         requires fits { M.fits layer_means.now model.now }
         requires served { IsTrue (F.serves folder.old name.now) }
         requires n { n ≤ model.now.grid.horizon }
-        requires check { IsCheckOf model.now self.old (n * states model.now.grid) }
+        requires check { IsCheckOf model.now self.old n 0 }
         ensures given { (digest : List ℕ) → Told (F.holds folder.old) name.now (λ bytes.
             IsBeforeLayer model.now digest self.old n bytes → MatchResult result
-            (λ _. IsBeforeLayer model.now digest self.new (n + 1) bytes)
+            (λ _. IsInLayer model.now digest self.new n (states model.now.grid) bytes)
             (IsAnswer model.now digest bytes)) }
-        ensures check { IfOk result (λ _. IsCheckOf model.now self.new ((n + 1) * states model.now.grid)) }
+        ensures check { OnOk result (IsCheckOf model.now self.new n (states model.now.grid)) }
         ensures shape { (reader_state self.new.reader).shape ≡ (reader_state self.old.reader).shape }
+        ensures format { (reader_state self.new.reader).format ≡ (reader_state self.old.reader).format }
         ensures taken { Takes F.Folder folder.old folder.new
             (reader_state self.old.reader).taken (reader_state self.new.reader).taken }
         ensures kind { IfErr result IsAnswerable }
@@ -240,23 +242,29 @@ impl TableCheck {
         Ok(())
     }
 
-    /// Reads and checks all entries, by what forms the model's means.
-    pub fn layers<M: LayerMeans, F: Folder>(
+    /// Reads and checks all entries, by what forms the model's means, and has what is to be kept of each layer kept.
+    pub fn layers<M: LayerMeans, K: KeepsLayers, F: Folder>(
         &mut self,
         model: &Model,
         layer_means: &M,
+        kept: &mut K,
         folder: &mut F,
         name: &str,
     ) -> Result<(), AcceptFault>
         requires fits { M.fits layer_means.now model.now }
         requires served { IsTrue (F.serves folder.old name.now) }
-        requires check { IsCheckOf model.now self.old 0 }
+        requires check { IsCheckOf model.now self.old 0 0 }
+        requires kept { K.was_given kept.old model.now 0 }
+        requires of { (bytes : List ℕ) → K.is_of kept.old model.now bytes 0 }
         ensures given { (digest : List ℕ) → Told (F.holds folder.old) name.now (λ bytes.
             HasAccepted model.now digest self.old 0 bytes → MatchResult result
-            (λ _. HasAccepted model.now digest self.new (entries model.now.grid) bytes)
+            (λ _. HasAccepted model.now digest self.new (entries model.now.grid) bytes
+            × K.is_of kept.new model.now bytes (model.now.grid.horizon + 1))
             (IsAnswer model.now digest bytes)) }
-        ensures check { IfOk result (λ _. IsCheckOf model.now self.new (entries model.now.grid)) }
+        ensures check { OnOk result (IsCheckOf model.now self.new (model.now.grid.horizon + 1) 0) }
+        ensures kept { OnOk result (K.was_given kept.new model.now (model.now.grid.horizon + 1)) }
         ensures shape { (reader_state self.new.reader).shape ≡ (reader_state self.old.reader).shape }
+        ensures format { (reader_state self.new.reader).format ≡ (reader_state self.old.reader).format }
         ensures taken { Takes F.Folder folder.old folder.new
             (reader_state self.old.reader).taken (reader_state self.new.reader).taken }
         ensures kind { IfErr result IsAnswerable }
@@ -265,30 +273,31 @@ impl TableCheck {
     {
         for n in 0..model.grid().horizon + 1 {
             self.layer(model, layer_means, n, folder, name)?;
+            kept.keep(model, n, &self.pairs, &self.advice);
         }
         Ok(())
     }
 
-    /// Reads what follows the entries, and gives the advices.
-    pub fn finish<F: Folder>(mut self, folder: &mut F, name: &str) -> Result<Advices, AcceptFault>
+    /// Reads what follows the entries.
+    pub fn finish<F: Folder>(&mut self, folder: &mut F, name: &str) -> Result<(), AcceptFault>
         requires served { IsTrue (F.serves folder.old name.now) }
-        requires all { (reader_state self.reader).given ≡ entry_count (reader_state self.reader).shape }
-        requires no_fault { (reader_state self.reader).fault ≡ None }
-        requires not_done { (reader_state self.reader).done ≡ false }
-        ensures given { (m : ModelData) (digest : List ℕ) → IsCheckOf m self (entries m.grid) →
-            Told (F.holds folder.old) name.now (λ bytes. HasAccepted m digest self (entries m.grid) bytes →
-            MatchResult result (λ _. HasNoRefusal m digest bytes) (IsAnswer m digest bytes)) }
-        ensures advices { IfOk result (λ advices. advices ≡ self.advices) }
-        ensures all_taken { let length = length_1 (reader_state self.reader).shape in
-            IfOk result (λ _. Takes F.Folder folder.old folder.new (reader_state self.reader).taken length) }
-        ensures most_taken { let most = length_1 (reader_state self.reader).shape + 1 in
-            F.taken folder.new ≤ raised (F.taken folder.old) (most - (reader_state self.reader).taken) }
+        requires all { let old = reader_state self.old.reader in old.given ≡ entry_count old.shape }
+        requires no_fault { (reader_state self.old.reader).fault ≡ None }
+        requires not_done { (reader_state self.old.reader).done ≡ false }
+        ensures given { (m : ModelData) (digest : List ℕ) → IsCheckOf m self.old (m.grid.horizon + 1) 0 →
+            Told (F.holds folder.old) name.now (λ bytes. HasAccepted m digest self.old (entries m.grid) bytes
+            → MatchResult result (λ _. HasNoRefusal m digest bytes) (IsAnswer m digest bytes)) }
+        ensures all_taken { let old = reader_state self.old.reader in
+            OnOk result (Takes F.Folder folder.old folder.new old.taken (length_of old.format old.shape)) }
+        ensures most_taken { let old = reader_state self.old.reader in
+            let most = length_of old.format old.shape + 1 in
+            F.taken folder.new ≤ raised (F.taken folder.old) (most - old.taken) }
         ensures kind { IfErr result IsAnswerable }
         ensures frame { OnlyReads F.Folder folder.old folder.new
             (IsErrOf result AcceptFault.Failed) (IsErrOf result AcceptFault.Absent) }
     {
         match self.reader.finish(folder, name) {
-            Ok(()) => Ok(self.advices),
+            Ok(()) => Ok(()),
             Err(fault) => Err(refused(fault)),
         }
     }

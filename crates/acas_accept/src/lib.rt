@@ -3,6 +3,7 @@
 #![tactic(auto)]
 
 mod check;
+mod keeping;
 mod laws;
 mod refusal;
 mod whole;
@@ -10,7 +11,7 @@ mod whole;
 pub use acas_table::TableRefusal;
 pub use laws::{
     accepted_tables_have_no_refusal, accepted_tables_have_two_sided_bounds,
-    compiled_tables_are_accepted,
+    compiled_tables_are_accepted, migrated_tables_are_accepted,
 };
 pub use refusal::AcceptFault;
-pub use whole::accept;
+pub use whole::{accept, accept_layers};

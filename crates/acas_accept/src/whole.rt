@@ -1,27 +1,66 @@
 //! A whole table, read and checked entry by entry.
-ghost use Rattle.std.specs.Prelude.{◌≡◌, ◌≤◌, ◌+◌, IsTrue, IsErrOf, IfErr, IfOk};
+ghost use Rattle.std.specs.Prelude.{◌≡◌, ◌≤◌, ◌+◌, IsTrue, IsErrOf, IfErr, IfOk, OnOk};
 ghost use Rattle.acas_base.specs.Advices.{AreAdvicesOf};
 ghost use Rattle.acas_outside.specs.Counts.{raised};
 ghost use Rattle.acas_outside.specs.Files.{Given};
 ghost use Rattle.acas_outside.specs.Frame.{OnlyReads};
-ghost use Rattle.acas_table.specs.Shape.{shape_of};
-ghost use Rattle.acas_table.specs.Text.{length_1};
-ghost use Rattle.acas_accept.specs.Answers.{Accepts, AreAllowed};
+ghost use Rattle.acas_table_text.specs.Shape.{shape_of};
+ghost use Rattle.acas_table_text.specs.Format.{expected_length, length_of};
+ghost use Rattle.acas_table_text.specs.declared.format.Format.{Format as FileFormat};
+ghost use Rattle.acas_table_text.specs.declared.format.Format.TheVariants.{Layered};
+ghost use Rattle.acas_table.specs.Reader.{Told};
+ghost use Rattle.acas_accept.specs.Answers.{Accepts, AcceptsLayers, AreAllowed, AreWhole, Gives};
 ghost use Rattle.acas_accept.specs.Faults.{IsAnswerable};
 
 use crate::check::TableCheck;
+use crate::keeping::KeepsLayers;
 use crate::refusal::AcceptFault;
 use acas_base::{Advices, Model};
+use acas_layers::Layers;
 use acas_outside::Folder;
 use acas_step::LayerMeans;
 use std::alloc::Global;
 
-/// Reads and checks a whole table of a model, whose text has this digest. Each entry is looked at before the next is
-/// read: its bytes, its advice, and its soundness. It takes what forms the model's means, two layers, a byte for each advice and
-/// the reader's buffer, and gives the advices of the layers from 1 on.
+// Reads and checks a whole table, and gives what is kept of its layers.
+fn accept_keeping<M: LayerMeans, K: KeepsLayers, F: Folder>(
+    alloc: Global,
+    model: &Model,
+    digest: &[u8; 32],
+    folder: &mut F,
+    name: &str,
+) -> Result<K, AcceptFault>
+    requires served { IsTrue (F.serves folder.old name.now) }
+    ensures given { let all = model.now.grid.horizon + 1 in Given (F.holds folder.old) name.now (λ file.
+        Gives (λ bytes kept. K.is_of kept model.now bytes all) model.now digest.now file result) }
+    ensures kept { IfOk result (λ kept. K.was_given kept model.now (model.now.grid.horizon + 1)) }
+    ensures all_taken { let shape = shape_of model.now.grid in OnOk result
+        ((f : FileFormat) × (F.taken folder.new ≡ raised (F.taken folder.old) (length_of f shape))) }
+    ensures all_of_file { let shape = shape_of model.now.grid in
+        OnOk result (Told (F.holds folder.old) name.now (λ bytes.
+        F.taken folder.new ≡ raised (F.taken folder.old) (expected_length shape bytes))) }
+    ensures most_taken { let most = length_of Layered (shape_of model.now.grid) + 1 in
+        F.taken folder.new ≤ raised (F.taken folder.old) most }
+    ensures most_of_file { let shape = shape_of model.now.grid in Told (F.holds folder.old) name.now (λ bytes.
+        F.taken folder.new ≤ raised (F.taken folder.old) (expected_length shape bytes + 1)) }
+    ensures kind { IfErr result IsAnswerable }
+    ensures frame { OnlyReads F.Folder folder.old folder.new
+        (IsErrOf result AcceptFault.Failed) (IsErrOf result AcceptFault.Absent) }
+{
+    let mut check = TableCheck::start(alloc, model, digest, folder, name)?;
+    let mut kept = K::make(alloc, model)?;
+    let layer_means = M::make(alloc, model)?;
+    check.layers(model, &layer_means, &mut kept, folder, name)?;
+    check.finish(folder, name)?;
+    Ok(kept)
+}
+
+/// Reads and checks a whole table of a model, whose text has this digest, in either format. Each entry is looked at
+/// before the next is read: its bytes, its advice, and its soundness. It takes what forms the model's means, two
+/// layers, a byte for each advice, a byte for each state and the reader's buffer, and gives the advices of the layers
+/// from 1 on.
 ///
-/// Over every folder, an accepted table is read once, and of no file is more read than one byte more than a table's
-/// length.
+/// Over every folder, an accepted table is read once, and of no file is more read than one byte more than the length of
+/// a table of the version that it names.
 pub fn accept<M: LayerMeans, F: Folder>(
     alloc: Global,
     model: &Model,
@@ -33,20 +72,48 @@ pub fn accept<M: LayerMeans, F: Folder>(
     ensures given { Given (F.holds folder.old) name.now (λ file. Accepts model.now digest.now file result) }
     ensures advices { IfOk result (λ advices. AreAdvicesOf model.now advices) }
     ensures allowed { IfOk result (λ advices. AreAllowed model.now advices) }
-    ensures all_taken { let length = length_1 (shape_of model.now.grid) in
-        IfOk result (λ _. F.taken folder.new ≡ raised (F.taken folder.old) length) }
-    ensures most_taken { let length = length_1 (shape_of model.now.grid) in
-        F.taken folder.new ≤ raised (F.taken folder.old) (length + 1) }
+    ensures all_taken { let shape = shape_of model.now.grid in OnOk result
+        ((f : FileFormat) × (F.taken folder.new ≡ raised (F.taken folder.old) (length_of f shape))) }
+    ensures all_of_file { let shape = shape_of model.now.grid in
+        OnOk result (Told (F.holds folder.old) name.now (λ bytes.
+        F.taken folder.new ≡ raised (F.taken folder.old) (expected_length shape bytes))) }
+    ensures most_taken { let most = length_of Layered (shape_of model.now.grid) + 1 in
+        F.taken folder.new ≤ raised (F.taken folder.old) most }
+    ensures most_of_file { let shape = shape_of model.now.grid in Told (F.holds folder.old) name.now (λ bytes.
+        F.taken folder.new ≤ raised (F.taken folder.old) (expected_length shape bytes + 1)) }
     // A refusal is one of the bytes, over every folder.
     ensures kind { IfErr result IsAnswerable }
     ensures frame { OnlyReads F.Folder folder.old folder.new
         (IsErrOf result AcceptFault.Failed) (IsErrOf result AcceptFault.Absent) }
 {
-    let mut check = TableCheck::start(alloc, model, digest, folder, name)?;
-    let layer_means = match M::make(alloc, model) {
-        Ok(made) => made,
-        Err(_) => return Err(AcceptFault::Memory),
-    };
-    check.layers(model, &layer_means, folder, name)?;
-    check.finish(folder, name)
+    accept_keeping::<M, Advices, F>(alloc, model, digest, folder, name)
+}
+
+/// Reads and checks a whole table of a model, as `accept` does, and gives all its layers. It takes 17 bytes for each
+/// entry in the place of a byte for each advice.
+pub fn accept_layers<M: LayerMeans, F: Folder>(
+    alloc: Global,
+    model: &Model,
+    digest: &[u8; 32],
+    folder: &mut F,
+    name: &str,
+) -> Result<Layers, AcceptFault>
+    requires served { IsTrue (F.serves folder.old name.now) }
+    ensures given { Given (F.holds folder.old) name.now (λ file.
+        AcceptsLayers model.now digest.now file result) }
+    ensures whole { IfOk result (λ layers. AreWhole model.now layers) }
+    ensures all_taken { let shape = shape_of model.now.grid in OnOk result
+        ((f : FileFormat) × (F.taken folder.new ≡ raised (F.taken folder.old) (length_of f shape))) }
+    ensures all_of_file { let shape = shape_of model.now.grid in
+        OnOk result (Told (F.holds folder.old) name.now (λ bytes.
+        F.taken folder.new ≡ raised (F.taken folder.old) (expected_length shape bytes))) }
+    ensures most_taken { let most = length_of Layered (shape_of model.now.grid) + 1 in
+        F.taken folder.new ≤ raised (F.taken folder.old) most }
+    ensures most_of_file { let shape = shape_of model.now.grid in Told (F.holds folder.old) name.now (λ bytes.
+        F.taken folder.new ≤ raised (F.taken folder.old) (expected_length shape bytes + 1)) }
+    ensures kind { IfErr result IsAnswerable }
+    ensures frame { OnlyReads F.Folder folder.old folder.new
+        (IsErrOf result AcceptFault.Failed) (IsErrOf result AcceptFault.Absent) }
+{
+    accept_keeping::<M, Layers, F>(alloc, model, digest, folder, name)
 }

@@ -2,10 +2,7 @@
 ghost use Rattle.std.specs.Prelude.{◌≡◌, ℕ, ◌<◌, ◌≤◌, [], ◌∷◌, ◌++◌, length, set, vec_capacity};
 ghost use Rattle.acas_units.specs.declared.limits.TheConstants.{GREATEST_ADVISORIES};
 ghost use Rattle.acas_base.specs.Advices.{AreAdvicesOf};
-ghost use Rattle.acas_cells.specs.Cells.{IsCellOf, cell_at};
-ghost use Rattle.acas_cells.specs.Corners.{is_advised};
 ghost use Rattle.acas_audit_blocks.specs.Audits.{AreUndecided, HasLists, HaveSameCells, IsAuditOf, IsMoved, IsPlace, certified_at, place_of, reported_at};
-ghost use Rattle.acas_cells.specs.Sets.{holds};
 ghost use Rattle.acas_cells.specs.declared.set.AdviceSet.{AdviceSet};
 
 use crate::block_audit::BlockAudit;
@@ -32,23 +29,6 @@ fn push_within(list: &mut Vec<AdviceSet>, set: AdviceSet)
 {
     let pushed = list.push(set);
     prove!(pushed.is_ok());
-}
-
-// The advices other than clear of conflict at the corners of a cell.
-fn advised_at(
-    model: &Model,
-    advices: &Advices,
-    n: u32,
-    present: u8,
-    i: u32,
-    j: u32,
-    k: u32,
-) -> AdviceSet
-    requires advices { AreAdvicesOf model.now advices.now }
-    requires cell { IsCellOf model.now (cell_at n present i j k) }
-    ensures { (a : ℕ) → holds result a ≡ is_advised model.now advices.now (cell_at n present i j k) a }
-{
-    advices_at(model, advices, n, present, i, j, k).without(0)
 }
 
 impl BlockAudit {
@@ -89,7 +69,8 @@ impl BlockAudit {
                 row % self.own_rates,
                 place % self.intruder_rates,
             );
-            let set = advised_at(model, advices, n, present, i, j, k);
+            // The advices other than clear of conflict at the corners of the cell.
+            let set = advices_at(model, advices, n, present, i, j, k).without(0);
             push_within(&mut self.certified, AdviceSet::empty());
             push_within(&mut self.reported, set);
         }

@@ -19,7 +19,7 @@ use Rattle.acas_report_lines.specs.Report.{IsReportOn, clear_cells, report_text}
 use Rattle.acas_report.specs.Verdicts.{IsVerdictOnBox, IsVerdictOnCell}
 use Rattle.acas_report_lines.specs.declared.counts.Counts.{Counts}
 use Rattle.acas_report_lines.specs.declared.counts.Which.{Which}
-use Rattle.acas_table.specs.declared.refusal.TableRefusal.{TableRefusal}
+use Rattle.acas_table_text.specs.declared.refusal.TableRefusal.{TableRefusal}
 use Rattle.acas_command.specs.Called.{MayPrint}
 use Rattle.acas_command.specs.Outcome.{report_cause}
 use Rattle.acas_command.specs.Says.{SaysModel}

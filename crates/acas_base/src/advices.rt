@@ -50,8 +50,8 @@ impl Advices {
         requires n { n ≤ self.old.horizon }
         requires state { state < self.old.states }
         requires advice { advice < self.old.advisories }
-        ensures { self.new ≡ record
-            self.old { advice = set self.old.advice (advice_place self.old n state) advice } }
+        ensures { self.new
+            ≡ record self.old { advice = set self.old.advice (advice_place self.old n state) advice } }
     {
         let place = (n as usize - 1) * self.states as usize + state as usize;
         self.advice[place] = advice;

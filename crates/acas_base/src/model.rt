@@ -1,5 +1,5 @@
 //! A model within its limits.
-ghost use Rattle.std.specs.Prelude.{◌≡◌, ◌<◌, Some, pos, length, position};
+ghost use Rattle.std.specs.Prelude.{◌≡◌, ◌<◌, ◌≤◌, Some, pos, length, position};
 ghost use Rattle.std.specs.Str.{bytes_eq};
 ghost use Rattle.acas_spec.specs.Limits.{IsModel};
 ghost use Rattle.acas_spec.specs.Model.{advisory_at, choices_at, total_weight};
@@ -10,7 +10,7 @@ use crate::numbers::Numbers;
 use crate::weights::total_weight;
 use acas_grid::Grid;
 use acas_spec::{Advisory, Choice, SigmaPoint};
-use acas_units::Span;
+use acas_units::{GREATEST_NAME_BYTES, Span};
 
 /// A model whose numbers are all within their limits. Contracts see it as the plain data that its file says.
 #[derive(Debug, Drop)]
@@ -69,6 +69,17 @@ impl Model {
         ensures { result.now ≡ advisory_at self.now a }
     {
         &self.advisories[a as usize]
+    }
+
+    /// The name of the advisory of a number, as its bytes.
+    pub fn name(&self, a: u8) -> &[u8]
+        requires { a < self.now.grid.advisories }
+        ensures value { result.now ≡ (advisory_at self.now a).name }
+        ensures short { length result.now ≤ GREATEST_NAME_BYTES }
+    {
+        // Its names are not too long, as all of a model's are.
+        let _ = self.grid();
+        self.advisory(a).name.bytes()
     }
 
     /// What may be chosen under a present advisory, in the order of the file.

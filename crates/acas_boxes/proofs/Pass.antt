@@ -21,7 +21,7 @@ use Rattle.acas_boxes.specs.declared.spans.TheConstants.{SPAN_ENDS}
 use Rattle.acas_boxes.specs.Spans.{altitudes_at, closings_at, ranges_at, rates_at, span_at}
 use Rattle.acas_boxes.specs.OneBox.{box_item, box_of, window}
 use Rattle.acas_boxes.specs.Text.{HoldsAltitudes, HoldsInterval, IsBoxText, IsBoxesText}
-use Rattle.acas_boxes.specs.Whole.{box_items, boxes_in, boxes_of, top_keys}
+use Rattle.acas_boxes.specs.Whole.{box_items, boxes_in, boxes_of}
 
 only_passes : (path known : List ℕ) (ms : Members) → HasOnly known ms → in_doc (only_known path known ms) ≡ Ok tt
 only_passes path known ms h = rw ((only_known_passes path known ms).1 h.none) refl
@@ -100,7 +100,7 @@ items_pass m bytes boxes is valid =
 -- ---- the whole text
 
 pub understood : (m : ModelData) (bytes : List ℕ) (boxes : List AuditedBox) → IsModel m → IsBoxesText m bytes boxes → boxes_of m bytes ≡ Ok boxes
-unfolding boxes_of boxes_in top_keys
+unfolding boxes_of boxes_in
 understood m bytes boxes valid is =
     let ts = is.tables.tables in
     let long : length (map table ts) ≡ length boxes = length-map ts table ∙ is.tables.long in

@@ -28,7 +28,7 @@ use Rattle.acas_boxes.specs.declared.spans.TheConstants.{SPAN_ENDS}
 use Rattle.acas_boxes.specs.Spans.{altitudes_at, closings_at, in_ticks, interval, ranges_at, rates_at, span_at}
 use Rattle.acas_boxes.specs.OneBox.{box_item, box_of, box_with, window}
 use Rattle.acas_boxes.specs.Text.{HoldsAltitudes, HoldsInterval, IsBoxText, IsBoxesText}
-use Rattle.acas_boxes.specs.Whole.{box_items, boxes_in, boxes_of, top_keys}
+use Rattle.acas_boxes.specs.Whole.{box_items, boxes_in, boxes_of}
 
 only_ok : (path known : List ℕ) (ms : Members) → in_doc (only_known path known ms) ≡ Ok tt → HasOnly known ms
 only_ok path known ms e = record { none = (only_known_passes path known ms).0 (fault_as_ok _ _ tt e) }
@@ -207,7 +207,7 @@ tables_say m doc ds boxes there read = record {
 -- ---- the whole text
 
 pub said : (m : ModelData) (bytes : List ℕ) (boxes : List AuditedBox) → IsModel m → boxes_of m bytes ≡ Ok boxes → IsBoxesText m bytes boxes
-unfolding boxes_of boxes_in top_keys
+unfolding boxes_of boxes_in
 said m bytes boxes valid e =
     let d = bind_ok (document_of bytes) (boxes_in m) boxes e in
     let k = step_ok (in_doc (only_known [] (codes "version box") d.0)) _ boxes d.2 in

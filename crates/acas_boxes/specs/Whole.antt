@@ -11,10 +11,6 @@ use Rattle.acas_input.specs.declared.fault.InputFault.{InputFault}
 use Rattle.acas_input.specs.Document.{document_of, in_doc, version_of}
 use Rattle.acas_boxes.specs.OneBox.{box_item}
 
--- the document has no other keys
-unfoldable pub top_keys : Members → Result (Unit {0}) InputFault
-top_keys doc = in_doc (only_known [] (codes "version box") doc)
-
 -- each item of the list is a box
 unfoldable pub box_items : ModelData → List Data → Result (List AuditedBox) InputFault
 box_items m ds = each (λ before d. box_item m (length before) d) [] ds
@@ -22,7 +18,7 @@ box_items m ds = each (λ before d. box_item m (length before) d) [] ds
 -- the boxes of a document: its keys, its version, the list, and each box in turn
 unfoldable pub boxes_in : ModelData → Members → Result (List AuditedBox) InputFault
 boxes_in m doc = do
-  top_keys doc
+  in_doc (only_known [] (codes "version box") doc)
   version_of doc
   items ← in_doc (list_at doc [] (codes "box") LEAST_BOXES GREATEST_BOXES)
   box_items m items

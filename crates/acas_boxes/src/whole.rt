@@ -16,14 +16,6 @@ use acas_units::{GREATEST_BOXES, LEAST_BOXES};
 use std::alloc::Global;
 use toml::{Table, Value};
 
-/// That the document has no unknown key.
-#[tactic(auto, unfolding(crate::specs::Whole::top_keys))]
-fn top_keys(alloc: Global, document: &Table) -> Result<(), InputFault>
-    ensures { Gives (λ u. u) result (rules.top_keys (table_view document.now)) }
-{
-    Ok(only_keys(alloc, document, b"", "version box")?)
-}
-
 /// The boxes of a list.
 fn box_items(alloc: Global, model: &Model, items: &[Value]) -> Result<Vec<AuditBox>, InputFault>
     requires { length items.now ≤ GREATEST_BOXES }
@@ -45,7 +37,7 @@ fn boxes_in(alloc: Global, model: &Model, document: &Table) -> Result<Boxes, Inp
     ensures value { Gives (λ b. b) result (rules.boxes_in model.now (table_view document.now)) }
     ensures fits { IfOk result (AreBoxesOf model.now) }
 {
-    top_keys(alloc, document)?;
+    only_keys(alloc, document, b"", "version box")?;
     version_of(alloc, document)?;
     let items = list(alloc, document, b"", "box", LEAST_BOXES, GREATEST_BOXES)?;
     let boxes = box_items(alloc, model, items)?;

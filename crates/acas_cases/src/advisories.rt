@@ -1,11 +1,11 @@
 //! Texts that are no model: advisories, their names, intervals and choices.
-use crate::runner::differences;
+use crate::runner::pass;
 use std::test::Fail;
 
 const CASES: &str = r##"
 # In the text of the first model: what stands there, what stands in its place, and the fault.
 [[cases]]
-name = "advisories"
+name = "advisories and choices"
 files = [["a", "model a", "replace $1 => $2"]]
 rows = [
   ["[[advisory]]\nname = \"level\"\nlo = -500\nhi = 500\nchoices = [\"clear\"]\ncosts = [0]\n", "", "key advisory value 1 outside 2 to 16"],
@@ -25,6 +25,20 @@ rows = [
   ['name = "level"', 'name = "clear"', "repeated name of advisory 1"],
   ["hi = 10000\nchoices = [\"clear\"]", "hi = 10000\nchoices = []", "no choice of advisory 0"],
   ["name = \"level\"\nlo = -500\nhi = 500", "name = \"clear\"\nlo = -500\nhi = -501", "interval of advisory 1"],
+  ["hi = 10000\nchoices = [\"clear\"]\n", "hi = 10000\n", "key advisory[0].choices missing"],
+  ["hi = 10000\nchoices = [\"clear\"]", "hi = 10000\nchoices = \"clear\"", "key advisory[0].choices wrong kind"],
+  ["hi = 500\nchoices = [\"clear\"]", "hi = 500\nchoices = [1]", "key advisory[1].choices[0] wrong kind"],
+  ["hi = 500\nchoices = [\"clear\"]", "hi = 500\nchoices = [\"clear\", \"climb\"]", "unknown choice of advisory 1 at 1"],
+  ["hi = 500\nchoices = [\"clear\"]", "hi = 500\nchoices = [\"no name\"]", "unknown choice of advisory 1 at 0"],
+  ["hi = 500\nchoices = [\"clear\"]", "hi = 500\nchoices = [\"level\", \"clear\", \"level\"]", "repeated choice of advisory 1 at 2"],
+  ["hi = 500\nchoices = [\"clear\"]\ncosts = [0]\n", "hi = 500\nchoices = [\"clear\"]\n", "key advisory[1].costs missing"],
+  ["hi = 500\nchoices = [\"clear\"]\ncosts = [0]", "hi = 500\nchoices = [\"clear\"]\ncosts = []", "key advisory[1].costs value 0 outside 1 to 1"],
+  ["hi = 500\nchoices = [\"clear\"]\ncosts = [0]", "hi = 500\nchoices = [\"clear\"]\ncosts = [0, 0]", "key advisory[1].costs value 2 outside 1 to 1"],
+  ["hi = 500\nchoices = [\"clear\"]\ncosts = [0]", "hi = 500\nchoices = [\"clear\"]\ncosts = [\"x\"]", "key advisory[1].costs[0] wrong kind"],
+  ["hi = 500\nchoices = [\"clear\"]\ncosts = [0]", "hi = 500\nchoices = [\"clear\"]\ncosts = [1000000001]", "key advisory[1].costs[0] value 1000000001 outside -1000000000 to 1000000000"],
+  ["hi = 500\nchoices = [\"clear\"]\ncosts = [0]", "hi = 500\nchoices = [\"climb\"]\ncosts = 0", "unknown choice of advisory 1 at 0"],
+  ["name = \"level\"\nlo = -500\nhi = 500\nchoices = [\"clear\"]", "name = \"clear\"\nlo = -500\nhi = 500\nchoices = []", "repeated name of advisory 1"],
+  ["costs = [0]\n[[advisory]]\nname = \"level\"\nlo = -500\nhi = 500\nchoices = [\"clear\"]", "costs = []\n[[advisory]]\nname = \"level\"\nlo = -500\nhi = 500\nchoices = []", "key advisory[0].costs value 0 outside 1 to 1"],
 ]
 runs = ["acas values a"]
 ends = ["4 model"]
@@ -50,34 +64,9 @@ rows = [
 runs = ["acas values a"]
 ends = ["4 model"]
 error = "acas: model refused: $2\n"
-
-[[cases]]
-name = "choices"
-files = [["a", "model a", "replace $1 => $2"]]
-rows = [
-  ["hi = 10000\nchoices = [\"clear\"]\n", "hi = 10000\n", "key advisory[0].choices missing"],
-  ["hi = 10000\nchoices = [\"clear\"]", "hi = 10000\nchoices = \"clear\"", "key advisory[0].choices wrong kind"],
-  ["hi = 500\nchoices = [\"clear\"]", "hi = 500\nchoices = [1]", "key advisory[1].choices[0] wrong kind"],
-  ["hi = 500\nchoices = [\"clear\"]", "hi = 500\nchoices = [\"clear\", \"climb\"]", "unknown choice of advisory 1 at 1"],
-  ["hi = 500\nchoices = [\"clear\"]", "hi = 500\nchoices = [\"no name\"]", "unknown choice of advisory 1 at 0"],
-  ["hi = 500\nchoices = [\"clear\"]", "hi = 500\nchoices = [\"level\", \"clear\", \"level\"]", "repeated choice of advisory 1 at 2"],
-  ["hi = 500\nchoices = [\"clear\"]\ncosts = [0]\n", "hi = 500\nchoices = [\"clear\"]\n", "key advisory[1].costs missing"],
-  ["hi = 500\nchoices = [\"clear\"]\ncosts = [0]", "hi = 500\nchoices = [\"clear\"]\ncosts = []", "key advisory[1].costs value 0 outside 1 to 1"],
-  ["hi = 500\nchoices = [\"clear\"]\ncosts = [0]", "hi = 500\nchoices = [\"clear\"]\ncosts = [0, 0]", "key advisory[1].costs value 2 outside 1 to 1"],
-  ["hi = 500\nchoices = [\"clear\"]\ncosts = [0]", "hi = 500\nchoices = [\"clear\"]\ncosts = [\"x\"]", "key advisory[1].costs[0] wrong kind"],
-  ["hi = 500\nchoices = [\"clear\"]\ncosts = [0]", "hi = 500\nchoices = [\"clear\"]\ncosts = [1000000001]", "key advisory[1].costs[0] value 1000000001 outside -1000000000 to 1000000000"],
-  ["hi = 500\nchoices = [\"clear\"]\ncosts = [0]", "hi = 500\nchoices = [\"climb\"]\ncosts = 0", "unknown choice of advisory 1 at 0"],
-  ["name = \"level\"\nlo = -500\nhi = 500\nchoices = [\"clear\"]", "name = \"clear\"\nlo = -500\nhi = 500\nchoices = []", "repeated name of advisory 1"],
-  ["costs = [0]\n[[advisory]]\nname = \"level\"\nlo = -500\nhi = 500\nchoices = [\"clear\"]", "costs = []\n[[advisory]]\nname = \"level\"\nlo = -500\nhi = 500\nchoices = []", "key advisory[0].costs value 0 outside 1 to 1"],
-]
-runs = ["acas values a"]
-ends = ["4 model"]
-error = "acas: model refused: $3\n"
 "##;
 
 #[test]
 fn refused_advisories(rt: HostRuntime) -> Result<(), Fail> {
-    let found = differences(rt.alloc(), CASES)?;
-    assert_eq!(rt; found.as_str(), "");
-    Ok(())
+    pass(rt.alloc(), CASES)
 }

@@ -1,5 +1,5 @@
 //! Each call that a case makes fails in turn.
-use crate::cases::Cases;
+use crate::cases::Case;
 use crate::fault::Fault;
 use crate::outside::{End, File, KINDS, Start, perform};
 use crate::report::Report;
@@ -9,14 +9,17 @@ use std::alloc::Global;
 /// calls than it says. `end` is how it ends while none fails.
 pub fn judge_each_call(
     alloc: Global,
-    cases: &Cases,
+    case: Case<'_>,
     start: &Start,
     end: &End,
     report: &mut Report,
 ) -> Result<(), Fault> {
-    judge_calls(cases, end, report)?;
-    for (kind, count) in KINDS.iter().zip(&cases.each_call) {
-        for number in 0..*count {
+    let said = case.text_or(alloc, "each_call", "")?;
+    for ((kind, made), said) in KINDS.iter().zip(calls_of(end)).zip(said.split_whitespace()) {
+        if said.parse::<u64>().ok() != Some(made) {
+            report.add("makes another number of calls")?;
+        }
+        for number in 0..made {
             let failing = vec![in alloc; format!(in alloc; "{kind} {number}")?]?;
             let failed = perform(alloc, start, &failing)?;
             judge_failed(kind, start, end, &failed, report)?;
@@ -25,21 +28,19 @@ pub fn judge_each_call(
     Ok(())
 }
 
-// There are as many calls of each kind as the case says.
-fn judge_calls(cases: &Cases, end: &End, report: &mut Report) -> Result<(), Fault> {
+// How many calls of each kind the case made.
+fn calls_of(end: &End) -> [u64; 5] {
     let calls = end.folder.files.calls();
-    let writes = end.out.sink.calls();
-    let errors = end.err.sink.calls();
-    let made = [calls.reads, calls.creates, calls.appends, writes, errors];
-    for (made, said) in made.iter().zip(&cases.each_call) {
-        if made != said {
-            report.add("makes another number of calls")?;
-        }
-    }
-    Ok(())
+    [
+        calls.reads,
+        calls.creates,
+        calls.appends,
+        end.out.sink.calls(),
+        end.err.sink.calls(),
+    ]
 }
 
-// A call of this kind fails: the code says whose call it was.
+// A call of this kind fails: the code says whose call it was. What is printed is a part of what is printed else.
 fn judge_failed(
     kind: &str,
     start: &Start,
@@ -47,42 +48,42 @@ fn judge_failed(
     failed: &End,
     report: &mut Report,
 ) -> Result<(), Fault> {
-    let (ends, line) = match kind {
-        "write" => ("8 output", "acas: output failed\n"),
-        _ => ("7 folder", "acas: folder failed\n"),
-    };
-    if kind == "error" {
-        if failed.ends != end.ends {
-            report.add("ends otherwise where the error output fails")?;
-        }
-        report.same(
-            "the output",
-            failed.out.sink.written(),
-            end.out.sink.written(),
-        )?;
-        report.part(
-            "the error output",
-            failed.err.sink.written(),
-            end.err.sink.written(),
-        )?;
-    } else {
-        let found = failed.ends.last().map_or("", |text| text.as_str());
-        report.same("the end", found.as_bytes(), ends.as_bytes())?;
-        report.part(
-            "the output",
-            failed.out.sink.written(),
-            end.out.sink.written(),
-        )?;
-        report.same(
-            "the error output",
-            failed.err.sink.written(),
-            line.as_bytes(),
-        )?;
+    match kind {
+        "error" => judge_unheard(end, failed, report)?,
+        "write" => judge_named("8 output", "acas: output failed\n", end, failed, report)?,
+        _ => judge_named("7 folder", "acas: folder failed\n", end, failed, report)?,
     }
     for file in &start.files {
         judge_file(kind, file, end, failed, report)?;
     }
     Ok(())
+}
+
+// A write of the error output failed: all else is as it is else.
+fn judge_unheard(end: &End, failed: &End, report: &mut Report) -> Result<(), Fault> {
+    if failed.ends != end.ends {
+        report.add("ends otherwise where the error output fails")?;
+    }
+    let (found, whole) = (failed.out.sink.written(), end.out.sink.written());
+    report.same("the output", found, whole)?;
+    let (found, whole) = (failed.err.sink.written(), end.err.sink.written());
+    Ok(report.part("the error output", found, whole)?)
+}
+
+// Another call failed: the run ends with this code and cause, and with this line.
+fn judge_named(
+    ends: &str,
+    line: &str,
+    end: &End,
+    failed: &End,
+    report: &mut Report,
+) -> Result<(), Fault> {
+    let found = failed.ends.last().map_or("", |text| text.as_str());
+    report.same("the end", found.as_bytes(), ends.as_bytes())?;
+    let (found, whole) = (failed.out.sink.written(), end.out.sink.written());
+    report.part("the output", found, whole)?;
+    let found = failed.err.sink.written();
+    Ok(report.same("the error output", found, line.as_bytes())?)
 }
 
 // A file that the case changes is as before where a read or a create fails, a part of what it is to be where an append fails,

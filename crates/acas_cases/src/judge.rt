@@ -1,93 +1,94 @@
 //! Whether a case ended as it is to end.
-use crate::cases::Cases;
+use crate::cases::Case;
 use crate::fault::Fault;
-use crate::outside::{End, File, Start};
+use crate::outside::{End, Start};
 use crate::report::Report;
 use crate::steps::made;
-use crate::texts::{filled, filled_each};
 use sha2::{Digest, Sha256};
 use std::alloc::Global;
 
-/// Reports each way in which a case, the one of this number and this row, did not end as it is to end.
+/// Reports each way in which a case, the one of this number, did not end as it is to end.
 pub fn judge(
     alloc: Global,
-    cases: &Cases,
+    case: Case<'_>,
     number: usize,
-    row: &[String],
     start: &Start,
     end: &End,
     report: &mut Report,
 ) -> Result<(), Fault> {
-    judge_ends(alloc, cases, number, row, end, report)?;
-    if cases.lines_sha256.is_none() {
-        let error = filled(alloc, &cases.error, row)?;
+    if case.has("codes") {
+        judge_code(alloc, case, number, end, report)?;
+    } else {
+        judge_ends(alloc, case, end, report)?;
+    }
+    if !case.has("lines_sha256") {
+        let error = case.text_or(alloc, "error", "")?;
         report.same("the error output", end.err.sink.written(), error.as_bytes())?;
-        judge_output(alloc, cases, row, end.out.sink.written(), report)?;
+        judge_output(alloc, case, end.out.sink.written(), report)?;
     }
-    if let Some(taken) = &cases.taken
-        && end.folder.taken != *taken
-    {
-        report.add("takes another number of bytes")?;
-    }
-    judge_counts(alloc, cases, row, end, report)?;
-    judge_files(alloc, cases, row, start, end, report)
+    judge_number(alloc, case, "taken", end.folder.taken, report)?;
+    judge_number(alloc, case, "backups", end.work.backups(), report)?;
+    judge_number(alloc, case, "turned", end.work.turned(), report)?;
+    judge_number(alloc, case, "decisions", end.work.decisions(), report)?;
+    judge_files(alloc, case, start, end, report)
 }
 
 // The exit codes and causes.
-fn judge_ends(
+fn judge_ends(alloc: Global, case: Case<'_>, end: &End, report: &mut Report) -> Result<(), Fault> {
+    if case.texts(alloc, "ends")? != end.ends {
+        report.add(&format!(in alloc; "ends {:?}", end.ends)?)?;
+    }
+    Ok(())
+}
+
+// The code of the last run: the digit of the case's number.
+fn judge_code(
     alloc: Global,
-    cases: &Cases,
+    case: Case<'_>,
     number: usize,
-    row: &[String],
     end: &End,
     report: &mut Report,
 ) -> Result<(), Fault> {
-    let Some(codes) = &cases.codes else {
-        let wanted = filled_each(alloc, &cases.ends, row)?;
-        if wanted != end.ends {
-            report.add(&format!(in alloc; "ends {:?}", end.ends)?)?;
-        }
-        return Ok(());
-    };
+    let codes = case.text_or(alloc, "codes", "")?;
     let mut digits = codes.bytes().filter(|byte| byte.is_ascii_digit());
     let wanted = digits.nth(number).ok_or(Fault::Text("no code"))?;
-    let found = end.ends.last().ok_or(Fault::Text("no run"))?;
-    Ok(report.holds(
-        "the code",
-        found.as_bytes(),
-        found.as_bytes().first() == Some(&wanted),
-    )?)
+    let found = end.ends.last().map_or("", |text| text.as_str());
+    let is_so = found.as_bytes().first() == Some(&wanted);
+    Ok(report.holds("the code", found.as_bytes(), is_so)?)
 }
 
-// All that was printed.
+// All that was printed: as the case says, or nothing.
 fn judge_output(
     alloc: Global,
-    cases: &Cases,
-    row: &[String],
+    case: Case<'_>,
     found: &[u8],
     report: &mut Report,
 ) -> Result<(), Fault> {
-    for part in filled_each(alloc, &cases.output_has, row)? {
-        let text = std::str::from_utf8(found).unwrap_or("");
-        report.holds(&part, found, text.contains(part.as_str()))?;
-    }
-    if let Some(length) = &cases.output_length {
-        report.holds("the output", found, found.len() == *length)?;
-    }
-    if let Some(digest) = &cases.output_sha256 {
-        let digest = filled(alloc, digest, row)?;
+    judge_parts(alloc, case, found, report)?;
+    judge_number(alloc, case, "output_length", found.len() as u64, report)?;
+    if let Some(digest) = case.text(alloc, "output_sha256")? {
         judge_digest(alloc, "the output", found, &digest, report)?;
     }
-    if let Some(whole) = &cases.output {
-        let whole = filled(alloc, whole, row)?;
+    let is_partly_told = case.has("output_has")
+        || case.has("output_length")
+        || case.has("output_sha256");
+    if case.has("output") || !is_partly_told {
+        let whole = case.text_or(alloc, "output", "")?;
         report.same("the output", found, whole.as_bytes())?;
     }
-    if cases.output_has.is_empty()
-        && cases.output_length.is_none()
-        && cases.output_sha256.is_none()
-        && cases.output.is_none()
-    {
-        report.same("the output", found, b"")?;
+    Ok(())
+}
+
+// The texts that stand in what was printed.
+fn judge_parts(
+    alloc: Global,
+    case: Case<'_>,
+    found: &[u8],
+    report: &mut Report,
+) -> Result<(), Fault> {
+    let text = std::str::from_utf8(found).unwrap_or("");
+    for part in &case.texts(alloc, "output_has")? {
+        report.holds(part, found, text.contains(part.as_str()))?;
     }
     Ok(())
 }
@@ -104,87 +105,46 @@ fn judge_digest(
     Ok(report.holds(what, found, digits.as_str() == digest)?)
 }
 
-// What the runs counted together.
-fn judge_counts(
+// A number, where the case says one.
+fn judge_number(
     alloc: Global,
-    cases: &Cases,
-    row: &[String],
-    end: &End,
-    report: &mut Report,
-) -> Result<(), Fault> {
-    let work = &end.work;
-    judge_count(
-        alloc,
-        "backups",
-        &cases.backups,
-        row,
-        work.backups(),
-        report,
-    )?;
-    judge_count(
-        alloc,
-        "turned pairs",
-        &cases.turned,
-        row,
-        work.turned(),
-        report,
-    )?;
-    judge_count(
-        alloc,
-        "decisions",
-        &cases.decisions,
-        row,
-        work.decisions(),
-        report,
-    )
-}
-
-// One count, where the case says it.
-fn judge_count(
-    alloc: Global,
-    what: &str,
-    wanted: &Option<String>,
-    row: &[String],
+    case: Case<'_>,
+    key: &str,
     found: u64,
     report: &mut Report,
 ) -> Result<(), Fault> {
-    let Some(wanted) = wanted else {
-        return Ok(());
-    };
-    let wanted = filled(alloc, wanted, row)?;
+    let wanted = case.text_or(alloc, key, "")?;
     let found = found.to_string(alloc)?;
-    Ok(report.same(what, found.as_bytes(), wanted.as_bytes())?)
+    let is_so = wanted.is_empty() || wanted == found;
+    Ok(report.holds(key, found.as_bytes(), is_so)?)
 }
 
 // The files: those that the case names are as it says, and the others as they were.
 fn judge_files(
     alloc: Global,
-    cases: &Cases,
-    row: &[String],
+    case: Case<'_>,
     start: &Start,
     end: &End,
     report: &mut Report,
 ) -> Result<(), Fault> {
+    let after = case.lists(alloc, "after")?;
+    let digests = case.lists(alloc, "after_sha256")?;
     for file in &start.files {
-        if !is_named(cases, &file.name) {
+        if !is_named(&after, &file.name) && !is_named(&digests, &file.name) {
             judge_file(&file.name, Some(&file.bytes), end, report)?;
         }
     }
-    for recipe in &cases.after {
-        let recipe = filled_each(alloc, recipe, row)?;
-        let (name, steps) = recipe.split_first().ok_or(Fault::Text("no name"))?;
-        judge_file(name, Some(&made(alloc, &start.files, steps)?), end, report)?;
-    }
-    for name in &cases.absent {
+    judge_after(alloc, &after, start, end, report)?;
+    judge_digests(alloc, &digests, end, report)?;
+    for name in &case.texts(alloc, "absent")? {
         judge_file(name, None, end, report)?;
     }
-    judge_digests(alloc, cases, row, end, report)
+    Ok(())
 }
 
-// Whether the case says what this file is to be.
-fn is_named(cases: &Cases, name: &str) -> bool {
-    let begins = |recipe: &Vec<String>| recipe.first().is_some_and(|first| first.as_str() == name);
-    cases.after.iter().any(begins) || cases.after_sha256.iter().any(begins)
+// Whether one of these lists begins with this name.
+fn is_named(lists: &[Vec<String>], name: &str) -> bool {
+    lists.iter().any(|list| list.first().is_some_and(|first| first.as_str() == name))
 }
 
 // A file is held with these bytes, or is not held.
@@ -198,15 +158,30 @@ fn judge_file(
     Ok(report.holds(name, found.unwrap_or(b"is absent"), found == wanted)?)
 }
 
-fn judge_digests(
+// The files that are to have the bytes that steps make.
+fn judge_after(
     alloc: Global,
-    cases: &Cases,
-    row: &[String],
+    recipes: &[Vec<String>],
+    start: &Start,
     end: &End,
     report: &mut Report,
 ) -> Result<(), Fault> {
-    for pair in &cases.after_sha256 {
-        let pair = filled_each(alloc, pair, row)?;
+    for recipe in recipes {
+        let (name, steps) = recipe.split_first().ok_or(Fault::Text("no name"))?;
+        let bytes = made(alloc, &start.files, steps)?;
+        judge_file(name, Some(&bytes), end, report)?;
+    }
+    Ok(())
+}
+
+// The files that are to have these digests.
+fn judge_digests(
+    alloc: Global,
+    pairs: &[Vec<String>],
+    end: &End,
+    report: &mut Report,
+) -> Result<(), Fault> {
+    for pair in pairs {
         let (name, rest) = pair.split_first().ok_or(Fault::Text("no name"))?;
         let digest = rest.first().ok_or(Fault::Text("no digest"))?;
         let found = end.folder.files.get(name).ok_or(Fault::Text("no file"))?;

@@ -27,21 +27,22 @@
 //! - `after`: the files that are not as before, made as at the start. `after_sha256`: files with the digests of their bytes.
 //!   `absent`: the names of no file.
 //! - `taken`: how many bytes the reads gave in all.
-//! - `backups`, `turned`, `decisions`: how many backups, turned pairs and decisions of blocks the runs count together. They are not
-//!   looked at where they are left out.
-//! - `each_call`: the numbers of calls of each kind, as those of the folder and the outputs are to be. Then each of them is made to fail in turn: the code is to say whose call it
-//!   was, what is printed is to be a part of what is printed else, and a file that the run changes is to be as before where a
-//!   read or the create fails, and a part of what it becomes else where an append fails.
+//! - `backups`, `turned`, `decisions`: how many backups, turned pairs and decisions of blocks the runs count together. These and
+//!   `taken` are not looked at where they are left out, and no number is where its text is empty.
+//! - `each_call`: the numbers of calls of each kind, in the order above, as `4 0 0 1 0`. Each of these calls is made to fail in turn:
+//!   the code is to say whose call it was, what is printed is to be a part of what is printed else, and a file that the run changes
+//!   is to be as before where a read or the create fails, and a part of what it becomes else where an append fails.
 //!
 //! The steps, each on the bytes that the earlier ones made:
 //!
-//! - `model NAME`, `text TEXT`, `hex DIGITS`, `compiled FILE`: puts behind them the text of a model, a text, bytes, or the table
-//!   that is compiled of a file that stands before this one. `pad BYTE LENGTH`: the byte until they are so long.
-//! - `replace OLD => NEW`: the first such text, which has to stand there. `cut LENGTH`: the first bytes alone.
-//! - `put PLACE DIGITS`: bytes in the place of others. `spread PLACE STRIDE DIGITS`: the same, each byte so far after the last.
-//!   `flip PLACE NUMBER`: the bits of a byte that the number has.
-//! - Of a table: `upper LAYER STATE VALUE`, `lower LAYER STATE VALUE`, `advice LAYER STATE BYTE`: a part of an entry. `values
-//!   UPPER LOWER`: the values of each entry. `seal`: its digest, made anew.
+//! - `model NAME`, `text TEXT`, `hex DIGITS`, `compiled FILE`: puts behind them the text of a model of `acas_tests_data`, a text, bytes,
+//!   or the table that is compiled of a file that stands before this one. `pad BYTE LENGTH`: the byte until they are so long.
+//! - `replace OLD => NEW`: the first such text, which has to stand there; a bar stands for the end of a line. `cut LENGTH`: the first bytes alone.
+//! - `put PLACE DIGITS`: bytes in the place of others. `flip PLACE NUMBER`: the bits of a byte that the number has.
+//! - Of a table, of either version: `upper LAYER STATE VALUE`, `lower LAYER STATE VALUE`, `advice LAYER STATE BYTE`: a part of an
+//!   entry. `advices LAYER STATE DIGITS`: the advices of a layer from a state on. `values UPPER LOWER`: the values of each entry.
+//!   `seal COUNT`: its digests, made anew: one behind so many entries, those of a layer or, in version 1, all. `whole`: of one
+//!   of version 2, as `compile` stores it, the same entries in version 1.
 //!
 //! The values that cases compare with are from an implementation of the definitions apart from the program, `bench/reference`
 //! and `bench/rows`, or worked out by hand. None is from the program.
@@ -80,7 +81,7 @@ mod hostile;
 #[cfg(test)]
 mod judge;
 #[cfg(test)]
-mod models;
+mod migrations;
 #[cfg(test)]
 mod numbers;
 #[cfg(test)]

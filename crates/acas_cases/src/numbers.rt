@@ -1,11 +1,11 @@
 //! Texts that are no model: numbers of tables, sigma points, and what they sum to.
-use crate::runner::differences;
+use crate::runner::pass;
 use std::test::Fail;
 
 const CASES: &str = r##"
 # In the text of the first model: what stands there, what stands in its place, and the fault.
 [[cases]]
-name = "numbers of tables"
+name = "numbers of tables, sigma points and sums"
 files = [["a", "model a", "replace $1 => $2"]]
 rows = [
   ["[puck]\nradius = 500\nhalf_height = 100\n", "", "key puck missing"],
@@ -35,15 +35,6 @@ rows = [
   ["contact = 5", "contact = -1000000001", "key cost.contact value -1000000001 outside -1000000000 to 1000000000"],
   ["radius = 500\nhalf_height = 100\n[closing]\nleast = 500", "radius = 0\nhalf_height = 100\n[closing]\nleast = 0", "key puck.radius value 0 outside 1 to 5000"],
   ["half_height = 100\n[closing]\nleast = 500", "half_height = 100\n[closing]\nleast = \"x\"", "key closing.least wrong kind"],
-]
-runs = ["acas values a"]
-ends = ["4 model"]
-error = "acas: model refused: $3\n"
-
-[[cases]]
-name = "sigma points and sums"
-files = [["a", "model a", "replace $1 => $2"]]
-rows = [
   ["[[sigma]]\nweight = 1\nown = 0\nintruder = 0\n", "", "key sigma missing"],
   ["[[sigma]]\nweight = 1\nown = 0\nintruder = 0\n", "[sigma]\n", "key sigma wrong kind"],
   ["weight = 1\n", "weight = 1\nage = 1\n", "key sigma[0].age unknown"],
@@ -112,7 +103,5 @@ error = "$3"
 
 #[test]
 fn refused_numbers(rt: HostRuntime) -> Result<(), Fail> {
-    let found = differences(rt.alloc(), CASES)?;
-    assert_eq!(rt; found.as_str(), "");
-    Ok(())
+    pass(rt.alloc(), CASES)
 }

@@ -70,26 +70,36 @@ pub fn perform(alloc: Global, start: &Start, failing: &[String]) -> Result<End, 
 
 // The folder with the files, and outputs to which nothing was written.
 fn beginning(alloc: Global, start: &Start, failing: &[String]) -> Result<End, Fault> {
-    let most = start.most.max(1);
-    let mut folder = MemoryFolder::new(
-        alloc,
-        numbers_of(alloc, failing, "read")?,
-        numbers_of(alloc, failing, "create")?,
-        numbers_of(alloc, failing, "append")?,
-        most,
-    )?;
-    for file in &start.files {
-        folder.put(&file.name, file.bytes.clone()?)?;
-    }
-    let out = MemorySink::new(alloc, numbers_of(alloc, failing, "write")?, most)?;
-    let err = MemorySink::new(alloc, numbers_of(alloc, failing, "error")?, most)?;
     Ok(End {
         ends: Vec::new(alloc),
         work: Work::new(),
-        folder: Endless::new(folder, start.endless.clone()?),
-        out: Stuck::new(out, start.stuck.as_str() == "write"),
-        err: Stuck::new(err, start.stuck.as_str() == "error"),
+        folder: folder_of(alloc, start, failing)?,
+        out: output_of(alloc, start, failing, "write")?,
+        err: output_of(alloc, start, failing, "error")?,
     })
+}
+
+// The folder with the files.
+fn folder_of(alloc: Global, start: &Start, failing: &[String]) -> Result<Endless, Fault> {
+    let mut folder = empty_folder(alloc, start.most, failing)?;
+    for file in &start.files {
+        folder.put(&file.name, file.bytes.clone()?)?;
+    }
+    Ok(Endless::new(folder, start.endless.clone()?))
+}
+
+fn empty_folder(alloc: Global, most: u32, failing: &[String]) -> Result<MemoryFolder, Fault> {
+    let reads = numbers_of(alloc, failing, "read")?;
+    let creates = numbers_of(alloc, failing, "create")?;
+    let appends = numbers_of(alloc, failing, "append")?;
+    Ok(MemoryFolder::new(alloc, reads, creates, appends, most.max(1))?)
+}
+
+// The output whose writes are of this kind.
+fn output_of(alloc: Global, start: &Start, failing: &[String], kind: &str) -> Result<Stuck, Fault> {
+    let writes = numbers_of(alloc, failing, kind)?;
+    let sink = MemorySink::new(alloc, writes, start.most.max(1))?;
+    Ok(Stuck::new(sink, start.stuck.as_str() == kind))
 }
 
 // The numbers of the failing calls of a kind.

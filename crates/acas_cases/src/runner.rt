@@ -1,50 +1,68 @@
 //! The runner.
-use crate::cases::{Cases, read_text};
+use crate::cases::{Case, items, keys_of};
 use crate::each_call::judge_each_call;
 use crate::fault::Fault;
 use crate::judge::judge;
-use crate::outside::{End, File, Start, perform};
+use crate::outside::{File, Start, perform};
 use crate::report::Report;
 use crate::steps::made;
-use crate::texts::{filled, filled_each};
 use sha2::{Digest, Sha256};
 use std::alloc::{AllocError, Global};
+use std::test::Fail;
+use toml::Table;
+
+/// Tries the cases of a text, and fails where one of them does not end as it is to end.
+pub fn pass(alloc: Global, text: &str) -> Result<(), Fail> {
+    let found = differences(alloc, text)?;
+    if found.is_empty() {
+        Ok(())
+    } else {
+        Err(Fail::new(found))
+    }
+}
 
 /// Tries the cases of a text, and gives a line for each way in which one of them did not end as it is to end.
 pub fn differences(alloc: Global, text: &str) -> Result<String, Fault> {
-    let text = read_text(alloc, text)?;
+    let Ok(document) = toml::table_from_str(alloc, text) else {
+        return Err(Fault::Text("the text is no TOML"));
+    };
     let mut report = Report::new(alloc);
-    for cases in &text.cases {
-        try_each(alloc, cases, &mut report)?;
+    for item in items(&document)? {
+        try_each(alloc, keys_of(item)?, &mut report)?;
     }
     Ok(report.text)
 }
 
-fn try_each(alloc: Global, cases: &Cases, report: &mut Report) -> Result<(), Fault> {
+fn try_each(alloc: Global, keys: &Table, report: &mut Report) -> Result<(), Fault> {
+    let bare = Case { keys, row: &[] };
+    let name = bare.text_or(alloc, "name", "no name")?;
     let mut lines = Sha256::new();
-    for (number, row) in rows_of(alloc, cases)?.iter().enumerate() {
-        report.begin(&cases.name, row)?;
-        match try_case(alloc, cases, number, row, &mut lines, report) {
+    for (number, row) in rows_of(alloc, bare)?.iter().enumerate() {
+        report.begin(&name, row)?;
+        match try_case(alloc, Case { keys, row }, number, &mut lines, report) {
             Err(Fault::Text(why)) => report.add(why)?,
             other => other?,
         }
     }
+    let Some(wanted) = bare.text(alloc, "lines_sha256")? else {
+        return Ok(());
+    };
     let digest = hex::encode(alloc, lines.finalize())?;
-    match &cases.lines_sha256 {
-        Some(wanted) => Ok(report.same("the lines", digest.as_bytes(), wanted.as_bytes())?),
-        None => Ok(()),
-    }
+    Ok(report.same("the lines", digest.as_bytes(), wanted.as_bytes())?)
 }
 
 // The values of each case, in their order.
-fn rows_of(alloc: Global, cases: &Cases) -> Result<Vec<Vec<String>>, AllocError> {
+fn rows_of(alloc: Global, bare: Case<'_>) -> Result<Vec<Vec<String>>, Fault> {
+    let rows = bare.lists(alloc, "rows")?;
     let mut all = Vec::new(alloc);
-    for number in 0..cases.numbers.max(1) {
-        let mut front = Vec::new(alloc);
-        if cases.numbers > 0 {
-            front.push(number.to_string(alloc)?)?;
-        }
-        push_rows(&front, &cases.rows, &mut all)?;
+    let Some(numbers) = bare.text(alloc, "numbers")? else {
+        push_rows(&Vec::new(alloc), &rows, &mut all)?;
+        return Ok(all);
+    };
+    let numbers = numbers.parse::<u32>();
+    for number in 0..numbers.map_err(|_| Fault::Text("no number of cases"))? {
+        let front = vec![in alloc; number.to_string(alloc)?]?;
+        push_rows(&front, &rows, &mut all)?;
     }
     Ok(all)
 }
@@ -70,24 +88,42 @@ fn push_rows(
 
 fn try_case(
     alloc: Global,
-    cases: &Cases,
+    case: Case<'_>,
     number: usize,
-    row: &[String],
     lines: &mut Sha256,
     report: &mut Report,
 ) -> Result<(), Fault> {
-    let start = start_of(alloc, cases, row)?;
-    let end = perform(alloc, &start, &filled_each(alloc, &cases.failing, row)?)?;
+    let start = start_of(alloc, case)?;
+    let failing = case.texts(alloc, "failing")?;
+    let end = perform(alloc, &start, &failing)?;
     lines.update(end.out.sink.written());
     lines.update(end.err.sink.written());
-    judge(alloc, cases, number, row, &start, &end, report)?;
-    judge_each_call(alloc, cases, &start, &end, report)
+    judge(alloc, case, number, &start, &end, report)?;
+    judge_each_call(alloc, case, &start, &end, report)
 }
 
-fn start_of(alloc: Global, cases: &Cases, row: &[String]) -> Result<Start, Fault> {
+fn start_of(alloc: Global, case: Case<'_>) -> Result<Start, Fault> {
+    let most = case.text_or(alloc, "most", "65536")?.parse::<u32>();
+    Ok(Start {
+        files: files_of(alloc, case)?,
+        endless: case.text_or(alloc, "endless", "")?,
+        most: most.map_err(|_| Fault::Text("no number of bytes"))?,
+        stuck: case.text_or(alloc, "stuck", "")?,
+        runs: runs_of(alloc, case)?,
+    })
+}
+
+fn runs_of(alloc: Global, case: Case<'_>) -> Result<Vec<String>, Fault> {
+    let runs = case.texts(alloc, "runs")?;
+    if runs.is_empty() {
+        return Err(Fault::Text("no run"));
+    }
+    Ok(runs)
+}
+
+fn files_of(alloc: Global, case: Case<'_>) -> Result<Vec<File>, Fault> {
     let mut files = Vec::new(alloc);
-    for recipe in &cases.files {
-        let recipe = filled_each(alloc, recipe, row)?;
+    for recipe in &case.lists(alloc, "files")? {
         let (name, steps) = recipe.split_first().ok_or(Fault::Text("no name"))?;
         let bytes = made(alloc, &files, steps)?;
         files.push(File {
@@ -95,19 +131,5 @@ fn start_of(alloc: Global, cases: &Cases, row: &[String]) -> Result<Start, Fault
             bytes,
         })?;
     }
-    let most = match &cases.most {
-        Some(most) => {
-            let most = filled(alloc, most, row)?.parse::<u32>();
-            most.map_err(|_| Fault::Text("no number of bytes"))?
-        }
-        None => 65_536,
-    };
-    let runs = filled_each(alloc, &cases.runs, row)?;
-    Ok(Start {
-        files,
-        endless: filled(alloc, &cases.endless, row)?,
-        most,
-        stuck: filled(alloc, &cases.stuck, row)?,
-        runs,
-    })
+    Ok(files)
 }

@@ -78,22 +78,22 @@ name = "file that is not as before"
 files = [["b", "model b"], ["t", "text before"]]
 runs = ["acas compile b t"]
 ends = ["0 done"]
-output = "compiled layers 3 states 16 bytes 908\n"
+output = "compiled layers 3 states 16 bytes 972\n"
 
 [[cases]]
 name = "file afterwards"
 files = [["b", "model b"]]
 runs = ["acas compile b t"]
 ends = ["0 done"]
-output = "compiled layers 3 states 16 bytes 908\n"
-after = [["t", "compiled b", "flip 907 1"]]
+output = "compiled layers 3 states 16 bytes 972\n"
+after = [["t", "compiled b", "flip 971 1"]]
 
 [[cases]]
 name = "digest of a file"
 files = [["b", "model b"]]
 runs = ["acas compile b t"]
 ends = ["0 done"]
-output = "compiled layers 3 states 16 bytes 908\n"
+output = "compiled layers 3 states 16 bytes 972\n"
 after_sha256 = [["t", "0000000000000000000000000000000000000000000000000000000000000000"]]
 
 [[cases]]
@@ -101,7 +101,7 @@ name = "no file"
 files = [["b", "model b"]]
 runs = ["acas compile b t"]
 ends = ["0 done"]
-output = "compiled layers 3 states 16 bytes 908\n"
+output = "compiled layers 3 states 16 bytes 972\n"
 absent = ["t"]
 
 [[cases]]
@@ -111,7 +111,7 @@ most = "4096"
 runs = ["acas check b t"]
 ends = ["0 done"]
 output = "accepted layers 3 states 16\n"
-each_call = [3]
+each_call = "4"
 
 [[cases]]
 name = "too many calls"
@@ -120,7 +120,7 @@ most = "4096"
 runs = ["acas check b t"]
 ends = ["0 done"]
 output = "accepted layers 3 states 16\n"
-each_call = [5]
+each_call = "6"
 
 [[cases]]
 name = "no such text"

@@ -1,4 +1,4 @@
-//! Cells, what a table advises at their corners, the cells under each advice in order, and the verdicts on cells and boxes.
+//! The verdict on a cell or a box under an advisory, with its witness where it is reported; and what such a witness is worth.
 #![tactic(auto)]
 
 mod danger_laws;

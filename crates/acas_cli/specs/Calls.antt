@@ -9,8 +9,8 @@ use Rattle.acas_command.specs.declared.status.Cause.TheVariants.{Words}
 use Rattle.acas_audit_commands.specs.Calls.{CallsForAudit, CallsForRegions}
 use Rattle.acas_drill.specs.Calls.{CallsForDrill}
 use Rattle.acas_encounter_commands.specs.Calls.{CallsForReplay}
-use Rattle.acas_table_commands.specs.Calls.{CallsForCheck, CallsForCompile, CallsForValues}
-use Rattle.acas_cli_words.specs.Words.{Form, Values, Compile, Check, Audit, Regions, Replay, Drill}
+use Rattle.acas_table_commands.specs.Calls.{CallsForCheck, CallsForCompile, CallsForMigrate, CallsForValues}
+use Rattle.acas_cli_words.specs.Words.{Form, Values, Compile, Check, Audit, Regions, Replay, Migrate, Drill}
 
 -- what a form calls for
 abbrev pub CallsFor : Form → Called
@@ -20,6 +20,7 @@ CallsFor (Check model table) = CallsForCheck model table
 CallsFor (Audit model table which) = CallsForAudit model table which
 CallsFor (Regions model boxes) = CallsForRegions model boxes
 CallsFor (Replay model table encounter) = CallsForReplay model table encounter
+CallsFor (Migrate model table target) = CallsForMigrate model table target
 CallsFor (Drill number) = CallsForDrill number
 
 -- a drill leaves the folder as it was, and is answered so whatever files the folder holds, told or not
@@ -35,6 +36,7 @@ AnswersCall (Check model table) cause before after = Answers (CallsForCheck mode
 AnswersCall (Audit model table which) cause before after = Answers (CallsForAudit model table which) cause before after
 AnswersCall (Regions model boxes) cause before after = Answers (CallsForRegions model boxes) cause before after
 AnswersCall (Replay model table encounter) cause before after = Answers (CallsForReplay model table encounter) cause before after
+AnswersCall (Migrate model table target) cause before after = Answers (CallsForMigrate model table target) cause before after
 AnswersCall (Drill number) cause before after = AnswersDrill number cause before after
 
 -- the answer to words of a form, or to other words

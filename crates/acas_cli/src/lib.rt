@@ -8,8 +8,11 @@ mod work;
 
 pub use acas_accept::{AcceptFault, accept};
 pub use acas_command::{Cause, FileRole, Status};
-pub use acas_table::TableRefusal;
+pub use acas_table_text::TableRefusal;
 pub use drill_call::drill;
-pub use laws::{accepted_tables_are_audited, stored_tables_are_accepted};
+pub use laws::{
+    accepted_tables_are_audited, migrated_tables_are_accepted, migrating_again_changes_no_byte,
+    stored_tables_are_accepted,
+};
 pub use top_call::run;
 pub use work::Work;

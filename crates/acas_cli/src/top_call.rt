@@ -17,16 +17,16 @@ use acas_cli_words::{Command, command_of};
 use acas_command::{Cause, Status, cause_of, cause_of_report, report, report_memory, report_words};
 use acas_encounter_commands::replay;
 use acas_outside::{Folder, Sink};
-use acas_table_commands::{check, compile, values};
+use acas_table_commands::{check, compile, migrate, values};
 use acas_units::Line;
 use std::alloc::Global;
 
-/// Does all that the program does, for the words after its name: the command that they are the form of, over this folder,
-/// with its output on `out` and, where it is not done, one line on `err`.
+/// Does all that the program does, for the words after its name: the command that they are the form of, over this
+/// folder, with its output on `out` and, where it is not done, one line on `err`.
 ///
-/// It raises the counts of `work`, each of which is at most 2^63 before, as those of a new one are. The same one may go from run to
-/// run: no count falls, so its counts are those of all runs. No clause bounds how far a run that ends otherwise than done raises
-/// them, so before the next run a caller asks [`Work::has_room`], or takes a new one.
+/// It raises the counts of `work`, each of which is at most 2^63 before, as those of a new one are. The same one may go
+/// from run to run: no count falls, so its counts are those of all runs. No clause bounds how far a run that ends
+/// otherwise than done raises them, so before the next run a caller asks [`Work::has_room`], or takes a new one.
 pub fn run<F: Folder, O: Sink, E: Sink>(
     alloc: Global,
     words: &[String],
@@ -86,8 +86,8 @@ fn answer_and_report<F: Folder, O: Sink, E: Sink>(
         (outside F.Folder O.Sink folder.old out.old) (outside F.Folder O.Sink folder.new out.new) }
     ensures headline { Headline (form_of (map string_bytes words.now)) result
         (outside F.Folder O.Sink folder.old out.old) (outside F.Folder O.Sink folder.new out.new) }
-    ensures work { CountsForm (form_of (map string_bytes words.now)) (F.holds folder.old) result work.old
-        work.new }
+    ensures work { CountsForm (form_of (map string_bytes words.now)) (F.holds folder.old) result
+        work.old work.new }
     ensures rising { NoneFell work.old work.new }
     ensures line { Reports result (map string_bytes words.now)
         (E.written err.old) (E.written err.new) (E.faults err.old) (E.faults err.new) }
@@ -116,8 +116,7 @@ fn answer<F: Folder, O: Sink>(
     out: &mut O,
     work: &mut Work,
 ) -> Cause
-    requires served { All (λ name.
-        IsTrue (F.serves folder.old name)) (names_of (form_of_command command.now)) }
+    requires served { All (λ name. IsTrue (F.serves folder.old name)) (names_of (form_of_command command.now)) }
     requires number { HasNumber (form_of_command command.now) }
     requires counts { HasRoom work.old }
     ensures answers { AnswersCall (form_of_command command.now) result
@@ -154,6 +153,11 @@ fn answer<F: Folder, O: Sink>(
             table,
             encounter,
         } => cause_of(replay(alloc, model, table, encounter, folder, out)),
+        Command::Migrate {
+            model,
+            table,
+            target,
+        } => cause_of(migrate(alloc, model, table, target, folder, out)),
         Command::Drill { number } => drill(alloc, *number, out).cause,
     }
 }

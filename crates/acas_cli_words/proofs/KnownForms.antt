@@ -10,7 +10,7 @@ use Rattle.acas_units.specs.declared.limits.TheConstants.{GREATEST_DRILL_NUMBER}
 use Rattle.acas_cli_words.specs.Forms.{HasNumber}
 use Rattle.acas_drill_model.specs.Word.{drill_number}
 use Rattle.acas_report_lines.specs.declared.counts.Which.TheVariants.{All as Whole, Reported}
-use Rattle.acas_cli_words.specs.Words.{Form, Values, Compile, Check, Audit, Regions, Replay, Drill, are_apart, are_file_names, form_of, is_file_name, names_of}
+use Rattle.acas_cli_words.specs.Words.{Form, Values, Compile, Check, Audit, Regions, Replay, Migrate, Drill, are_apart, are_file_names, form_of, is_file_name, names_of}
 
 -- of each of its names this is so, and its number is within its limit
 pub record IsKnown (P : List ℕ → Type 0) (form : Form) : Type 0 where
@@ -83,7 +83,10 @@ known_form P (verb ∷ model ∷ second ∷ []) form e h =
 known_form P (verb ∷ model ∷ table ∷ third ∷ []) form e h =
     let all : All P (model ∷ table ∷ third ∷ []) = all_tail P verb (model ∷ table ∷ third ∷ []) h in
     let replays : Bool = bytes_eq verb (codes "replay") && are_file_names model table && is_file_name third in
+    let migrates : Bool = bytes_eq verb (codes "migrate") && are_apart model third && are_apart table third in
+    let on_format : Option Form = cond migrates (Some (Migrate model table third)) None in
     known_if P (bytes_eq verb (codes "audit") && are_file_names model table && bytes_eq third (codes "--reported")) (Audit model table Reported) form
-    (cond replays (Some (Replay model table third)) None) e (record { names = all_first_two P model table third all; number = tt })
-    (λ no_audit. known_if P replays (Replay model table third) form None no_audit (record { names = all; number = tt }) (λ none. absurd (cc none)))
+    (cond replays (Some (Replay model table third)) on_format) e (record { names = all_first_two P model table third all; number = tt })
+    (λ no_audit. known_if P replays (Replay model table third) form on_format no_audit (record { names = all; number = tt })
+    (λ no_replay. known_if P migrates (Migrate model table third) form None no_replay (record { names = all; number = tt }) (λ none. absurd (cc none))))
 known_form P (verb ∷ model ∷ table ∷ third ∷ more ∷ rest) form e h = absurd (cc e)

@@ -1,9 +1,9 @@
 -- The form of a command.
 use Rattle.std.specs.Prelude.{◌≡◌, ◌≤◌, Option, Some, None, ⊤}
 use Rattle.acas_units.specs.declared.limits.TheConstants.{GREATEST_DRILL_NUMBER}
-use Rattle.acas_cli_words.specs.Words.{Form, Values, Compile, Check, Audit, Regions, Replay, Drill}
+use Rattle.acas_cli_words.specs.Words.{Form, Values, Compile, Check, Audit, Regions, Replay, Migrate, Drill}
 use Rattle.acas_cli_words.specs.declared.words.Command.{Command}
-use Rattle.acas_cli_words.specs.declared.words.Command.TheVariants.{Values as ValuesCommand, Compile as CompileCommand, Check as CheckCommand, Audit as AuditCommand, Regions as RegionsCommand, Replay as ReplayCommand, Drill as DrillCommand}
+use Rattle.acas_cli_words.specs.declared.words.Command.TheVariants.{Values as ValuesCommand, Compile as CompileCommand, Check as CheckCommand, Audit as AuditCommand, Regions as RegionsCommand, Replay as ReplayCommand, Migrate as MigrateCommand, Drill as DrillCommand}
 
 -- a command has the form of its words
 abbrev pub form_of_command : Command → Form
@@ -13,6 +13,7 @@ form_of_command (CheckCommand model table) = Check model.now table.now
 form_of_command (AuditCommand model table which) = Audit model.now table.now which
 form_of_command (RegionsCommand model boxes) = Regions model.now boxes.now
 form_of_command (ReplayCommand model table encounter) = Replay model.now table.now encounter.now
+form_of_command (MigrateCommand model table target) = Migrate model.now table.now target.now
 form_of_command (DrillCommand number) = Drill number
 
 -- there is a command exactly where there is a form, and it has that form
@@ -28,4 +29,5 @@ HasNumber (Check model table) = ⊤
 HasNumber (Audit model table which) = ⊤
 HasNumber (Regions model boxes) = ⊤
 HasNumber (Replay model table encounter) = ⊤
+HasNumber (Migrate model table target) = ⊤
 HasNumber (Drill number) = number ≤ GREATEST_DRILL_NUMBER

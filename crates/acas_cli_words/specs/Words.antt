@@ -15,6 +15,7 @@ pub data Form : Type 0 where
   Audit : (model table : List ℕ) (which : Which) → Form
   Regions : (model boxes : List ℕ) → Form
   Replay : (model table encounter : List ℕ) → Form
+  Migrate : (model table target : List ℕ) → Form
   Drill : (number : ℕ) → Form
 
 -- a file is named by at least one byte and not too many, the first of which is no `-`
@@ -44,6 +45,7 @@ form_of (verb ∷ model ∷ second ∷ []) =
 form_of (verb ∷ model ∷ table ∷ third ∷ []) =
     if bytes_eq verb (codes "audit") && are_file_names model table && bytes_eq third (codes "--reported") then Some (Audit model table Reported)
     else if bytes_eq verb (codes "replay") && are_file_names model table && is_file_name third then Some (Replay model table third)
+    else if bytes_eq verb (codes "migrate") && are_apart model third && are_apart table third then Some (Migrate model table third)
     else None
 form_of words = None
 
@@ -55,4 +57,5 @@ names_of (Check model table) = model ∷ table ∷ []
 names_of (Audit model table which) = model ∷ table ∷ []
 names_of (Regions model boxes) = model ∷ boxes ∷ []
 names_of (Replay model table encounter) = model ∷ table ∷ encounter ∷ []
+names_of (Migrate model table target) = model ∷ table ∷ target ∷ []
 names_of (Drill number) = []

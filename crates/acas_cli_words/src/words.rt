@@ -41,6 +41,12 @@ pub enum Command<'w> {
         table: &'w str,
         encounter: &'w str,
     },
+    /// `migrate M T1 T2`: store a table again in version 2, under another name.
+    Migrate {
+        model: &'w str,
+        table: &'w str,
+        target: &'w str,
+    },
     /// `drill K`: compile, accept and audit the model of a number.
     Drill {
         number: u32,
@@ -129,6 +135,12 @@ fn of_four_words<'w>(
             model,
             table,
             encounter: third,
+        })
+    } else if verb == "migrate" && are_apart(model, third) && are_apart(table, third) {
+        Some(Command::Migrate {
+            model,
+            table,
+            target: third,
         })
     } else {
         None

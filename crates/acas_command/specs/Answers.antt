@@ -7,7 +7,7 @@ use Rattle.acas_outside.specs.Files.{Files}
 use Rattle.acas_outside.specs.Outside.{Outside}
 use Rattle.acas_input.specs.declared.fault.InputFault.TheVariants as inputs
 use Rattle.acas_model.specs.declared.fault.ModelFault.TheVariants as faults
-use Rattle.acas_table.specs.Refusals.{IsOfBytes}
+use Rattle.acas_table_text.specs.Refusals.{IsOfBytes}
 use Rattle.acas_command.specs.Called.{Called}
 use Rattle.acas_command.specs.Outcome.{Outcome, report_cause, with_file}
 use Rattle.acas_command.specs.declared.status.Cause.{Cause}

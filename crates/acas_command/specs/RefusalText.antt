@@ -5,10 +5,10 @@ use Rattle.hex.specs.Hex.{encode_lower}
 use Rattle.acas_units.specs.Printed.{millionths_text}
 use Rattle.acas_spec.specs.declared.fault.BoundFault.{BoundFault}
 use Rattle.acas_spec.specs.declared.fault.BoundFault.TheVariants.{AdviceNotAllowed, UpperTooLow, LowerTooHigh}
-use Rattle.acas_table.specs.declared.fault.TableFault.{TableFault}
-use Rattle.acas_table.specs.declared.fault.TableFault.TheVariants as form
-use Rattle.acas_table.specs.declared.refusal.TableRefusal.{TableRefusal}
-use Rattle.acas_table.specs.declared.refusal.TableRefusal.TheVariants.{Form, Entry}
+use Rattle.acas_table_text.specs.declared.fault.TableFault.{TableFault}
+use Rattle.acas_table_text.specs.declared.fault.TableFault.TheVariants as form
+use Rattle.acas_table_text.specs.declared.refusal.TableRefusal.{TableRefusal}
+use Rattle.acas_table_text.specs.declared.refusal.TableRefusal.TheVariants.{Form, Entry}
 
 -- two digests in lower case hexadecimal digits
 unfoldable pub model_text : List ℕ → List ℕ → List ℕ
@@ -16,6 +16,10 @@ model_text kept found = codes "other model " ++ encode_lower kept ++ codes " fou
 
 unfoldable pub digest_text : List ℕ → List ℕ → List ℕ
 digest_text kept computed = codes "digest " ++ encode_lower kept ++ codes " computed " ++ encode_lower computed
+
+-- the digest of a layer
+unfoldable pub layer_digest_text : ℕ → List ℕ → List ℕ → List ℕ
+layer_digest_text layer kept computed = codes "layer " ++ decimal layer ++ codes " " ++ digest_text kept computed
 
 -- one of the five numbers of the header, by its place
 unfoldable pub shape_text : ℕ → ℕ → ℕ → List ℕ
@@ -53,6 +57,7 @@ form_text (form.Shape place kept expected) = shape_text place kept expected
 form_text (form.Length expected found) = length_text expected found
 form_text (form.Advice layer state byte) = byte_text layer state byte
 form_text (form.Digest kept computed) = digest_text kept computed
+form_text (form.LayerDigest layer kept computed) = layer_digest_text layer kept computed
 form_text form.Failed = codes "read failed"
 form_text form.Absent = codes "absent"
 form_text form.Memory = codes "out of memory"

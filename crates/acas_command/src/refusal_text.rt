@@ -1,11 +1,11 @@
 //! What is printed of a table's refusal.
 ghost use Rattle.std.specs.Prelude.{[], ◌≡◌, ◌++◌, ◌+◌, ◌≤◌, length};
 ghost use Rattle.hex.specs.Hex.{encode_lower};
-ghost use Rattle.acas_command.specs.RefusalText.{bound_text, byte_text, digest_text, form_text, length_text, lower_text, model_text, refusal_text, shape_text, state_text, upper_text};
+ghost use Rattle.acas_command.specs.RefusalText.{bound_text, byte_text, digest_text, form_text, layer_digest_text, length_text, lower_text, model_text, refusal_text, shape_text, state_text, upper_text};
 
 use crate::line_fields::{put_count, put_millionths, put_text, put_wide_millionths};
 use acas_spec::BoundFault;
-use acas_table::{TableFault, TableRefusal};
+use acas_table_text::{TableFault, TableRefusal};
 use acas_units::Line;
 
 /// Makes a line of what is printed of a refusal.
@@ -44,7 +44,12 @@ fn write_form(line: &mut Line, fault: &TableFault)
         } => write_shape(line, *place, *kept, *expected),
         TableFault::Length { expected, found } => write_length(line, *expected, *found),
         TableFault::Advice { layer, state, byte } => write_byte(line, *layer, *state, *byte),
-        TableFault::Digest { kept, computed } => write_digest(line, kept, computed),
+        TableFault::Digest { kept, computed } => put_digest(line, kept, computed),
+        TableFault::LayerDigest {
+            layer,
+            kept,
+            computed,
+        } => write_layer_digest(line, *layer, kept, computed),
         TableFault::Failed => put_text(line, "read failed"),
         TableFault::Absent => put_text(line, "absent"),
         TableFault::Memory => put_text(line, "out of memory"),
@@ -75,14 +80,25 @@ fn write_model(line: &mut Line, kept: &[u8; 32], found: &[u8; 32])
 }
 
 #[tactic(auto, unfolding(crate::specs::RefusalText::digest_text))]
-fn write_digest(line: &mut Line, kept: &[u8; 32], computed: &[u8; 32])
-    requires { line.old ≡ [] }
-    ensures { line.new ≡ digest_text kept.now computed.now }
+fn put_digest(line: &mut Line, kept: &[u8; 32], computed: &[u8; 32])
+    requires { length line.old + 145 ≤ 1024 }
+    ensures { line.new ≡ line.old ++ digest_text kept.now computed.now }
 {
     put_text(line, "digest ");
     put_digits(line, kept);
     put_text(line, " computed ");
     put_digits(line, computed);
+}
+
+#[tactic(auto, unfolding(crate::specs::RefusalText::layer_digest_text))]
+fn write_layer_digest(line: &mut Line, layer: u32, kept: &[u8; 32], computed: &[u8; 32])
+    requires { line.old ≡ [] }
+    ensures { line.new ≡ layer_digest_text layer kept.now computed.now }
+{
+    put_text(line, "layer ");
+    put_count(line, u64::from(layer));
+    put_text(line, " ");
+    put_digest(line, kept, computed);
 }
 
 #[tactic(auto, unfolding(crate::specs::RefusalText::shape_text))]

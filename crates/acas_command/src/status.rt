@@ -5,7 +5,7 @@ ghost use Rattle.acas_command.specs.Codes.{code_of};
 
 use acas_input::InputFault;
 use acas_model::ModelFault;
-use acas_table::TableRefusal;
+use acas_table_text::TableRefusal;
 use std::alloc::AllocError;
 
 /// A file that a command reads, by what the command reads it as.

@@ -34,9 +34,9 @@ pub fault_as_ok : {A E F : Type 0} (f : E → F) (r : Result A E) (x : A) → fa
 fault_as_ok {A} {E} {F} f (Ok y) x e = ap Ok (same_ok {E = F} y x e)
 fault_as_ok f (Err d) x e = absurd cc
 
-or_fault_ok : {A : Type 0} (kind : DocKind) (o : Option A) (x : A) → or_fault kind o ≡ Ok x → o ≡ Some x
-or_fault_ok kind None x e = absurd cc
-or_fault_ok kind (Some y) x e = ap Some (same_ok {E = DocKind} y x e)
+pub or_fault_ok : {A E : Type 0} (fault : E) (o : Option A) (x : A) → or_fault fault o ≡ Ok x → o ≡ Some x
+or_fault_ok fault None x e = absurd cc
+or_fault_ok {A} {E} fault (Some y) x e = ap Some (same_ok {E = E} y x e)
 
 -- ---- one kind of value
 

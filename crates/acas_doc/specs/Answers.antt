@@ -1,5 +1,5 @@
 -- What a reader of a document answers.
-use Rattle.std.specs.Prelude.{◌≡◌, Result, Ok, Err, IsErr}
+use Rattle.std.specs.Prelude.{◌≡◌, ◌≢◌, Result, Ok, Err, IsErr}
 use Rattle.acas_doc.specs.declared.fault.DocFault.{DocFault}
 use Rattle.acas_doc.specs.declared.fault.DocError.{DocError}
 use Rattle.acas_doc.specs.declared.fault.DocError.TheVariants as errors
@@ -23,3 +23,8 @@ Answers view (Err e) rules = Fails e rules
 abbrev pub Sees : {X Y E : Type 0} → (X → Y) → Result X E → Result Y E → Type 0
 Sees view (Ok x) rules = rules ≡ Ok (view x)
 Sees view (Err e) rules = rules ≡ Err e
+
+-- the call gave what the rules give, seen by view, unless it gave this fault, which says that memory ran out
+abbrev pub GivesUnless : {X Y E : Type 0} → E → (X → Y) → Result X E → Result Y E → Type 0
+GivesUnless memory view (Ok x) rules = rules ≡ Ok (view x)
+GivesUnless memory view (Err fault) rules = fault ≢ memory → rules ≡ Err fault

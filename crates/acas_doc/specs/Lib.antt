@@ -2,4 +2,5 @@ pub mod Paths
 pub mod Values
 pub mod Keys
 pub mod Known
+pub mod Document
 pub mod Answers

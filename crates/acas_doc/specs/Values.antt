@@ -6,9 +6,9 @@ use Rattle.acas_doc.specs.declared.fault.DocKind.{DocKind}
 use Rattle.acas_doc.specs.declared.fault.DocKind.TheVariants.{WrongKind, OutOfRange}
 
 -- what is there, or this fault
-abbrev pub or_fault : {A : Type 0} → DocKind → Option A → Result A DocKind
-or_fault kind None = Err kind
-or_fault kind (Some x) = Ok x
+abbrev pub or_fault : {A E : Type 0} → E → Option A → Result A E
+or_fault fault None = Err fault
+or_fault fault (Some x) = Ok x
 
 -- a number from least to greatest
 abbrev pub in_range : ℤ → ℤ → ℤ → Result ℤ DocKind

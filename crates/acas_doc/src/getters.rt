@@ -45,8 +45,8 @@ fn find_list<'t>(
     least: u32,
     greatest: u32,
 ) -> Result<&'t [Value], DocKind>
-    ensures value { Sees (λ vs.
-        map view vs.now) result (found_list (table_view table.now) key.now least greatest) }
+    ensures value { Sees (λ vs. map view vs.now) result
+        (found_list (table_view table.now) key.now least greatest) }
     ensures range { IfOk result (λ vs. (least ≤ length vs.now) × (length vs.now ≤ greatest)) }
 {
     as_list(find(table, key)?, least, greatest)
@@ -70,8 +70,8 @@ pub fn whole(
     least: i64,
     greatest: i64,
 ) -> Result<i64, DocError>
-    ensures value { Answers (λ z.
-        z) result (whole_at (table_view table.now) path.now key.now least greatest) }
+    ensures value { Answers (λ z. z) result
+        (whole_at (table_view table.now) path.now key.now least greatest) }
     ensures range { IfOk result (λ z. (least ≤ℤ z) × (z ≤ℤ greatest)) }
 {
     match find_whole(table, key, least, greatest) {
@@ -107,8 +107,8 @@ pub fn list<'t>(
     least: u32,
     greatest: u32,
 ) -> Result<&'t [Value], DocError>
-    ensures value { Answers (λ vs.
-        map view vs.now) result (list_at (table_view table.now) path.now key.now least greatest) }
+    ensures value { Answers (λ vs. map view vs.now) result
+        (list_at (table_view table.now) path.now key.now least greatest) }
     ensures range { IfOk result (λ vs. (least ≤ length vs.now) × (length vs.now ≤ greatest)) }
 {
     match find_list(table, key, least, greatest) {

@@ -23,8 +23,8 @@ pub fn item(
     greatest: i64,
 ) -> Result<i64, DocError>
     requires { place < length items.now }
-    ensures value { Answers (λ z.
-        z) result (keys.whole_item path.now place least greatest (data_at (map view items.now) place)) }
+    ensures value { Answers (λ z. z) result
+        (keys.whole_item path.now place least greatest (data_at (map view items.now) place)) }
     ensures range { IfOk result (λ z. (least ≤ℤ z) × (z ≤ℤ greatest)) }
 {
     match as_whole(&items[place as usize], least, greatest) {

@@ -16,14 +16,15 @@ use Rattle.acas_accept.specs.declared.refusal.AcceptFault.TheVariants.{Refused}
 use Rattle.acas_accept.proofs.CompiledTables.{compiled_is_accepted}
 use Rattle.acas_accept.proofs.Tables.{accepted_has_none}
 use Rattle.acas_accept.proofs.Written.{is_table, read_again}
-use Rattle.acas_table.specs.declared.refusal.TableRefusal.{TableRefusal}
+use Rattle.acas_table_text.specs.declared.format.Format.TheVariants.{Layered}
+use Rattle.acas_table_text.specs.declared.refusal.TableRefusal.{TableRefusal}
 use Rattle.acas_table_rows.specs.TableFile.{compiled_text}
 use Rattle.acas_table_file.specs.Worth.{AreTabled}
 
 tabled : (m : ModelData) (digest : List ℕ) (advices : AdvicesData) → IsModel m → length digest ≡ 32 → HasAdvices m (compiled_text digest m) advices → AreTabled m (compiled m) advices
 tabled m digest advices within long held =
-    let accepted = compiled_is_accepted m digest within in
-    let same = read_again m digest (compiled m) (is_table m digest (compiled m) within long accepted.writable accepted.sound) in
+    let accepted = compiled_is_accepted m Layered digest within in
+    let same = read_again m Layered digest (compiled m) (is_table m digest (compiled m) within long accepted.writable accepted.sound) in
     record {
       each = λ n p x some entry.
           held.each n (state_number m.grid p (vertex_number m.grid x)) some entry.seconds (state_number-below m.grid p x entry.present entry.vertex)
@@ -38,7 +39,7 @@ held before after name bytes stored =
 
 -- the text of the compiled table has no refusal
 compiled-none : (m : ModelData) (digest : List ℕ) → IsModel m → length digest ≡ 32 → first_refusal m digest (compiled_text digest m) ≡ None
-compiled-none m digest within long = accepted_has_none m digest (compiled_text digest m) (compiled m) within long (compiled_is_accepted m digest within)
+compiled-none m digest within long = accepted_has_none m digest (compiled_text digest m) (compiled m) within long (compiled_is_accepted m Layered digest within)
 
 -- what is answered of a file that holds it
 module _ (m : ModelData) (digest : List ℕ) (file : Option (List ℕ)) (there : file ≡ Some (compiled_text digest m)) (within : IsModel m) (long : length digest ≡ 32) where

@@ -12,6 +12,7 @@ use Rattle.acas_process.specs.Compiled.{compiled}
 use Rattle.acas_process.proofs.BoundLaws.{two_sided_bounds}
 use Rattle.acas_process.proofs.CompiledLaws.{compiled_is_sound, compiled_is_tight}
 use Rattle.acas_accept.proofs.CompiledTables.{compiled_is_accepted}
+use Rattle.acas_table_text.specs.declared.format.Format.TheVariants.{Layered}
 use Rattle.acas_command.specs.Answers.{Answers}
 use Rattle.acas_command.specs.Outcome.{Outcome, prints, report_cause}
 use Rattle.acas_command.specs.declared.status.Cause.{Cause}
@@ -36,7 +37,7 @@ prints-drill number files cause before after p =
       t = compiled m;
       bounds = two_sided_bounds m (compiled m) within (compiled_is_sound m within);
       tight = compiled_is_tight m within;
-      accepted = compiled_is_accepted m (sha256 (decimal number)) within;
+      accepted = compiled_is_accepted m Layered (sha256 (decimal number)) within;
       advices = drilled.advices;
       tabled = drilled.tabled;
       counts = p.report.counts;

@@ -2,8 +2,9 @@
 use Rattle.std.specs.Prelude.{ℕ, List, ◌++◌, codes}
 use Rattle.std.specs.Fmt.{decimal}
 use Rattle.acas_spec.specs.Model.{GridData, entries, states}
-use Rattle.acas_table.specs.Shape.{shape_of}
-use Rattle.acas_table.specs.Text.{length_1}
+use Rattle.acas_table_text.specs.Shape.{shape_of}
+use Rattle.acas_table_text.specs.Format.{length_of}
+use Rattle.acas_table_text.specs.declared.format.Format.TheVariants.{Layered}
 use Rattle.acas_report_lines.specs.Text.{counts_text}
 use Rattle.acas_report_lines.specs.declared.counts.Counts.{Counts}
 use Rattle.acas_drill_model.specs.DrilledModel.{drilled_grid}
@@ -12,7 +13,7 @@ use Rattle.acas_drill_model.specs.DrilledModel.{drilled_grid}
 unfoldable pub drill_line : ℕ → GridData → List ℕ
 drill_line number g =
     codes "drill " ++ decimal number ++ codes " states " ++ decimal (states g) ++ codes " entries " ++ decimal (entries g)
-    ++ codes " bytes " ++ decimal (length_1 (shape_of g)) ++ codes "\n"
+    ++ codes " bytes " ++ decimal (length_of Layered (shape_of g)) ++ codes "\n"
 
 -- the three lines over a grid: that one, that the table is accepted, and the counts of its audit
 abbrev pub drill_lines : ℕ → GridData → Counts → List ℕ

@@ -10,7 +10,8 @@ use Rattle.acas_outside.specs.Bytes.{Appends}
 use Rattle.acas_outside.specs.Files.{Files}
 use Rattle.acas_outside.specs.Outside.{Outside}
 use Rattle.acas_process.specs.Bounds.{HasTwoSidedBounds, IsTight}
-use Rattle.acas_table.specs.Layers.{table_text}
+use Rattle.acas_table_text.specs.Layers.{table_text}
+use Rattle.acas_table_text.specs.declared.format.Format.TheVariants.{Layered}
 use Rattle.acas_accept.specs.Accepted.{IsAcceptedTable}
 use Rattle.acas_cells.specs.Corners.{advisory_cells}
 use Rattle.acas_report_lines.specs.Report.{IsReportOn, clear_cells, report_text}
@@ -31,15 +32,15 @@ pub record AreVerdictCounts (m : ModelData) (advices : AdvicesData) (counts : Co
   pub text : List ℕ
   pub report : IsReportOn (IsVerdictOnCell m) (advisory_cells m advices) (clear_cells m advices) (report_text m advices All) counts text
 
--- The model of the number is within its limits. It has a table with two-sided and tight bounds, whose text, behind the digest of the
--- number's digits, is accepted; and what was printed are the lines with the counts of a report of that table's advices. The cause says
--- whether a cell is reported.
+-- The model of the number is within its limits. It has a table with two-sided and tight bounds, whose text in version 2, behind the
+-- digest of the number's digits, is accepted; and what was printed are the lines with the counts of a report of that table's advices.
+-- The cause says whether a cell is reported.
 pub record PrintsDrill (number : ℕ) (files : Files) (cause : Cause) (before after : Outside) : Type 0 where
   pub within : IsModel (drilled_model number)
   pub t : Table
   pub bounds : HasTwoSidedBounds (drilled_model number) t
   pub tight : IsTight (drilled_model number) t
-  pub accepted : IsAcceptedTable (drilled_model number) (sha256 (decimal number)) (table_text (sha256 (decimal number)) (drilled_model number).grid t) t
+  pub accepted : IsAcceptedTable (drilled_model number) (sha256 (decimal number)) (table_text Layered (sha256 (decimal number)) (drilled_model number).grid t) t
   pub advices : AdvicesData
   pub tabled : AreTabled (drilled_model number) t advices
   pub counts : Counts

@@ -18,9 +18,10 @@ use itoa::Buffer;
 use sha2::{Digest, Sha256};
 use std::alloc::{AllocError, Global};
 
-/// Compiles the model of a drill into a folder of its own, accepts the table from there, rules on each advisory cell of it, and prints
-/// three lines: how large the table is, that it is accepted, and the counts. It answers how many cells are reported. It takes
-/// all its memory before the first byte goes out, and fails only for want of it or where the output fails.
+/// Compiles the model of a drill into a folder of its own, accepts the table from there, rules on each advisory cell of
+/// it, and prints three lines: how large the table is, that it is accepted, and the counts. It answers how many cells
+/// are reported. It takes all its memory before the first byte goes out, and fails only for want of it or where the
+/// output fails.
 pub fn drill<O: Sink>(alloc: Global, number: u32, out: &mut O) -> Result<u64, Cause>
     requires { number ≤ GREATEST_DRILL_NUMBER }
     // Whatever is told of a folder beside the output, it stays so.

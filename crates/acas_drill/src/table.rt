@@ -4,8 +4,9 @@ ghost use Rattle.std.specs.FinMap.{get};
 ghost use Rattle.acas_base.specs.Advices.{AreAdvicesOf};
 ghost use Rattle.acas_outside.specs.MemoryFolder.{folder_state};
 ghost use Rattle.acas_process.specs.Compiled.{compiled};
-ghost use Rattle.acas_table.specs.Shape.{shape_of};
-ghost use Rattle.acas_table.specs.Text.{length_1};
+ghost use Rattle.acas_table_text.specs.Shape.{shape_of};
+ghost use Rattle.acas_table_text.specs.Format.{length_of};
+ghost use Rattle.acas_table_text.specs.declared.format.Format.TheVariants.{Layered};
 ghost use Rattle.acas_table_rows.specs.TableFile.{compiled_text};
 ghost use Rattle.acas_table_file.specs.Worth.{AreTabled};
 
@@ -32,10 +33,11 @@ pub(crate) struct DrillTable {
     pub(crate) advices: Advices,
 }
 
-/// Compiles a model into a folder in memory, and accepts the table from there. The folder fails only where it finds no memory.
+/// Compiles a model into a folder in memory, and accepts the table from there. The folder fails only where it finds no
+/// memory.
 pub(crate) fn drill_table(alloc: Global, found: &ModelFile) -> Result<DrillTable, AllocError>
     requires { length found.now.digest ≡ 32 }
-    ensures bytes { IfOk result (λ table. table.bytes ≡ length_1 (shape_of found.now.model.grid)) }
+    ensures bytes { IfOk result (λ table. table.bytes ≡ length_of Layered (shape_of found.now.model.grid)) }
     ensures fits { IfOk result (λ table. AreAdvicesOf found.now.model table.advices) }
     ensures tabled { IfOk result (λ table.
         AreTabled found.now.model (compiled found.now.model) table.advices) }

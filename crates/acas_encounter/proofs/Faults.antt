@@ -1,26 +1,25 @@
 -- The faults that the rules of an encounter give.
-use Rattle.std.proofs.Common.{◌≡◌, ◌≢◌, ℕ, List, [], ◌∷◌, ◌++◌, length, codes, ℤ, pos, Option, Some, None, Result, Ok, Err, IfErr, refl, subst, inl, inr}
-use Rattle.std.specs.Str.{is_utf8}
-use Rattle.std.proofs.lemmas.Bool.{cases_Bool}
+use Rattle.std.proofs.Common.{◌≡◌, ◌≢◌, ℕ, List, [], ◌∷◌, ◌++◌, length, codes, ℤ, pos, Option, Some, None, Result, Ok, Err, IfErr, refl, subst}
 use Rattle.toml.specs.Data.{Members}
-use Rattle.toml.specs.Parse.{parse_document}
 use Rattle.acas_units.specs.declared.limits.TheConstants.{LEAST_CLOSING, GREATEST_CLOSING, LEAST_ALTITUDE, GREATEST_ALTITUDE, LEAST_RATE, GREATEST_RATE, LEAST_SECONDS, GREATEST_SECONDS}
 use Rattle.acas_spec.specs.Model.{ModelData}
 use Rattle.acas_spec.specs.Steps.{◌>>=◌, ◌>>◌, each}
 use Rattle.acas_doc.specs.declared.fault.DocFault.{DocFault}
+use Rattle.acas_doc.specs.Document.{document_in}
+use Rattle.acas_doc.specs.Values.{or_fault}
 use Rattle.acas_doc.specs.Keys.{list_at, text_at, whole_at}
 use Rattle.acas_doc.specs.Known.{only_known}
 use Rattle.acas_input.specs.declared.document.TheConstants.{INPUT_VERSION}
 use Rattle.acas_input.specs.declared.fault.InputFault.{InputFault}
 use Rattle.acas_input.specs.declared.fault.InputFault.TheVariants.{NotToml, Doc, UnknownName, Window, Memory}
 use Rattle.acas_input.specs.Answers.{Gives}
-use Rattle.acas_input.specs.Document.{document_of, in_doc, or_not_toml, version_of}
+use Rattle.acas_input.specs.Document.{document_of, in_doc, version_of}
 use Rattle.acas_input.specs.Named.{advisory_at, named, or_unknown}
 use Rattle.acas_encounter.specs.declared.limits.TheConstants.{LEAST_START_RANGE, GREATEST_START_RANGE}
 use Rattle.acas_encounter.specs.Encounter.{EncounterData}
 use Rattle.acas_encounter.specs.Start.{number_at, start_of}
 use Rattle.acas_encounter.specs.Accelerations.{acceleration_item, acceleration_items, accelerations_at}
-use Rattle.acas_encounter.specs.Whole.{IsOfEncounter, encounter_in, encounter_of, top_keys}
+use Rattle.acas_encounter.specs.Whole.{IsOfEncounter, encounter_in, encounter_of}
 
 -- the fault, if there is one, is one that an encounter can have
 abbrev pub AnyFaultIsOfEncounter : {A : Type 0} → Result A InputFault → Type 0
@@ -48,17 +47,13 @@ in_doc_faults (Err f) = tt
 
 -- ---- the rules
 
-or_not_toml_faults : (o : Option Members) → AnyFaultIsOfEncounter (or_not_toml o)
+or_not_toml_faults : (o : Option Members) → AnyFaultIsOfEncounter (or_fault NotToml o)
 or_not_toml_faults None = tt
 or_not_toml_faults (Some ms) = tt
 
 document_faults : (bytes : List ℕ) → AnyFaultIsOfEncounter (document_of bytes)
 unfolding document_of
-document_faults bytes =
-    elim (cases_Bool (is_utf8 bytes)) [
-      | inl text ↦ rw text (or_not_toml_faults (parse_document bytes))
-      | inr none ↦ rw none tt
-    ]
+document_faults bytes = or_not_toml_faults (document_in bytes)
 
 or_unknown_faults : (o : Option ℕ) → AnyFaultIsOfEncounter (or_unknown 0 o)
 or_unknown_faults None = refl
@@ -92,7 +87,7 @@ unfolding version_of
 version_faults doc = in_doc_faults (whole_at doc [] (codes "version") INPUT_VERSION INPUT_VERSION)
 
 in_faults : (m : ModelData) (doc : Members) → AnyFaultIsOfEncounter (encounter_in m doc)
-unfolding encounter_in top_keys
+unfolding encounter_in
 in_faults m doc =
     after_faults (in_doc (only_known [] (codes "version advisory range closing altitude own intruder own_accel intruder_accel") doc)) _ (in_doc_faults _)
     (after_faults (version_of doc) _ (version_faults doc) (

@@ -20,7 +20,7 @@ use Rattle.acas_encounter.specs.declared.start.Start.{Start}
 use Rattle.acas_encounter.specs.Encounter.{EncounterData, IsStart}
 use Rattle.acas_encounter.specs.Start.{number_at, start_of}
 use Rattle.acas_encounter.specs.Accelerations.{acceleration_item, acceleration_items, accelerations_at}
-use Rattle.acas_encounter.specs.Whole.{encounter_in, encounter_of, top_keys}
+use Rattle.acas_encounter.specs.Whole.{encounter_in, encounter_of}
 use Rattle.acas_encounter.specs.Text.{IsEncounterText, IsStartText}
 
 -- ---- the start
@@ -72,7 +72,7 @@ accelerations_pass doc key least greatest zs there some few within =
 -- ---- the whole text
 
 pub understood : (m : ModelData) (bytes : List ℕ) (e : EncounterData) → IsModel m → IsEncounterText m bytes e → encounter_of m bytes ≡ Ok e
-unfolding encounter_of encounter_in top_keys
+unfolding encounter_of encounter_in
 understood m bytes e valid is =
     rw (
       document_read bytes is.doc is.text is.toml,

@@ -28,7 +28,7 @@ use Rattle.acas_encounter.specs.declared.start.Start.{Start}
 use Rattle.acas_encounter.specs.Encounter.{EncounterData, IsStart}
 use Rattle.acas_encounter.specs.Start.{number_at, start_of, start_with}
 use Rattle.acas_encounter.specs.Accelerations.{acceleration_item, acceleration_items, accelerations_at}
-use Rattle.acas_encounter.specs.Whole.{encounter_in, encounter_of, top_keys}
+use Rattle.acas_encounter.specs.Whole.{encounter_in, encounter_of}
 use Rattle.acas_encounter.specs.Text.{IsEncounterText, IsStartText}
 
 -- ---- the start
@@ -152,7 +152,7 @@ pub record IsRead (m : ModelData) (doc : Members) (e : EncounterData) : Type 0 w
   pub intruder : AreRead doc (codes "intruder_accel") (length e.own) (length e.own) e.intruder
 
 in_ok : (m : ModelData) (doc : Members) (e : EncounterData) → encounter_in m doc ≡ Ok e → IsRead m doc e
-unfolding encounter_in top_keys
+unfolding encounter_in
 in_ok m doc e is =
     let k = step_ok (in_doc (only_known [] (codes "version advisory range closing altitude own intruder own_accel intruder_accel") doc)) _ e is in
     let v = passed_ok (version_of doc) _ e k.1 in

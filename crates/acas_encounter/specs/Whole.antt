@@ -13,14 +13,10 @@ use Rattle.acas_encounter.specs.Encounter.{EncounterData}
 use Rattle.acas_encounter.specs.Start.{start_of}
 use Rattle.acas_encounter.specs.Accelerations.{accelerations_at}
 
--- the document has no other keys
-unfoldable pub top_keys : Members → Result (Unit {0}) InputFault
-top_keys doc = in_doc (only_known [] (codes "version advisory range closing altitude own intruder own_accel intruder_accel") doc)
-
 -- the encounter of a document: its keys, its version, the start, the own accelerations, and as many of the intruder
 unfoldable pub encounter_in : ModelData → Members → Result EncounterData InputFault
 encounter_in m doc = do
-  top_keys doc
+  in_doc (only_known [] (codes "version advisory range closing altitude own intruder own_accel intruder_accel") doc)
   version_of doc
   start ← start_of m doc
   own ← accelerations_at doc (codes "own_accel") LEAST_SECONDS GREATEST_SECONDS

@@ -55,8 +55,8 @@ pub(crate) fn accelerations_at(
     least: u32,
     greatest: u32,
 ) -> Result<Vec<i64>, InputFault>
-    ensures value { Gives (λ v.
-        v.items) result (rules.accelerations_at (table_view document.now) key.now least greatest) }
+    ensures value { Gives (λ v. v.items) result
+        (rules.accelerations_at (table_view document.now) key.now least greatest) }
     ensures few { IfOk result (λ v. length v.items ≤ greatest) }
 {
     let items = list(alloc, document, b"", key, least, greatest)?;

@@ -15,26 +15,18 @@ use acas_units::{GREATEST_SECONDS, LEAST_SECONDS};
 use std::alloc::Global;
 use toml::Table;
 
-/// That the document has no unknown key.
-#[tactic(auto, unfolding(crate::specs::Whole::top_keys))]
-fn top_keys(alloc: Global, document: &Table) -> Result<(), InputFault>
-    ensures { Gives (λ u. u) result (rules.top_keys (table_view document.now)) }
-{
-    Ok(only_keys(
-        alloc,
-        document,
-        b"",
-        "version advisory range closing altitude own intruder own_accel intruder_accel",
-    )?)
-}
-
 /// The encounter of a document.
 #[tactic(auto, unfolding(crate::specs::Whole::encounter_in))]
 fn encounter_in(alloc: Global, model: &Model, document: &Table) -> Result<Encounter, InputFault>
     ensures value { Gives (λ e. e) result (rules.encounter_in model.now (table_view document.now)) }
     ensures fits { IfOk result (IsEncounterOf model.now) }
 {
-    top_keys(alloc, document)?;
+    only_keys(
+        alloc,
+        document,
+        b"",
+        "version advisory range closing altitude own intruder own_accel intruder_accel",
+    )?;
     version_of(alloc, document)?;
     let start = start_of(alloc, model, document)?;
     let own = accelerations_at(

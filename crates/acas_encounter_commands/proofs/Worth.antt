@@ -17,7 +17,7 @@ use Rattle.acas_encounter.specs.Whole.{encounter_of}
 use Rattle.acas_encounter.proofs.Pass.{understood}
 use Rattle.acas_encounter.proofs.Read.{said}
 use Rattle.acas_replay.proofs.Audits.{course_audited}
-use Rattle.acas_table.specs.declared.refusal.TableRefusal.{TableRefusal}
+use Rattle.acas_table_text.specs.declared.refusal.TableRefusal.{TableRefusal}
 use Rattle.acas_command.specs.Answers.{Agrees, Answers}
 use Rattle.acas_command.specs.Called.{MayPrint}
 use Rattle.acas_command.specs.Calls.{with_input, with_input_file}

@@ -15,7 +15,7 @@ use Rattle.acas_encounter.specs.Encounter.{EncounterData, seconds}
 use Rattle.acas_encounter.specs.Text.{IsEncounterText}
 use Rattle.acas_replay.specs.Audited.{IsAudited, IsOfCells}
 use Rattle.acas_replay.specs.Replay.{Course, IsCourse, replay_text, state_at}
-use Rattle.acas_table.specs.declared.refusal.TableRefusal.{TableRefusal}
+use Rattle.acas_table_text.specs.declared.refusal.TableRefusal.{TableRefusal}
 use Rattle.acas_command.specs.Says.{SaysModel}
 use Rattle.acas_command.specs.Worth.{IsNotRefused}
 use Rattle.acas_command.specs.declared.status.Cause.{Cause}

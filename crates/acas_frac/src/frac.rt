@@ -1,5 +1,5 @@
 //! Exact fractions in lowest terms.
-ghost use Rattle.std.specs.Prelude.{◌≡◌, ℕ, ◌*◌, ◌^◌, ◌<◌, ◌≤◌, ◌≢◌, ℤ, pos, ◌*ℤ◌, ◌<ℤ◌, unsigned_abs};
+ghost use Rattle.std.specs.Prelude.{◌≡◌, ℕ, ◌*◌, ◌^◌, ◌<◌, ◌≤◌, ◌≢◌, ℤ, pos, ◌*ℤ◌, ◌<ℤ◌, int_le, unsigned_abs};
 ghost use Rattle.acas_frac.specs.Fraction.{Fraction, IsFrac, ReducesWithinBounds, Same, StaysWithinBounds, difference_of, multiple_of, order_of, product_of, signed, sum_of, whole_of};
 
 use crate::products::{gcd, minus, plus, times, with_sign};
@@ -111,6 +111,18 @@ impl Frac {
         let (a, b) = self.parts();
         let (c, d) = other.parts();
         times(a, d).cmp(&times(c, b))
+    }
+
+    /// Whether the value is at most the other.
+    pub fn is_at_most(&self, other: &Frac) -> bool
+        ensures { result ≡ int_le (Fraction.num self.now *ℤ pos (Fraction.den other.now))
+            (Fraction.num other.now *ℤ pos (Fraction.den self.now)) }
+    {
+        match self.compare(other) {
+            Ordering::Less => true,
+            Ordering::Equal => true,
+            Ordering::Greater => false,
+        }
     }
 
     /// The exact sum, which is within the bounds.

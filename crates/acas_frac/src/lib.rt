@@ -1,4 +1,5 @@
-//! Exact fractions, and quotients rounded to whole numbers.
+//! Exact fractions, quotients rounded to whole numbers, and exact quotients by a divisor that is known beforehand. The proofs have
+//! the algebra of whole numbers that the crates above cite.
 #![tactic(auto)]
 
 mod divisor;
@@ -12,4 +13,5 @@ pub use divisor::Divisor;
 pub use frac::Frac;
 pub use laws::{lowest_terms_are_one, quotients_are_rounded};
 pub use print::print_frac;
+pub use products::gcd;
 pub use rounding::{Down, Rounding, Up};

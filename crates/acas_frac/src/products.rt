@@ -4,7 +4,7 @@ ghost use Rattle.std.specs.Int.{IsGcd};
 ghost use Rattle.acas_frac.specs.Fraction.{signed};
 
 /// The greatest common divisor, by Euclid's algorithm.
-pub(crate) fn gcd(a: u128, b: u128) -> u128
+pub fn gcd(a: u128, b: u128) -> u128
     ensures { IsGcd a b result }
 {
     let mut x = a;

@@ -1,10 +1,10 @@
 -- The document of a text, and its version.
-use Rattle.std.specs.Prelude.{ℕ, List, [], codes, ℤ, if◌then◌else◌, Option, Some, None, Result, Ok, Err}
-use Rattle.std.specs.Str.{is_utf8}
+use Rattle.std.specs.Prelude.{ℕ, List, [], codes, ℤ, Result}
 use Rattle.toml.specs.Data.{Members}
-use Rattle.toml.specs.Parse.{parse_document}
 use Rattle.acas_spec.specs.Steps.{fault_as}
 use Rattle.acas_doc.specs.declared.fault.DocFault.{DocFault}
+use Rattle.acas_doc.specs.Document.{document_in}
+use Rattle.acas_doc.specs.Values.{or_fault}
 use Rattle.acas_doc.specs.Keys.{whole_at}
 use Rattle.acas_input.specs.declared.document.TheConstants.{INPUT_VERSION}
 use Rattle.acas_input.specs.declared.fault.InputFault.{InputFault}
@@ -14,14 +14,9 @@ use Rattle.acas_input.specs.declared.fault.InputFault.TheVariants.{NotToml, Doc}
 abbrev pub in_doc : {A : Type 0} → Result A DocFault → Result A InputFault
 in_doc r = fault_as Doc r
 
--- the document, unless the text is none
-abbrev pub or_not_toml : Option Members → Result Members InputFault
-or_not_toml None = Err NotToml
-or_not_toml (Some ms) = Ok ms
-
 -- the bytes are a text in UTF-8, and the text is a TOML document
 unfoldable pub document_of : List ℕ → Result Members InputFault
-document_of bytes = if is_utf8 bytes then or_not_toml (parse_document bytes) else Err NotToml
+document_of bytes = or_fault NotToml (document_in bytes)
 
 -- the version, of which there is one
 unfoldable pub version_of : Members → Result ℤ InputFault

@@ -4,7 +4,7 @@ ghost use Rattle.acas_input.specs.Answers.{Gives};
 ghost use Rattle.acas_input.specs.Document as rules;
 
 use crate::fault::InputFault;
-use acas_doc::whole;
+use acas_doc::{document_in, whole};
 use std::alloc::Global;
 use toml::Table;
 
@@ -16,19 +16,9 @@ pub const INPUT_VERSION: i64 = 1;
 pub fn document_of(alloc: Global, bytes: &[u8]) -> Result<Table, InputFault>
     ensures { Gives table_view result (rules.document_of bytes.now) }
 {
-    let text = match std::str::from_utf8(bytes) {
-        Ok(text) => text,
-        Err(_) => return Err(InputFault::NotToml),
-    };
-    match toml::table_from_str(alloc, text) {
-        Ok(document) => Ok(document),
-        Err(error) => {
-            if error.is_memory() {
-                Err(InputFault::Memory)
-            } else {
-                Err(InputFault::NotToml)
-            }
-        }
+    match document_in(alloc, bytes)? {
+        Some(document) => Ok(document),
+        None => Err(InputFault::NotToml),
     }
 }
 

@@ -33,8 +33,8 @@ pub fn advisory_at(
     path: &[u8],
     place: u32,
 ) -> Result<u8, InputFault>
-    ensures value { Gives (λ a.
-        a) result (rules.advisory_at model.now (table_view table.now) path.now place) }
+    ensures value { Gives (λ a. a) result
+        (rules.advisory_at model.now (table_view table.now) path.now place) }
     ensures range { IfOk result (λ a. a < model.now.grid.advisories) }
 {
     let name = text(alloc, table, path, "advisory")?;

@@ -21,7 +21,7 @@ use Rattle.acas_base.specs.declared.numbers.Pilot.{Pilot}
 use Rattle.acas_base.specs.declared.numbers.Numbers.{Numbers}
 use Rattle.acas_model.specs.declared.numbers.TheConstants.{DELAY_VERSION}
 use Rattle.acas_model.specs.Document.{in_doc, number_at, closed_table}
-use Rattle.acas_model.specs.Axes.{least_on, greatest_on, in_model, axis_item, axis_items, axis_at, grid_table, altitudes, own_rates, intruder_rates, axes_of}
+use Rattle.acas_model.specs.Axes.{least_on, greatest_on, in_model, axis_item, axis_items, axis_at, grid_table, axes_of}
 use Rattle.acas_model.specs.Numbers.{puck_table, half_height, puck_of, closing_of, pilot_keys, delay_of, pilot_of, contact_of, numbers_of}
 use Rattle.acas_model.specs.Text.{HasOnly, HoldsWhole, HoldsAxis, IsPilotText, IsDocumentText}
 use Rattle.acas_model.proofs.Places.{each_from}
@@ -105,7 +105,7 @@ abbrev pub axes_in : ModelData → Axes
 axes_in m = record { h = m.grid.h; v0 = m.grid.v0; v1 = m.grid.v1 }
 
 pub axes_pass : (doc : Members) (m : ModelData) → IsDocumentText m doc → IsModel m → axes_of doc ≡ Ok (axes_in m)
-unfolding axes_of grid_table altitudes own_rates intruder_rates
+unfolding axes_of grid_table
 axes_pass doc m says valid =
     let t = says.grid.inner in
     rw (

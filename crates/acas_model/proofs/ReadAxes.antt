@@ -15,7 +15,7 @@ use Rattle.acas_model.specs.declared.fault.AxisName.TheVariants.{Altitude, OwnRa
 use Rattle.acas_model.specs.declared.fault.ModelFault.{ModelFault}
 use Rattle.acas_model.specs.declared.fault.ModelFault.TheVariants.{Axis}
 use Rattle.acas_model.specs.Document.{in_doc}
-use Rattle.acas_model.specs.Axes.{least_on, greatest_on, in_model, axis_item, axis_items, axis_at, grid_table, altitudes, own_rates, intruder_rates, axes_of}
+use Rattle.acas_model.specs.Axes.{least_on, greatest_on, in_model, axis_item, axis_items, axis_at, grid_table, axes_of}
 use Rattle.acas_model.specs.Text.{HoldsAxis}
 use Rattle.acas_model.proofs.Places.{each_places}
 use Rattle.acas_model.proofs.ReadNumbers.{IsTable, table_ok}
@@ -91,12 +91,12 @@ pub record IsReadAxes (doc : Members) (a : Axes) : Type 0 where
   pub v1 : IsReadAxis inner (codes "intruder_rate") IntruderRate a.v1
 
 pub axes_ok : (doc : Members) (a : Axes) → axes_of doc ≡ Ok a → IsReadAxes doc a
-unfolding axes_of grid_table altitudes own_rates intruder_rates
+unfolding axes_of grid_table
 axes_ok doc a e =
     let g = bind_ok (grid_table doc) _ a e in
-    let h = bind_ok (altitudes g.0) _ a g.2 in
-    let v0 = bind_ok (own_rates g.0) _ a h.2 in
-    let v1 = bind_ok (intruder_rates g.0) _ a v0.2 in
+    let h = bind_ok (axis_at g.0 (codes "altitude") Altitude) _ a g.2 in
+    let v0 = bind_ok (axis_at g.0 (codes "own_rate") OwnRate) _ a h.2 in
+    let v1 = bind_ok (axis_at g.0 (codes "intruder_rate") IntruderRate) _ a v0.2 in
     let made : Axes = record { h = h.0; v0 = v0.0; v1 = v1.0 } in
     let same : made ≡ a = same_ok {E = ModelFault} _ _ v1.2 in
     subst (IsReadAxes doc) same (record {

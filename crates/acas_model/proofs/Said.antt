@@ -1,12 +1,8 @@
 -- A text that is read says its model.
-use Rattle.std.proofs.Common.{◌≡◌, ℕ, ◌<◌, false, List, [], length, map, get_or, codes, pos, IsUtf8, Option, Some, None, Result, Ok, Err, sym, subst, ap, ◌∙◌, inl, inr, arith}
-use Rattle.std.specs.Str.{is_utf8}
-use Rattle.std.proofs.lemmas.Bool.{cases_Bool}
+use Rattle.std.proofs.Common.{◌≡◌, ℕ, ◌<◌, false, List, [], length, map, get_or, codes, pos, Ok, sym, subst, ap, ◌∙◌, arith}
 use Rattle.std.proofs.lemmas.List.{get_or-map, length-map}
-use Rattle.std.proofs.lemmas.Str.{IsUtf8-from_is_utf8}
 use Rattle.toml.specs.Data.{Data, Members, no_members, table, boolean}
 use Rattle.toml.specs.Data as datum
-use Rattle.toml.specs.Parse.{parse_document}
 use Rattle.acas_units.specs.declared.limits.TheConstants.{LEAST_MODEL_VERSION, GREATEST_MODEL_VERSION}
 use Rattle.acas_spec.specs.Model.{ModelData}
 use Rattle.acas_spec.specs.declared.parts.SigmaPoint.{SigmaPoint}
@@ -14,8 +10,7 @@ use Rattle.acas_spec.proofs.Each.{bind_ok, same_ok}
 use Rattle.acas_model.specs.declared.axes.Axes.{Axes}
 use Rattle.acas_base.specs.declared.numbers.Numbers.{Numbers}
 use Rattle.acas_model.specs.declared.fault.ModelFault.{ModelFault}
-use Rattle.acas_model.specs.declared.fault.ModelFault.TheVariants.{NotToml}
-use Rattle.acas_model.specs.Document.{or_not_toml, document_of}
+use Rattle.acas_model.specs.Document.{document_of}
 use Rattle.acas_model.specs.Axes.{axes_of}
 use Rattle.acas_model.specs.Numbers.{pilot_keys, numbers_of}
 use Rattle.acas_model.specs.Choices.{Advised, advised_of}
@@ -23,33 +18,13 @@ use Rattle.acas_model.specs.Noise.{sigmas_of, weights}
 use Rattle.acas_base.specs.View.{model_with}
 use Rattle.acas_model.specs.Whole.{top_keys, version_of, horizon_of, window, few_entries, grid_from, model_in, model_of}
 use Rattle.acas_model.specs.Text.{HasOnly, HoldsWhole, HoldsList, HoldsTable, HoldsTables, IsGridText, IsPuckText, IsClosingText, IsPilotText, IsCostText, IsAdvisoryText, IsSigmaText, IsDocumentText, IsModelText}
+use Rattle.acas_model.proofs.Bytes.{document_ok}
 use Rattle.acas_model.proofs.Places.{same_lists}
 use Rattle.acas_model.proofs.ReadNumbers.{step_ok, only_ok, IsNumber, number_ok, IsTable, IsReadNumbers, numbers_ok}
 use Rattle.acas_model.proofs.ReadAxes.{IsReadAxes, axes_ok}
 use Rattle.acas_model.proofs.ReadChoices.{IsReadChoices}
 use Rattle.acas_model.proofs.ReadNoise.{AreReadSigmas, sigmas_ok, weights_ok}
 use Rattle.acas_model.proofs.WithinLimits.{IsReadAdvised, advised_ok, horizon_ok, window_ok, entries_ok, within_limits}
-
--- ---- the document
-
-pub record IsDocument (bytes : List ℕ) (doc : Members) : Type 0 where
-  pub text : IsUtf8 bytes
-  pub toml : parse_document bytes ≡ Some doc
-
-or_not_toml_ok : (o : Option Members) (doc : Members) → or_not_toml o ≡ Ok doc → o ≡ Some doc
-or_not_toml_ok None doc e = absurd cc
-or_not_toml_ok (Some ms) doc e = ap Some (same_ok {E = ModelFault} ms doc e)
-
-refused : (f : ModelFault) (doc : Members) → ◌≡◌ {A = Result Members ModelFault} (Err f) (Ok doc) → ⊥
-refused f doc e = cc
-
-document_ok : (bytes : List ℕ) (doc : Members) → document_of bytes ≡ Ok doc → IsDocument bytes doc
-unfolding document_of
-document_ok bytes doc e =
-    elim (cases_Bool (is_utf8 bytes)) [
-      | inl is ↦ record { text = IsUtf8-from_is_utf8 bytes is; toml = or_not_toml_ok (parse_document bytes) doc (rw is at e) }
-      | inr none ↦ absurd (refused NotToml doc (rw none at e))
-    ]
 
 -- ---- lists of tables
 

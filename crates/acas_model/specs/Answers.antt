@@ -1,5 +1,6 @@
 -- What a reader of a model answers.
-use Rattle.std.specs.Prelude.{◌≡◌, ◌≢◌, Result, Ok, Err}
+use Rattle.std.specs.Prelude.{Result}
+use Rattle.acas_doc.specs.Answers.{GivesUnless}
 use Rattle.acas_doc.specs.declared.fault.DocError.{DocError}
 use Rattle.acas_doc.specs.declared.fault.DocError.TheVariants as errors
 use Rattle.acas_model.specs.declared.fault.ModelFault.{ModelFault}
@@ -12,5 +13,4 @@ model_fault errors.Memory = Memory
 
 -- the reader answered what the rules give, seen by view, unless memory ran out
 abbrev pub Gives : {X Y : Type 0} → (X → Y) → Result X ModelFault → Result Y ModelFault → Type 0
-Gives view (Ok x) rules = rules ≡ Ok (view x)
-Gives view (Err fault) rules = fault ≢ Memory → rules ≡ Err fault
+Gives view result rules = GivesUnless Memory view result rules

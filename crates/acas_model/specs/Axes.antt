@@ -52,22 +52,11 @@ axis_at grid key name = do
 unfoldable pub grid_table : Members → Result Members ModelFault
 grid_table doc = closed_table doc (codes "grid") (codes "altitude own_rate intruder_rate")
 
--- the altitudes, in ticks
-unfoldable pub altitudes : Members → Result (List ℤ) ModelFault
-altitudes grid = axis_at grid (codes "altitude") Altitude
-
--- the rates, in ft/min
-unfoldable pub own_rates : Members → Result (List ℤ) ModelFault
-own_rates grid = axis_at grid (codes "own_rate") OwnRate
-
-unfoldable pub intruder_rates : Members → Result (List ℤ) ModelFault
-intruder_rates grid = axis_at grid (codes "intruder_rate") IntruderRate
-
 -- `grid`, then each axis in turn
 unfoldable pub axes_of : Members → Result Axes ModelFault
 axes_of doc = do
   grid ← grid_table doc
-  h ← altitudes grid
-  v0 ← own_rates grid
-  v1 ← intruder_rates grid
+  h ← axis_at grid (codes "altitude") Altitude
+  v0 ← axis_at grid (codes "own_rate") OwnRate
+  v1 ← axis_at grid (codes "intruder_rate") IntruderRate
   Ok (record { h = h; v0 = v0; v1 = v1 })

@@ -1,10 +1,10 @@
 -- The document of a text, and the whole numbers at its keys.
-use Rattle.std.specs.Prelude.{ℕ, List, [], pos, unsigned_abs, if◌then◌else◌, Option, Some, None, Result, Ok, Err}
-use Rattle.std.specs.Str.{is_utf8}
+use Rattle.std.specs.Prelude.{ℕ, List, [], pos, unsigned_abs, Result, Ok}
 use Rattle.toml.specs.Data.{Members}
-use Rattle.toml.specs.Parse.{parse_document}
 use Rattle.acas_spec.specs.Steps.{◌>>=◌, ◌>>◌, fault_as}
 use Rattle.acas_doc.specs.declared.fault.DocFault.{DocFault}
+use Rattle.acas_doc.specs.Document.{document_in}
+use Rattle.acas_doc.specs.Values.{or_fault}
 use Rattle.acas_doc.specs.Keys.{table_at, whole_at}
 use Rattle.acas_doc.specs.Known.{only_known}
 use Rattle.acas_model.specs.declared.fault.ModelFault.{ModelFault}
@@ -14,14 +14,9 @@ use Rattle.acas_model.specs.declared.fault.ModelFault.TheVariants.{NotToml, Doc}
 abbrev pub in_doc : {A : Type 0} → Result A DocFault → Result A ModelFault
 in_doc r = fault_as Doc r
 
--- the document, unless the text is none
-abbrev pub or_not_toml : Option Members → Result Members ModelFault
-or_not_toml None = Err NotToml
-or_not_toml (Some ms) = Ok ms
-
 -- the bytes are a text in UTF-8, and the text is a TOML document
 unfoldable pub document_of : List ℕ → Result Members ModelFault
-document_of bytes = if is_utf8 bytes then or_not_toml (parse_document bytes) else Err NotToml
+document_of bytes = or_fault NotToml (document_in bytes)
 
 -- a whole number at a key that may not be below 0
 unfoldable pub number_at : Members → List ℕ → List ℕ → ℕ → ℕ → Result ℕ ModelFault

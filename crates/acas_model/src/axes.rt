@@ -103,42 +103,6 @@ fn grid_table<'t>(alloc: Global, document: &'t Table) -> Result<&'t Table, Model
     closed_table(alloc, document, "grid", "altitude own_rate intruder_rate")
 }
 
-/// The altitudes, in ticks.
-#[tactic(auto, unfolding(crate::specs::Axes::altitudes))]
-fn altitudes(alloc: Global, grid: &Table) -> Result<Axis, ModelFault>
-    ensures { Gives (λ a. a) result (rules.altitudes (table_view grid.now)) }
-{
-    axis_at(
-        alloc,
-        grid,
-        "altitude",
-        b"grid.altitude",
-        AxisName::Altitude,
-    )
-}
-
-/// The own rates, in ft/min.
-#[tactic(auto, unfolding(crate::specs::Axes::own_rates))]
-fn own_rates(alloc: Global, grid: &Table) -> Result<Axis, ModelFault>
-    ensures { Gives (λ a. a) result (rules.own_rates (table_view grid.now)) }
-{
-    axis_at(alloc, grid, "own_rate", b"grid.own_rate", AxisName::OwnRate)
-}
-
-/// The intruder rates, in ft/min.
-#[tactic(auto, unfolding(crate::specs::Axes::intruder_rates))]
-fn intruder_rates(alloc: Global, grid: &Table) -> Result<Axis, ModelFault>
-    ensures { Gives (λ a. a) result (rules.intruder_rates (table_view grid.now)) }
-{
-    axis_at(
-        alloc,
-        grid,
-        "intruder_rate",
-        b"grid.intruder_rate",
-        AxisName::IntruderRate,
-    )
-}
-
 /// The three axes.
 #[derive(Drop)]
 pub(crate) struct Axes {
@@ -147,14 +111,26 @@ pub(crate) struct Axes {
     pub v1: Axis,
 }
 
-/// What the table `grid` says.
+/// What the table `grid` says: the altitudes in ticks, the rates in ft/min.
 #[tactic(auto, unfolding(crate::specs::Axes::axes_of))]
 pub(crate) fn axes_of(alloc: Global, document: &Table) -> Result<Axes, ModelFault>
     ensures { Gives (λ a. a) result (rules.axes_of (table_view document.now)) }
 {
     let grid = grid_table(alloc, document)?;
-    let h = altitudes(alloc, grid)?;
-    let v0 = own_rates(alloc, grid)?;
-    let v1 = intruder_rates(alloc, grid)?;
+    let h = axis_at(
+        alloc,
+        grid,
+        "altitude",
+        b"grid.altitude",
+        AxisName::Altitude,
+    )?;
+    let v0 = axis_at(alloc, grid, "own_rate", b"grid.own_rate", AxisName::OwnRate)?;
+    let v1 = axis_at(
+        alloc,
+        grid,
+        "intruder_rate",
+        b"grid.intruder_rate",
+        AxisName::IntruderRate,
+    )?;
     Ok(Axes { h, v0, v1 })
 }

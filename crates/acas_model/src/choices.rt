@@ -95,8 +95,8 @@ fn choice_items(
 ) -> Result<Vec<u8>, ModelFault>
     requires few { length advisories.now ≤ GREATEST_ADVISORIES }
     requires short { length items.now < 2 ^ 32 }
-    ensures value { Gives (λ v.
-        v.items) result (rules.choice_items advisories.now path.now advisory (data_of items.now)) }
+    ensures value { Gives (λ v. v.items) result
+        (rules.choice_items advisories.now path.now advisory (data_of items.now)) }
     ensures count { IfOk result (λ v. length v.items ≡ length items.now) }
 {
     let mut chosen = Vec::new(alloc);

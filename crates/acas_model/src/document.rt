@@ -7,7 +7,7 @@ ghost use Rattle.acas_model.specs.View.{seen_table};
 ghost use Rattle.acas_model.specs.Document as rules;
 
 use crate::fault::ModelFault;
-use acas_doc::{only_keys, table, whole};
+use acas_doc::{document_in, only_keys, table, whole};
 use std::alloc::Global;
 use toml::Table;
 
@@ -16,19 +16,9 @@ use toml::Table;
 pub(crate) fn document_of(alloc: Global, bytes: &[u8]) -> Result<Table, ModelFault>
     ensures { Gives table_view result (rules.document_of bytes.now) }
 {
-    let text = match std::str::from_utf8(bytes) {
-        Ok(text) => text,
-        Err(_) => return Err(ModelFault::NotToml),
-    };
-    match toml::table_from_str(alloc, text) {
-        Ok(document) => Ok(document),
-        Err(error) => {
-            if error.is_memory() {
-                Err(ModelFault::Memory)
-            } else {
-                Err(ModelFault::NotToml)
-            }
-        }
+    match document_in(alloc, bytes)? {
+        Some(document) => Ok(document),
+        None => Err(ModelFault::NotToml),
     }
 }
 

@@ -1,6 +1,5 @@
 //! The passes of the search of a contact: flights at numbered points from the low flight of an area to its high flight, and the
-//! halving that finds one in contact between them. Which flight is found is a definition; the functions of `laws` do nothing, and
-//! their clauses are what holds of it.
+//! halving that finds one in contact between them. Which flight is found is a definition; what holds of it is in `acas_pass_laws`.
 #![tactic(auto)]
 
 mod halving;

@@ -7,7 +7,6 @@ ghost use Rattle.acas_region_curves.specs.View.{border_in, times_of};
 
 use crate::chase::{gap_number, moment_of, scale};
 use crate::nearest::nearest;
-use crate::numbers::is_at_most;
 use crate::window::time_of;
 use acas_frac::Frac;
 use acas_region_curves::{Chase, Extreme, Window};
@@ -46,7 +45,7 @@ fn at_ends(chase: &Chase, window: &Window) -> Extreme
 {
     let first = gap(chase, &window.from);
     let last = gap(chase, &window.to);
-    if is_at_most(&first, &last) {
+    if first.is_at_most(&last) {
         Extreme {
             time: window.from,
             value: first,

@@ -1,5 +1,5 @@
 //! The curve of an approach, as an exact fraction.
-ghost use Rattle.std.specs.Prelude.{◌≡◌, ◌+◌, ◌-◌, ◌*◌, ◌^◌, ◌≤◌, pos, ◌-ℤ◌, ◌*ℤ◌, unsigned_abs, min};
+ghost use Rattle.std.specs.Prelude.{◌≡◌, ◌+◌, ◌-◌, ◌*◌, ◌^◌, ◌<◌, ◌≤◌, pos, ◌-ℤ◌, ◌*ℤ◌, unsigned_abs, min};
 ghost use Rattle.acas_frac.specs.Fraction.{Fraction};
 ghost use Rattle.acas_flight.specs.Curves.{held};
 ghost use Rattle.acas_flight.specs.Values.{IsApproach, IsHeld, all_lost, less_or_more};
@@ -18,17 +18,19 @@ pub fn rate_parts(rate: &Frac) -> (i64, u64)
     ensures den { Fraction.den rate.now ≡ result.1 }
     ensures num_size { unsigned_abs result.0 ≤ unsigned_abs GREATEST_RATE * RATE_PARTS }
     ensures den_size { result.1 ≤ RATE_PARTS }
+    ensures some { 0 < result.1 }
 {
     (rate.num() as i64, rate.den() as u64)
 }
 
-// A pull's parts.
-fn pull_parts(pull: &Frac) -> (u64, u64)
+/// A pull's parts.
+pub fn pull_parts(pull: &Frac) -> (u64, u64)
     requires { IsPull pull.now }
     ensures num { Fraction.num pull.now ≡ pos result.0 }
     ensures den { Fraction.den pull.now ≡ result.1 }
     ensures num_size { result.0 ≤ GREATEST_LIMIT * PULL_PARTS }
     ensures den_size { result.1 ≤ PULL_PARTS }
+    ensures some { 0 < result.0 }
 {
     (pull.num() as u64, pull.den() as u64)
 }
@@ -44,13 +46,14 @@ fn hold_parts(hold: &Frac) -> (u64, u64)
     (hold.num() as u64, hold.den() as u64)
 }
 
-// A time's parts.
-fn time_parts(time: &Frac) -> (u64, u64)
+/// A time's parts.
+pub fn time_parts(time: &Frac) -> (u64, u64)
     requires { IsTime time.now }
     ensures num { Fraction.num time.now ≡ pos result.0 }
     ensures den { Fraction.den time.now ≡ result.1 }
     ensures num_size { result.0 ≤ WINDOW_SECONDS * TIME_PARTS }
     ensures den_size { result.1 ≤ TIME_PARTS }
+    ensures some { 0 < result.1 }
 {
     (time.num() as u64, time.den() as u64)
 }

@@ -63,18 +63,7 @@ fn begin_line(line: &mut Line, model: &Model, second: u32, advice: u8)
     line.clear();
     line_number(line, i64::from(second));
     line.push(b" ");
-    line.push(name_of(model, advice));
-}
-
-// The name of an advisory.
-fn name_of(model: &Model, advisory: u8) -> &[u8]
-    requires { advisory < model.now.grid.advisories }
-    ensures value { result.now ≡ (advisory_at model.now advisory).name }
-    ensures short { length result.now ≤ GREATEST_NAME_BYTES }
-{
-    // Its names are not too long, as all of a model's are.
-    let _ = model.grid();
-    model.advisory(advisory).name.bytes()
+    line.push(model.name(advice));
 }
 
 // Appends a number.

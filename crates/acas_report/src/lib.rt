@@ -1,4 +1,4 @@
-//! The report of an audit and of a box file, line by line to a sink.
+//! Where rulings come from, verdicts one by one or blocks of cells that are decided first, and the reports over them.
 #![tactic(auto)]
 
 mod reports;

@@ -42,8 +42,8 @@ pub fn printed_rulings_hold()
         (ruled : List (Ruled CellName)) →
         IsModel m → IsReport m a lines counts text → names_of ruled ≡ advisory_cells m a → report_text m a lines ruled ≡ text →
         All (HoldsOfCell m) ruled }
-    ensures boxes { (m : ModelData) (boxes : List AuditedBox) (counts : Counts) (text : List ℕ) (ruled : List
-        (Ruled ℕ)) →
+    ensures boxes { (m : ModelData) (boxes : List AuditedBox) (counts : Counts) (text : List ℕ)
+        (ruled : List (Ruled ℕ)) →
         IsRegionsReport m boxes counts text → names_of ruled ≡ places boxes → regions_text ruled ≡ text →
         All (HoldsOfBox m boxes) ruled }
 {}

@@ -79,6 +79,10 @@ box_line number ruling = box_text number ++ ruling_text ruling
 
 -- ---- counts
 
+-- how many are certified and how many reported, with which a last line begins
+abbrev pub totals_text : Counts → List ℕ
+totals_text counts = codes "certified" ++ field (decimal counts.certified) ++ codes " reported" ++ field (decimal counts.reported)
+
 -- the last line of an audit
 unfoldable pub counts_text : Counts → List ℕ
 counts_text counts =

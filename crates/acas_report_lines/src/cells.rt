@@ -58,8 +58,8 @@ fn write_layer<R: Rulings, S: Sink>(
 ) -> Result<(), Failed>
     requires advices { AreAdvicesOf audit.now.model.now audit.now.advices.now }
     requires fits { R.fits rulings.old audit.now.model.now }
-    requires decisions { count.old + audit.now.model.now.grid.advisories * most_decisions
-        audit.now.model.now < 2 ^ 64 }
+    requires decisions { count.old
+        + audit.now.model.now.grid.advisories * most_decisions audit.now.model.now < 2 ^ 64 }
     requires n { n < audit.now.model.now.grid.horizon }
     requires room { Room (plan_of audit.now) pen.old.counts (layer_cells audit.now.model.now n) }
     ensures ok { OnOk result (Wrote (plan_of audit.now)

@@ -1,7 +1,6 @@
 //! The lines of a report.
 ghost use Rattle.std.specs.Prelude.{◌≡◌, ◌+◌, ◌<◌, ◌≤◌, ◌++◌, length};
-ghost use Rattle.acas_spec.specs.Model.{advisory_at};
-ghost use Rattle.acas_report_lines.specs.Text.{box_counts_text, box_line, cell_line, cell_text, counts_text, ruling_text};
+ghost use Rattle.acas_report_lines.specs.Text.{box_counts_text, box_line, cell_line, cell_text, counts_text, ruling_text, totals_text};
 
 use crate::counts::Counts;
 use crate::fields::{line_count, line_name};
@@ -16,6 +15,9 @@ const HEAD_BYTES: usize = 88 + 2 * (GREATEST_NAME_BYTES + 1);
 
 /// The greatest number of bytes of the counts of an audit: three words, three numbers and the end of the line.
 pub const COUNTS_BYTES: usize = 88;
+
+/// The greatest number of bytes with which the counts begin: two words and two numbers.
+const TOTALS_BYTES: usize = 60;
 
 /// The greatest number of bytes of a ruling: a word, a witness and the end of the line.
 const RULING_BYTES: usize = WITNESS_BYTES + 10;
@@ -59,10 +61,7 @@ pub fn line_counts(line: &mut Line, counts: &Counts)
     ensures value { line.new ≡ line.old ++ counts_text counts.now }
     ensures room { length line.new ≤ length line.old + COUNTS_BYTES }
 {
-    line.push(b"certified");
-    line_count(line, counts.certified);
-    line.push(b" reported");
-    line_count(line, counts.reported);
+    line_totals(line, counts);
     line.push(b" clear");
     line_count(line, counts.clear);
     line.push(b"\n");
@@ -75,11 +74,20 @@ pub(crate) fn write_box_counts(line: &mut Line, counts: &Counts)
     ensures short { length line.new ≤ LINE_BYTES }
 {
     line.clear();
+    line_totals(line, counts);
+    line.push(b"\n");
+}
+
+// Appends how many are certified and how many reported.
+fn line_totals(line: &mut Line, counts: &Counts)
+    requires { length line.old + TOTALS_BYTES ≤ LINE_BYTES }
+    ensures value { line.new ≡ line.old ++ totals_text counts.now }
+    ensures room { length line.new ≤ length line.old + TOTALS_BYTES }
+{
     line.push(b"certified");
     line_count(line, counts.certified);
     line.push(b" reported");
     line_count(line, counts.reported);
-    line.push(b"\n");
 }
 
 // Begins the line of a cell under an advice.
@@ -93,22 +101,11 @@ fn begin_cell_line(line: &mut Line, model: &Model, name: &CellName)
     line.clear();
     line.push(b"cell");
     line_count(line, u64::from(name.n));
-    line_name(line, name_of(model, name.present));
+    line_name(line, model.name(name.present));
     line_count(line, u64::from(name.i));
     line_count(line, u64::from(name.j));
     line_count(line, u64::from(name.k));
-    line_name(line, name_of(model, name.advice));
-}
-
-// The name of an advisory.
-fn name_of(model: &Model, advisory: u8) -> &[u8]
-    requires { advisory < model.now.grid.advisories }
-    ensures value { result.now ≡ (advisory_at model.now advisory).name }
-    ensures short { length result.now ≤ GREATEST_NAME_BYTES }
-{
-    // Its names are not too long, as all of a model's are.
-    let _ = model.grid();
-    model.advisory(advisory).name.bytes()
+    line_name(line, model.name(name.advice));
 }
 
 // Appends what the line says of a cell or box, and ends it.

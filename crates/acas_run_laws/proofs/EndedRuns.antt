@@ -22,9 +22,9 @@ use Rattle.acas_command.proofs.Completed.{completed}
 use Rattle.acas_drill.specs.Calls.{IsDrillBegun, IsDrillText}
 use Rattle.acas_drill_model.specs.DrilledModel.{drilled_model}
 use Rattle.acas_encounter_commands.specs.Calls.{IsReplayBegun, IsReplayText, replay_looks_at}
-use Rattle.acas_table_commands.specs.Calls.{check_of, compile_of, values_of}
+use Rattle.acas_table_commands.specs.Calls.{check_of, compile_of, migrate_of, values_of}
 use Rattle.acas_cli.specs.Calls.{CallsFor}
-use Rattle.acas_cli_words.specs.Words.{Form, Values, Compile, Check, Audit, Regions, Replay, Drill}
+use Rattle.acas_cli_words.specs.Words.{Form, Values, Compile, Check, Audit, Regions, Replay, Migrate, Drill}
 use Rattle.acas_run_laws.proofs.OneFiles.{IsOneModel, IsOneTable, one-input, one-model, one-table}
 use Rattle.acas_run_laws.proofs.OneOutcome.{audit-goes_on, one-drilled, one-outcome, one-replayed, printed-cause, regions-goes_on, replay-goes_on, within-file}
 use Rattle.acas_run_laws.proofs.OneReport.{ReportsAreOne}
@@ -121,6 +121,7 @@ module _ (one : ReportsAreOne) (drilled : (number : ℕ) → IsModel (drilled_mo
       (printed-cause (replay_looks_at model table encounter files)
       (replay-goes_on model table encounter files a.begun.replay.m a.begun.replay.advices a.begun.replay.flown a.begun.replay.replayed))
       (λ r t is. subst (AppendsPart before.written after.written) (one-replayed model table encounter files 0 r a.begun.text t a.begun.replay is).1 a.begun.part)
+  cut-short (Migrate model table target) files before after o a ends = part-one (λ fs. migrate_of (get fs model) (get fs table) target) files before after o a ends
   cut-short (Drill number) files before after o a ends =
       part-report (λ fs. prints []) (λ fs. IsDrillText number) (λ fs. IsDrillBegun number) files before after o ends tt
       (λ r t is. subst (AppendsPart before.written after.written) (one-drilled one drilled number a.begun.reported r a.begun.text t a.begun.drilled is).1 a.begun.part)

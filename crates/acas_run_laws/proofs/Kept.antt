@@ -19,7 +19,7 @@ use Rattle.acas_table_commands.specs.AcceptedLine.{accepted_line}
 use Rattle.acas_table_commands.specs.Calls.{check_of, values_of}
 use Rattle.acas_table_lines.specs.ValuesText.{values_text}
 use Rattle.acas_cli.specs.Calls.{CallsFor}
-use Rattle.acas_cli_words.specs.Words.{Form, Values, Compile, Check, Audit, Regions, Replay, Drill}
+use Rattle.acas_cli_words.specs.Words.{Form, Values, Compile, Check, Audit, Regions, Replay, Migrate, Drill}
 use Rattle.acas_run_laws.specs.Forms.{written_by}
 
 -- the files of a command that leaves them as they were, with every cause
@@ -97,6 +97,7 @@ kept-form (Audit model table which) cause files before after none a =
 kept-form (Regions model boxes) cause files before after none a = kept-reports (regions_looks_at model boxes) (IsRegionsText model boxes) (IsRegionsBegun model boxes) files cause before after a
 kept-form (Replay model table encounter) cause files before after none a =
     kept-reports (replay_looks_at model table encounter) (IsReplayText model table encounter) (IsReplayBegun model table encounter) files cause before after a
+kept-form (Migrate model table target) cause files before after none a = absurd (cc none)
 kept-form (Drill number) cause files before after none a = kept-reports (λ fs. prints []) (λ fs. IsDrillText number) (λ fs. IsDrillBegun number) files cause before after a
 
 -- files that stay hold what they held

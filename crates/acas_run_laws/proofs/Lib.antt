@@ -1,6 +1,7 @@
 pub mod Causes
 pub mod Kept
-pub mod CompiledFiles
+pub mod WrittenFiles
+pub mod StoredTables
 pub mod NotRefused
 pub mod Refusing
 pub mod NamedFiles

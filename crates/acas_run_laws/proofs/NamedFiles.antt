@@ -8,6 +8,9 @@ use Rattle.acas_outside.specs.Files.{Files}
 use Rattle.acas_outside.specs.Outside.{Outside}
 use Rattle.acas_boxes.specs.Whole.{boxes_of}
 use Rattle.acas_encounter.specs.Whole.{encounter_of}
+use Rattle.acas_table_text.specs.Shape.{shape_of}
+use Rattle.acas_table_text.specs.Tables.{as_layered}
+use Rattle.acas_spec.specs.Model.{ModelData}
 use Rattle.acas_command.specs.Answers.{Agrees, Refuses}
 use Rattle.acas_command.specs.Called.{Called, MayPrint}
 use Rattle.acas_command.specs.Calls.{with_input_file}
@@ -27,11 +30,11 @@ use Rattle.acas_encounter_commands.specs.Calls.{IsReplayBegun, IsReplayText, enc
 use Rattle.acas_report_lines.specs.declared.counts.Which.{Which}
 use Rattle.acas_report_lines.specs.declared.counts.Which.TheVariants.{All as Whole, Reported as OnlyReported}
 use Rattle.acas_table_commands.specs.AcceptedLine.{accepted_line}
-use Rattle.acas_table_commands.specs.CompiledLine.{compiled_line}
+use Rattle.acas_table_commands.specs.StoredLine.{compiled_line, migrated_line}
 use Rattle.acas_table_rows.specs.TableFile.{compiled_text}
 use Rattle.acas_table_lines.specs.ValuesText.{values_text}
 use Rattle.acas_cli.specs.Calls.{CallsFor}
-use Rattle.acas_cli_words.specs.Words.{Form, Values, Compile, Check, Audit, Regions, Replay, Drill, are_apart, are_file_names, form_of, is_file_name}
+use Rattle.acas_cli_words.specs.Words.{Form, Values, Compile, Check, Audit, Regions, Replay, Migrate, Drill, are_apart, are_file_names, form_of, is_file_name}
 use Rattle.acas_run_laws.specs.Refusals.{RefusesBy}
 use Rattle.acas_run_laws.proofs.Refusing.{refused-input, refused-model, refused-printed, refused-table}
 
@@ -108,6 +111,15 @@ module _ (files : Files) (cause : Cause) (after : Outside) where
       (report-refused (replay_looks_at (name ModelFile) (name TableFile) (name EncounterFile)) (IsReplayText (name ModelFile) (name TableFile) (name EncounterFile))
       (IsReplayBegun (name ModelFile) (name TableFile) (name EncounterFile)) files cause after r.never r.refuses)
 
+  right-migrate : (name : FileRole → List ℕ) (target : List ℕ) → IsRight name (Migrate (name ModelFile) (name TableFile) target)
+  right-migrate name target r =
+      let form : Form = Migrate (name ModelFile) (name TableFile) target in
+      let stored : List ℕ → ModelData → List ℕ → Outcome = λ digest m bytes. stores target (as_layered digest (shape_of m.grid) bytes) (migrated_line m.grid) in
+      refused-model form name files cause (λ digest m. with_table m digest (get files (name TableFile)) (stored digest m))
+      (λ digest m file h. refused-table form name files cause digest m (stored digest m) file
+      (λ bytes h. refused-printed form name files cause (stored digest m bytes) r.never tt h) h)
+      (ap (λ (o : Outcome). o.cause) (sym r.refuses.may) ∙ r.refuses.refused)
+
   right-drill : (name : FileRole → List ℕ) (number : ℕ) → IsRight name (Drill number)
   right-drill name number r =
       refused-printed (Drill number) name files cause (prints []) r.never tt
@@ -147,7 +159,10 @@ module _ (files : Files) (cause : Cause) (after : Outside) where
   right-words (verb ∷ model ∷ table ∷ third ∷ []) form e =
       let name : FileRole → List ℕ = λ role. name_of role (verb ∷ model ∷ table ∷ third ∷ []) in
       let replays : Bool = bytes_eq verb (codes "replay") && are_file_names model table && is_file_name third in
+      let migrates : Bool = bytes_eq verb (codes "migrate") && are_apart model third && are_apart table third in
+      let on_format : Option Form = cond migrates (Some (Migrate model table third)) None in
       right-if name (bytes_eq verb (codes "audit") && are_file_names model table && bytes_eq third (codes "--reported")) (Audit model table OnlyReported) form
-      (cond replays (Some (Replay model table third)) None) e (right-audit name OnlyReported)
-      (λ no_audit. right-if name replays (Replay model table third) form None no_audit (right-replay name) (λ none. absurd (cc none)))
+      (cond replays (Some (Replay model table third)) on_format) e (right-audit name OnlyReported)
+      (λ no_audit. right-if name replays (Replay model table third) form on_format no_audit (right-replay name)
+      (λ no_replay. right-if name migrates (Migrate model table third) form None no_replay (right-migrate name third) (λ none. absurd (cc none))))
   right-words (verb ∷ model ∷ table ∷ third ∷ more ∷ rest) form e = absurd (cc e)

@@ -12,7 +12,8 @@ use Rattle.acas_grid.specs.States.{state_present, state_vertex}
 use Rattle.acas_grid.proofs.StateNumbers.{state_number-parts, state_present-below}
 use Rattle.acas_process.specs.Cost.{IsEntry}
 use Rattle.acas_step.proofs.NumberedStates.{IsVertex-state_vertex}
-use Rattle.acas_table.specs.Text.{entry_at}
+use Rattle.acas_table_text.specs.Shape.{shape_of}
+use Rattle.acas_table_text.specs.Text.{entry_at}
 use Rattle.acas_accept.specs.GivenTable.{entry_place}
 use Rattle.acas_base.specs.Advices.{AdvicesData, AreAdvicesOf, advice_at}
 use Rattle.acas_outside.specs.Files.{Files}
@@ -108,7 +109,7 @@ one-table model table files m n a b is also = record { models = models.models; a
         let same : is.table_file.bytes ≡ o.table_file.bytes = same_bytes (get files table) is.table_file.bytes o.table_file.bytes is.table_file.there o.table_file.there in
         one-advices m a other is.fits o.fits (λ k state some low small.
         is.table_file.held.each k state some low small
-        ∙ ap (λ (bytes : List ℕ). (entry_at bytes (entry_place m.grid k state)).advice) same
+        ∙ ap (λ (bytes : List ℕ). (entry_at (shape_of m.grid) bytes (entry_place m.grid k state)).advice) same
         ∙ sym (o.table_file.held.each k state some low small))
 
     of_one : (k : ModelData) → m ≡ k → (other : AdvicesData) → IsTableOf model table files k other → a ≡ other

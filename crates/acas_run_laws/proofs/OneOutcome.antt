@@ -34,7 +34,7 @@ use Rattle.acas_drill_model.specs.DrilledModel.{drilled_model}
 use Rattle.acas_drill.specs.Text.{drill_text}
 use Rattle.acas_encounter_commands.specs.Calls.{IsReplayBegun, IsReplayText, IsReplayed, encounter_looked_at, replay_looks_at}
 use Rattle.acas_cli.specs.Calls.{CallsFor}
-use Rattle.acas_cli_words.specs.Words.{Form, Values, Compile, Check, Audit, Regions, Replay, Drill}
+use Rattle.acas_cli_words.specs.Words.{Form, Values, Compile, Check, Audit, Regions, Replay, Migrate, Drill}
 use Rattle.acas_run_laws.proofs.OneFiles.{IsOneModel, IsOneTable, one-input, one-model, one-table, one-tabled}
 use Rattle.acas_run_laws.proofs.OneReport.{ReportsAreOne}
 
@@ -185,5 +185,6 @@ module _ (one : ReportsAreOne) (drilled : (number : ℕ) → IsModel (drilled_mo
       one-report (replay_looks_at model table encounter) (IsReplayText model table encounter) (IsReplayBegun model table encounter) files o p
       (λ r t is. printed-cause (replay_looks_at model table encounter files) (replay-goes_on model table encounter files is.m is.advices is.flown is.replayed))
       (one-replayed model table encounter files) first second
+  one-outcome (Migrate model table target) files o p first second = first ∙ sym second
   one-outcome (Drill number) files o p first second =
       one-report (λ fs. prints []) (λ fs. IsDrillText number) (λ fs. IsDrillBegun number) files o p (λ r t is. tt) (one-drilled number) first second

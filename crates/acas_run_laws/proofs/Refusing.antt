@@ -11,7 +11,7 @@ use Rattle.acas_model.specs.declared.fault.ModelFault.{ModelFault}
 use Rattle.acas_outside.specs.Files.{Files}
 use Rattle.acas_input.specs.declared.fault.InputFault.{InputFault}
 use Rattle.acas_accept.specs.Refusals.{first_refusal}
-use Rattle.acas_table.specs.declared.refusal.TableRefusal.{TableRefusal}
+use Rattle.acas_table_text.specs.declared.refusal.TableRefusal.{TableRefusal}
 use Rattle.acas_command.specs.Called.{MayPrint}
 use Rattle.acas_command.specs.Calls.{with_input, with_input_file, with_model, with_reading, with_text}
 use Rattle.acas_command.specs.ModelFile.{IsModelFile}

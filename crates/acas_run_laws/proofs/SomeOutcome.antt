@@ -45,12 +45,12 @@ use Rattle.acas_drill.specs.Calls.{IsDrillBegun, IsDrillText}
 use Rattle.acas_drill_model.specs.DrilledModel.{drilled_model}
 use Rattle.acas_drill.specs.Text.{drill_text}
 use Rattle.acas_encounter_commands.specs.Calls.{IsReplayBegun, IsReplayText, encounter_looked_at, replay_looks_at}
-use Rattle.acas_table_commands.specs.Calls.{check_of, compile_of, values_of}
+use Rattle.acas_table_commands.specs.Calls.{check_of, compile_of, migrate_of, values_of}
 use Rattle.acas_cli.specs.Calls.{CallsFor}
-use Rattle.acas_cli_words.specs.Words.{Form, Values, Compile, Check, Audit, Regions, Replay, Drill}
+use Rattle.acas_cli_words.specs.Words.{Form, Values, Compile, Check, Audit, Regions, Replay, Migrate, Drill}
 use Rattle.acas_run_laws.specs.Outcomes.{AreBytes}
 use Rattle.acas_run_laws.proofs.AdvicesMade.{accepted-by, advices_by, fits-by, known-accepted, table_advice, tabled-by}
-use Rattle.acas_run_laws.proofs.CompiledFiles.{prints_or_not}
+use Rattle.acas_run_laws.proofs.WrittenFiles.{prints_or_not}
 use Rattle.acas_run_laws.proofs.OneOutcome.{within-file}
 use Rattle.acas_run_laws.proofs.OneReport.{ReportsAreOne}
 
@@ -219,4 +219,5 @@ module _ (one : ReportsAreOne) (drilled : (number : ℕ) → IsModel (drilled_mo
   some-outcome (Regions model boxes) files bytes = some-report (regions_looks_at model boxes) (IsRegionsText model boxes) (IsRegionsBegun model boxes) files (some-ruled model boxes files)
   some-outcome (Replay model table encounter) files bytes =
       some-report (replay_looks_at model table encounter) (IsReplayText model table encounter) (IsReplayBegun model table encounter) files (some-replayed model table encounter files bytes)
+  some-outcome (Migrate model table target) files bytes = (migrate_of (get files model) (get files table) target, refl)
   some-outcome (Drill number) files bytes = some-report (λ fs. prints []) (λ fs. IsDrillText number) (λ fs. IsDrillBegun number) files (λ may. some-drilled number)

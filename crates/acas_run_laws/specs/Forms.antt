@@ -1,6 +1,6 @@
 -- What a form reads, writes and may report.
 use Rattle.std.specs.Prelude.{ℕ, List, Option, None, Some, ⊤}
-use Rattle.acas_cli_words.specs.Words.{Form, Values, Compile, Check, Audit, Regions, Replay, Drill}
+use Rattle.acas_cli_words.specs.Words.{Form, Values, Compile, Check, Audit, Regions, Replay, Migrate, Drill}
 
 -- the file that it writes, if any
 abbrev pub written_by : Form → Option (List ℕ)
@@ -10,6 +10,7 @@ written_by (Check model table) = None
 written_by (Audit model table which) = None
 written_by (Regions model boxes) = None
 written_by (Replay model table encounter) = None
+written_by (Migrate model table target) = Some target
 written_by (Drill number) = None
 
 -- it is an audit, regions or a drill
@@ -20,4 +21,5 @@ MayReport (Check model table) = ⊥
 MayReport (Audit model table which) = ⊤
 MayReport (Regions model boxes) = ⊤
 MayReport (Replay model table encounter) = ⊥
+MayReport (Migrate model table target) = ⊥
 MayReport (Drill number) = ⊤

@@ -1,4 +1,5 @@
 pub mod Forms
+pub mod Migrated
 pub mod Ends
 pub mod Refusals
 pub mod Outcomes

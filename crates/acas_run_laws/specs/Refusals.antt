@@ -9,13 +9,13 @@ use Rattle.acas_input.specs.declared.fault.InputFault.{InputFault}
 use Rattle.acas_boxes.specs.Whole.{boxes_of}
 use Rattle.acas_encounter.specs.Whole.{encounter_of}
 use Rattle.acas_accept.specs.Refusals.{first_refusal}
-use Rattle.acas_table.specs.declared.refusal.TableRefusal.{TableRefusal}
+use Rattle.acas_table_text.specs.declared.refusal.TableRefusal.{TableRefusal}
 use Rattle.acas_command.specs.ModelFile.{IsModelFile}
 use Rattle.acas_command.specs.declared.status.Cause.{Cause}
 use Rattle.acas_command.specs.declared.status.Cause.TheVariants.{Done, Reported, Words, Absent, Model, Table, Input, Folder, Output, TooLong, Memory}
 use Rattle.acas_command.specs.declared.status.FileRole.{FileRole}
 use Rattle.acas_command.specs.declared.status.FileRole.TheVariants.{Model as ModelFile, Table as TableFile, Boxes as BoxesFile, Encounter as EncounterFile}
-use Rattle.acas_cli_words.specs.Words.{Form, Values, Compile, Check, Audit, Regions, Replay, Drill}
+use Rattle.acas_cli_words.specs.Words.{Form, Values, Compile, Check, Audit, Regions, Replay, Migrate, Drill}
 
 -- the bytes of boxes or of an encounter, beside the model, have this first fault
 abbrev pub InputHasFault : Form → (FileRole → List ℕ) → Files → ModelData → InputFault → Type 0
@@ -25,6 +25,7 @@ InputHasFault (Check model table) name files m fault = ⊥
 InputHasFault (Audit model table which) name files m fault = ⊥
 InputHasFault (Regions model boxes) name files m fault = IsSomeAnd (get files (name BoxesFile)) (λ bytes. boxes_of m bytes ≡ Err fault)
 InputHasFault (Replay model table encounter) name files m fault = IsSomeAnd (get files (name EncounterFile)) (λ bytes. encounter_of m bytes ≡ Err fault)
+InputHasFault (Migrate model table target) name files m fault = ⊥
 InputHasFault (Drill number) name files m fault = ⊥
 
 -- beside the model that the first file says, the table's bytes have this first refusal

@@ -18,57 +18,58 @@ ghost use Rattle.acas_command.specs.Says.{SaysModel};
 ghost use Rattle.acas_command.specs.declared.status.Cause.{Cause};
 ghost use Rattle.acas_cli.specs.Calls.{AnswersForm};
 ghost use Rattle.acas_cli.specs.Headline.{Headline};
-ghost use Rattle.acas_cli_words.specs.Words.{Audit, Check, Compile, Drill, Form, Regions, Replay, Values};
+ghost use Rattle.acas_cli_words.specs.Words.{Audit, Check, Compile, Drill, Form, Migrate, Regions, Replay, Values};
 ghost use Rattle.acas_run_laws.specs.Forms.{MayReport};
 ghost use Rattle.acas_run_laws.specs.Ends.{EndsWell, HasNoFault};
 
-/// Where no call of the folder or of the output failed, and the files are such as a form asks for, its run ends with the exit code 0, 1 or
-/// 12: it is done, it reports, or memory was refused.
+/// Where no call of the folder or of the output failed, and the files are such as a form asks for, its run ends with
+/// the exit code 0, 1 or 12: it is done, it reports, or memory was refused.
 pub fn right_files_are_not_refused()
-    ensures values { (model bytes : List ℕ) (m : ModelData) (cause : Cause) (files : Files)
-        (before after : Outside)
+    ensures values { (model bytes : List ℕ) (m : ModelData)
+        (cause : Cause) (files : Files) (before after : Outside)
         → before.holds ≡ Some files → SaysModel files model bytes m → HasNoFault before after
         → Headline (Some (Values model)) cause before after → EndsWell cause }
-    ensures compile { (model table bytes : List ℕ) (m : ModelData) (cause : Cause) (files : Files)
-        (before after : Outside)
+    ensures compile { (model table bytes : List ℕ) (m : ModelData)
+        (cause : Cause) (files : Files) (before after : Outside)
         → before.holds ≡ Some files → SaysModel files model bytes m → HasNoFault before after
         → Headline (Some (Compile model table)) cause before after → EndsWell cause }
-    ensures check { (model table bytes given : List ℕ) (m : ModelData) (t : Table) (cause : Cause)
-        (files : Files)
-        (before after : Outside)
+    ensures check { (model table bytes given : List ℕ) (m : ModelData) (t : Table)
+        (cause : Cause) (files : Files) (before after : Outside)
         → before.holds ≡ Some files → SaysModel files model bytes m → get files table ≡ Some given
         → IsAcceptedTable m (sha256 bytes) given t → HasNoFault before after
         → Headline (Some (Check model table)) cause before after → EndsWell cause }
     ensures audit { (model table bytes given : List ℕ) (which : Which) (m : ModelData) (t : Table)
-        (cause : Cause)
-        (files : Files)
-        (before after : Outside)
+        (cause : Cause) (files : Files) (before after : Outside)
         → before.holds ≡ Some files → SaysModel files model bytes m → get files table ≡ Some given
         → IsAcceptedTable m (sha256 bytes) given t → HasNoFault before after
         → Headline (Some (Audit model table which)) cause before after → EndsWell cause }
     ensures regions { (model boxes bytes given : List ℕ) (m : ModelData) (said : List AuditedBox)
-        (cause : Cause)
-        (files : Files)
-        (before after : Outside)
-        → before.holds ≡ Some files → SaysModel files model bytes m → get files boxes ≡ Some given → length given ≤ TEXT_BYTES
-        → IsBoxesText m given said → HasNoFault before after
+        (cause : Cause) (files : Files) (before after : Outside)
+        → before.holds ≡ Some files → SaysModel files model bytes m → get files boxes ≡ Some given
+        → length given ≤ TEXT_BYTES → IsBoxesText m given said → HasNoFault before after
         → Headline (Some (Regions model boxes)) cause before after → EndsWell cause }
-    ensures replay { (model table encounter bytes given flown_bytes : List ℕ) (m : ModelData) (t : Table)
-        (flown : EncounterData)
+    ensures replay { (model table encounter bytes given flown_bytes : List ℕ)
+        (m : ModelData) (t : Table) (flown : EncounterData)
         (cause : Cause) (files : Files) (before after : Outside)
         → before.holds ≡ Some files → SaysModel files model bytes m → get files table ≡ Some given
-        → IsAcceptedTable m (sha256 bytes) given t → get files encounter ≡ Some flown_bytes → length flown_bytes ≤ TEXT_BYTES
-        → IsEncounterText m flown_bytes flown → HasNoFault before after
+        → IsAcceptedTable m (sha256 bytes) given t → get files encounter ≡ Some flown_bytes
+        → length flown_bytes ≤ TEXT_BYTES → IsEncounterText m flown_bytes flown → HasNoFault before after
         → Headline (Some (Replay model table encounter)) cause before after → EndsWell cause }
+    ensures migrate { (model table target bytes given : List ℕ) (m : ModelData) (t : Table)
+        (cause : Cause) (files : Files) (before after : Outside)
+        → before.holds ≡ Some files → SaysModel files model bytes m → get files table ≡ Some given
+        → IsAcceptedTable m (sha256 bytes) given t → HasNoFault before after
+        → Headline (Some (Migrate model table target)) cause before after → EndsWell cause }
     ensures drill { (number : ℕ) (cause : Cause) (files : Files) (before after : Outside)
-        → before.holds ≡ Some files → HasNoFault before after → Headline (Some (Drill number)) cause before after
-        → EndsWell cause }
+        → before.holds ≡ Some files → HasNoFault before after
+        → Headline (Some (Drill number)) cause before after → EndsWell cause }
 {}
 
 /// The exit code 1 is that of an audit, of regions or of a drill, over a folder that tells its files.
 pub fn only_reports_end_with_1()
     ensures { (form : Form) (cause : Cause) (files : Files) (before after : Outside)
-        → before.holds ≡ Some files → AnswersForm (Some form) cause before after → code_of cause ≡ 1 → MayReport form }
+        → before.holds ≡ Some files → AnswersForm (Some form) cause before after → code_of cause ≡ 1
+        → MayReport form }
 {}
 
 /// A drill ends with the exit code 0, 1, 8 or 12, whatever fails: no file refuses it, and no folder fails it.

@@ -1,5 +1,5 @@
-//! The laws of runs: what the answers of the top call say, in numbers and in the words of the subject. The functions do nothing: their
-//! clauses are the laws.
+//! The laws of runs: what the answers of the top call say, in numbers and in the words of the subject. The functions do
+//! nothing: their clauses are the laws.
 #![tactic(auto)]
 
 mod drills;
@@ -17,7 +17,10 @@ mod work;
 pub use drills::drills_need_no_folder;
 pub use ends::{drills_are_not_refused, only_reports_end_with_1, right_files_are_not_refused};
 pub use faults::{faults_have_their_counts, refusals_are_of_bytes, risen_counts_are_greater};
-pub use folder::{compile_writes_its_table, only_compile_writes, other_files_stay};
+pub use folder::{
+    compile_writes_its_table, migrate_writes_its_table, only_compile_and_migrate_write,
+    other_files_stay,
+};
 pub use line::{error_lines_are_whole_or_cut_by_a_fault, refusals_are_those_of_the_named_files};
 pub use numbers::{
     missing_places_are_counted_once, tables_are_too_long_by_one_byte,

@@ -3,12 +3,15 @@ ghost use Rattle.std.specs.Prelude.{◌≡◌, ◌+◌, ◌∷◌, ◌++◌, [],
 ghost use Rattle.acas_units.specs.declared.pair.Entry.{Entry};
 ghost use Rattle.acas_units.specs.declared.pair.Pair.{Pair};
 ghost use Rattle.acas_plane.specs.Plane.{fresh, missing_in};
-ghost use Rattle.acas_table.specs.Faults.{more_fault};
-ghost use Rattle.acas_table.specs.Text.{length_of, version_text};
-ghost use Rattle.acas_table.specs.declared.fault.TableFault.TheVariants.{Length};
-ghost use Rattle.acas_table.specs.declared.shape.TableShape.{TableShape};
+ghost use Rattle.acas_table_text.specs.Faults.{more_fault};
+ghost use Rattle.acas_table_text.specs.Format.{length_of};
+ghost use Rattle.acas_table_text.specs.Text.{text_of_layers};
+ghost use Rattle.acas_table_text.specs.declared.format.Format.{Format as FileFormat};
+ghost use Rattle.acas_table_text.specs.declared.fault.TableFault.TheVariants.{Length};
+ghost use Rattle.acas_table_text.specs.declared.shape.TableShape.{TableShape};
 
-/// In a plane in which nothing was written each place is missing, and in one that is written to the end none; each is missing once.
+/// In a plane in which nothing was written each place is missing, and in one that is written to the end none; each is
+/// missing once.
 pub fn missing_places_are_counted_once()
     ensures none_written { (n : ℕ) → missing_in (fresh n).work ≡ n }
     ensures all_written { (pairs : List Pair) → let work : List (Option Pair) = map Some pairs in
@@ -17,13 +20,12 @@ pub fn missing_places_are_counted_once()
         let rest : List (Option Pair) = map Some more in missing_in (work ++ None ∷ rest) ≡ 1 }
 {}
 
-/// The text of a table in either version is as long as its shape says, where the digest has 32 bytes, there is a layer for each number of
-/// seconds to go and an entry for each state.
+/// The text of a table in either version is as long as its shape says, where the digest has 32 bytes, there is a layer
+/// for each number of seconds to go and an entry for each state.
 pub fn texts_have_the_length_of_their_shape()
-    ensures { (version : ℕ) (digest : List ℕ) (s : TableShape) (layers : List (List Entry)) →
-        length digest ≡ 32
-        → length layers ≡ s.horizon + 1 → All (λ layer. length layer ≡ s.states) layers
-        → length (version_text version digest s layers) ≡ length_of version s }
+    ensures { (f : FileFormat) (digest : List ℕ) (s : TableShape) (layers : List (List Entry))
+        → length digest ≡ 32 → length layers ≡ s.horizon + 1 → All (λ layer. length layer ≡ s.states) layers
+        → length (text_of_layers f digest s layers) ≡ length_of f s }
 {}
 
 /// However many bytes stand behind a table, it is found to be one byte too long, and where none does it is not.

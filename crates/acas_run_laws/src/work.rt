@@ -11,12 +11,13 @@ ghost use Rattle.acas_command.specs.Codes.{code_of};
 ghost use Rattle.acas_command.specs.ModelFile.{IsModelFile};
 ghost use Rattle.acas_command.specs.declared.status.Cause.{Cause};
 ghost use Rattle.acas_table_file.specs.AcceptedFile.{IsTableOf};
-ghost use Rattle.acas_cli_words.specs.Words.{Audit, Check, Compile, Drill, Form, Regions, Replay, Values};
+ghost use Rattle.acas_cli_words.specs.Words.{Audit, Check, Compile, Drill, Form, Migrate, Regions, Replay, Values};
 ghost use Rattle.acas_cli.specs.Work.{CountsForm};
 ghost use Rattle.acas_cli.specs.declared.work.Work.{Work};
 
-/// What is not named for a form is not counted, whatever the answer: words of no form, `check`, `regions`, `replay` and `drill` leave all
-/// three counts as they were, an audit those of backups and of turned pairs, and `values` and `compile` that of decisions.
+/// What is not named for a form is not counted, whatever the answer: words of no form, `check`, `regions`, `replay`,
+/// `migrate` and `drill` leave all three counts as they were, an audit those of backups and of turned pairs, and
+/// `values` and `compile` that of decisions.
 pub fn what_is_not_named_is_not_counted()
     ensures no_form { (holds : Option Files) (cause : Cause) (old new : Work) →
         CountsForm None holds cause old new
@@ -29,6 +30,9 @@ pub fn what_is_not_named_is_not_counted()
         → (new.backups ≡ old.backups) × (new.turned ≡ old.turned) × (new.decisions ≡ old.decisions) }
     ensures replay { (model table encounter : List ℕ) (holds : Option Files) (cause : Cause) (old new : Work)
         → CountsForm (Some (Replay model table encounter)) holds cause old new
+        → (new.backups ≡ old.backups) × (new.turned ≡ old.turned) × (new.decisions ≡ old.decisions) }
+    ensures migrate { (model table target : List ℕ) (holds : Option Files) (cause : Cause) (old new : Work)
+        → CountsForm (Some (Migrate model table target)) holds cause old new
         → (new.backups ≡ old.backups) × (new.turned ≡ old.turned) × (new.decisions ≡ old.decisions) }
     ensures drill { (number : ℕ) (holds : Option Files) (cause : Cause) (old new : Work)
         → CountsForm (Some (Drill number)) holds cause old new
@@ -43,8 +47,9 @@ pub fn what_is_not_named_is_not_counted()
         → CountsForm (Some (Compile model table)) holds cause old new → new.decisions ≡ old.decisions }
 {}
 
-/// A run that ends with the exit code 0 over a folder that tells its files has counted the whole: `values` and `compile` the backups and the
-/// entries of the model's table, and an audit, with 1 too, the decisions of the model's cells.
+/// A run that ends with the exit code 0 over a folder that tells its files has counted the whole: `values` and
+/// `compile` the backups and the entries of the model's table, and an audit, with 1 too, the decisions of the model's
+/// cells.
 pub fn done_runs_are_counted()
     ensures values { (model : List ℕ) (files : Files) (cause : Cause) (old new : Work)
         → CountsForm (Some (Values model)) (Some files) cause old new → code_of cause ≡ 0

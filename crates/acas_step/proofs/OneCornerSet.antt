@@ -1,5 +1,5 @@
 -- The corners of a point are one list, and their total is one number.
-use Rattle.std.proofs.Common.{◌≡◌, ℕ, ◌*◌, ◌<◌, ◌≤ℤ◌, ℤ, pos, ◌*ℤ◌, List, length, get_or, refl, ap, sym, subst, ◌∙◌, arith}
+use Rattle.std.proofs.Common.{◌≡◌, ℕ, ◌<◌, ◌≤ℤ◌, ℤ, pos, ◌*ℤ◌, List, length, get_or, ap, sym, subst, ◌∙◌, arith}
 use Rattle.std.proofs.lemmas.Int.{ints}
 use Rattle.std.proofs.lemmas.List.{ext_get_or}
 use Rattle.acas_spec.specs.Limits.{IsGrid}

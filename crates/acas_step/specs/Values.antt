@@ -1,12 +1,19 @@
 -- The value of a choice, with its own cost, and how many backups are counted.
-use Rattle.std.specs.Prelude.{ℕ, ℤ, ◌+ℤ◌}
+use Rattle.std.specs.Prelude.{ℕ, ℤ, ◌+ℤ◌, List}
 use Rattle.acas_spec.specs.Model.{ModelData}
 use Rattle.acas_spec.specs.Table.{Values}
 use Rattle.acas_spec.specs.declared.parts.Choice.{Choice}
 use Rattle.acas_spec.specs.declared.place.Vertex.{Vertex}
+use Rattle.acas_grid.specs.States.{vertex_at}
 use Rattle.acas_process.specs.Bounds.{mean_value, millionths}
+use Rattle.acas_step.specs.Layer.{layer_values}
+use Rattle.acas_units.specs.declared.pair.Pair.{Pair}
 use Rattle.acas_step.specs.declared.layer.Side.{Side}
 use Rattle.acas_step.specs.declared.layer.Side.TheVariants.{Upper, Lower}
+
+-- the mean of one side of a layer at a vertex under an advisory, by their numbers
+abbrev pub layer_mean : (ℤ → ℤ → ℤ) → ModelData → Side → List Pair → ℕ → ℕ → ℤ
+layer_mean round m side below vertex a = mean_value round m (layer_values side m.grid below) (vertex_at m.grid vertex) a
 
 -- the mean of the layer below under the chosen advisory, and the cost of the choice in millionths
 abbrev pub value_with_cost : (ℤ → ℤ → ℤ) → ModelData → Values → Vertex → Choice → ℤ

@@ -1,5 +1,5 @@
-//! One second of flight over the grid of a model: where it leads, the corners of the cell that it leads to, and what a
-//! choice is worth by the values of the layer below.
+//! One second of flight over the grid of a model: where it leads, the corners of the cell that it leads to, the means there of the
+//! values of the layer below, and the choices with what they cost.
 #![tactic(auto)]
 
 mod cell;

@@ -3,11 +3,11 @@ ghost use Rattle.std.specs.Prelude.{◌≡◌, ℕ, ◌+◌, ◌*◌, ◌<◌, �
 ghost use Rattle.acas_spec.specs.Limits.{IsModel};
 ghost use Rattle.acas_spec.specs.Model.{states, total_weight, vertices};
 ghost use Rattle.acas_spec.specs.declared.place.Point.{Point};
-ghost use Rattle.acas_grid.specs.States as numbers;
-ghost use Rattle.acas_process.specs.Bounds.{interpolated, mean_value};
+ghost use Rattle.acas_process.specs.Bounds.{interpolated};
 ghost use Rattle.acas_process.specs.Step as process;
 ghost use Rattle.acas_step.specs.Corners.{IsInterpolation, IsWeighting};
 ghost use Rattle.acas_step.specs.Layer.{AreWithin, layer_values};
+ghost use Rattle.acas_step.specs.Values.{layer_mean};
 
 use crate::cell::CornerSet;
 use crate::layer::{Side, weighted, weighted_sum};
@@ -84,8 +84,7 @@ pub fn mean_by<R: Rounding, L: LedTo>(
     requires vertex { vertex < vertices model.now.grid }
     requires advisory { advisory < model.now.grid.advisories }
     requires below { length below.now ≡ states model.now.grid }
-    ensures value { let x = numbers.vertex_at model.now.grid vertex in
-        result ≡ mean_value R.round model.now (layer_values side model.now.grid below.now) x advisory }
+    ensures value { result ≡ layer_mean R.round model.now side below.now vertex advisory }
     ensures bounded { (most : ℕ) → AreWithin most side below.now → unsigned_abs result ≤ most }
 {
     let mut sum: i128 = 0;
@@ -109,8 +108,7 @@ pub fn mean<R: Rounding>(
     requires vertex { vertex < vertices model.now.grid }
     requires advisory { advisory < model.now.grid.advisories }
     requires below { length below.now ≡ states model.now.grid }
-    ensures value { let x = numbers.vertex_at model.now.grid vertex in
-        result ≡ mean_value R.round model.now (layer_values side model.now.grid below.now) x advisory }
+    ensures value { result ≡ layer_mean R.round model.now side below.now vertex advisory }
 
     // No mean is larger than the largest value.
     ensures bounded { (most : ℕ) → AreWithin most side below.now → unsigned_abs result ≤ most }

@@ -1,16 +1,28 @@
 -- What the means of a column are formed of.
 use Rattle.std.specs.Prelude.{◌≡◌, ℕ, ◌+◌, ◌*◌, ◌^◌, ◌<◌, ℤ, pos, List, length, get_or}
-use Rattle.acas_spec.specs.Model.{GridData, ModelData, total_weight}
+use Rattle.acas_spec.specs.Model.{GridData, ModelData, states, total_weight}
 use Rattle.acas_grid.specs.States.{vertex_at}
 use Rattle.acas_units.specs.declared.pair.Pair.{Pair}
-use Rattle.acas_step.specs.Columns.{column_of, vertex_in}
+use Rattle.acas_step.specs.Columns.{column_of, columns, vertex_in}
+use Rattle.acas_step.specs.Reach.{IsReach}
 use Rattle.acas_step_narrow.specs.Narrow.{AreRaisedSums, weights_below}
 use Rattle.acas_step_narrow.specs.Raised.{AreAllRaisedWithin, along_v0, raised_at, raised_in, width}
 use Rattle.acas_step.specs.declared.cell.Cell.{Cell}
+use Rattle.acas_step_stencils.specs.Stencils.{AreStencilsOf}
+use Rattle.acas_step_stencils.specs.declared.stencils.Stencils.{Stencils}
 use Rattle.acas_step_columns.specs.declared.columns.Source.{Source}
 use Rattle.acas_step_columns.specs.declared.columns.Source.TheVariants.{Twin, Sums, Layer}
 use Rattle.acas_step.specs.declared.layer.Side.TheVariants.{Upper, Lower}
 use Rattle.acas_step.specs.declared.reach.Reach.{Reach}
+
+-- stencils are those of a model, with a second to go, a layer below has its reach, and there are the column and the advisory
+pub record HasColumn (m : ModelData) (s : Stencils) (layer : List Pair) (r : Reach) (j a : ℕ) : Type 0 where
+  pub stencils : AreStencilsOf m s
+  pub horizon : 0 < m.grid.horizon
+  pub reach : IsReach m.grid layer r
+  pub column : j < columns m.grid
+  pub advisory : a < m.grid.advisories
+  pub below : length layer ≡ states m.grid
 
 -- at each place of the altitudes, the values of a layer blended on both rates of a cell, raised, where those of an advisory begin at `first`
 pub record AreBlends (g : GridData) (t : Cell) (first by : ℕ) (below : List Pair) (uppers lowers : List ℕ) : Type 0 where

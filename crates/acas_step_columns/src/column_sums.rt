@@ -6,14 +6,13 @@ ghost use Rattle.acas_spec.specs.Model.{states, total_weight, vertices};
 ghost use Rattle.acas_grid.specs.States as numbers;
 ghost use Rattle.acas_process.specs.Step as process;
 ghost use Rattle.acas_step.specs.Columns.{columns};
-ghost use Rattle.acas_step_columns.specs.ColumnSums.{AreBlends, AreBlendsWithin, AreColumnSums, AreSumsWithin};
+ghost use Rattle.acas_step_columns.specs.ColumnSums.{AreBlends, AreBlendsWithin, AreColumnSums, AreSumsWithin, HasColumn};
 ghost use Rattle.acas_step_stencils.specs.Units.{HoldsRates};
 ghost use Rattle.acas_step.specs.Ends.{FitsGrid};
 ghost use Rattle.acas_step.specs.Layer.{AreWithin};
 ghost use Rattle.acas_step_narrow.specs.Narrow.{IsRaisedPoint};
 ghost use Rattle.acas_step_narrow.specs.Raised.{AreRaisedWithin, HasRoom, raised_in};
-ghost use Rattle.acas_step.specs.Reach.{IsReach};
-ghost use Rattle.acas_step_stencils.specs.Stencils.{AreStencilsOf};
+ghost use Rattle.acas_step_stencils.specs.Stencils.{AreStencilsOf, HaveStencil};
 ghost use Rattle.acas_step.specs.declared.layer.Side.TheVariants.{Upper, Lower};
 ghost use Rattle.acas_units.specs.declared.pair.Pair.{Pair};
 
@@ -68,11 +67,7 @@ fn point_in_column(
     blend_uppers: &SideColumn,
     blend_lowers: &SideColumn,
 ) -> Option<Raised>
-    requires stencils { AreStencilsOf model.now stencils.now }
-    requires horizon { 0 < model.now.grid.horizon }
-    requires vertex { vertex < vertices model.now.grid }
-    requires advisory { advisory < model.now.grid.advisories }
-    requires sigma { sigma < length model.now.sigmas }
+    requires stencil { HaveStencil model.now stencils.now vertex advisory sigma }
     requires rates { let x = numbers.vertex_at model.now.grid vertex in
         HoldsRates model.now.grid stencils.now.units (process.moved model.now x advisory sigma) rates.now }
     requires room { reach.widest * (2 * reach.size + 1) < 2 ^ 63 }
@@ -185,12 +180,7 @@ pub(crate) fn fill_sums(
     uppers: &mut SideColumn,
     lowers: &mut SideColumn,
 ) -> bool
-    requires stencils { AreStencilsOf model.now stencils.now }
-    requires horizon { 0 < model.now.grid.horizon }
-    requires reach { IsReach model.now.grid below.now reach }
-    requires column { column < columns model.now.grid }
-    requires advisory { advisory < model.now.grid.advisories }
-    requires below { length below.now ≡ states model.now.grid }
+    requires column { HasColumn model.now stencils.now below.now reach column advisory }
     requires weights { total_weight model.now * (2 * reach.size + 1) < 2 ^ 63 }
     ensures { result ≡ true
         → AreColumnSums model.now below.now reach.size column advisory (length model.now.sigmas) uppers.new lowers.new }

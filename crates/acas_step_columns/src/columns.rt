@@ -3,19 +3,18 @@
 ghost use Rattle.std.specs.Prelude.{◌≡◌, ◌≢◌, ℕ, ◌+◌, ◌<◌, ◌≤◌, length, unsigned_abs};
 ghost use Rattle.acas_spec.specs.Model.{states};
 ghost use Rattle.acas_step.specs.Columns.{AreAllWithin, AreColumnChanges, AreColumnMeans, AreMeansIn, columns, pairs_at};
-ghost use Rattle.acas_step_columns.specs.ColumnSums.{IsSource};
+ghost use Rattle.acas_step_columns.specs.ColumnSums.{HasColumn, IsSource};
 ghost use Rattle.acas_step.specs.Layer.{AreWithin, pair_at, value_of};
 ghost use Rattle.acas_step.specs.Reach.{IsReach};
 ghost use Rattle.acas_step_stencils.specs.Stencils.{AreStencilsOf};
 ghost use Rattle.acas_step.specs.declared.layer.Side.{Side};
 
 use crate::column_sums::fill_sums;
-use crate::stencil_values::mean_with;
 use acas_base::Model;
 use acas_frac::{Down, Up};
 use acas_step::{
     Changes, ColumnMeans, Reach, Side, VertexMeans, advisory_count, changes_from, first_twin,
-    own_rate_at, vertex_in_column,
+    mean_by, own_rate_at, vertex_in_column,
 };
 use acas_step_narrow::{Raised, SideColumn, means_of_sums};
 use acas_step_stencils::Stencils;
@@ -49,12 +48,7 @@ fn source_of(
     uppers: &mut SideColumn,
     lowers: &mut SideColumn,
 ) -> Source
-    requires stencils { AreStencilsOf model.now stencils.now }
-    requires horizon { 0 < model.now.grid.horizon }
-    requires reach { IsReach model.now.grid below.now reach }
-    requires column { column < columns model.now.grid }
-    requires advisory { advisory < model.now.grid.advisories }
-    requires below { length below.now ≡ states model.now.grid }
+    requires { HasColumn model.now stencils.now below.now reach column advisory }
     ensures { IsSource model.now below.now reach changes.now column advisory uppers.new lowers.new result }
 {
     let _ = model.grid();
@@ -97,16 +91,11 @@ fn mean_pair_from(
     lowers: &SideColumn,
     earlier: &VertexMeans,
 ) -> Pair
-    requires stencils { AreStencilsOf model.now stencils.now }
-    requires horizon { 0 < model.now.grid.horizon }
-    requires reach { IsReach model.now.grid below.now reach }
-    requires column { column < columns model.now.grid }
+    requires column { HasColumn model.now stencils.now below.now reach column advisory }
     requires place { i < length model.now.grid.h }
     requires changes { AreColumnChanges model.now column changes.now }
-    requires advisory { advisory < model.now.grid.advisories }
     requires source { IsSource model.now below.now reach changes.now column advisory uppers.now lowers.now
         source }
-    requires below { length below.now ≡ states model.now.grid }
     requires earlier { (b : ℕ) → b < advisory
         → AreMeansIn model.now below.now column i b (pair_at earlier.now b) }
     ensures means { AreMeansIn model.now below.now column i advisory result }
@@ -126,8 +115,22 @@ fn mean_pair_from(
         Source::Layer => {
             let vertex = vertex_in_column(grid, column, i);
             Pair {
-                upper: mean_with::<Up>(model, stencils, vertex, advisory, Side::Upper, below),
-                lower: mean_with::<Down>(model, stencils, vertex, advisory, Side::Lower, below),
+                upper: mean_by::<Up, Stencils>(
+                    model,
+                    stencils,
+                    vertex,
+                    advisory,
+                    Side::Upper,
+                    below,
+                ),
+                lower: mean_by::<Down, Stencils>(
+                    model,
+                    stencils,
+                    vertex,
+                    advisory,
+                    Side::Lower,
+                    below,
+                ),
             }
         }
     }
@@ -158,15 +161,10 @@ fn fill_advisory(
     lowers: &SideColumn,
     means: &mut ColumnMeans,
 )
-    requires stencils { AreStencilsOf model.now stencils.now }
-    requires horizon { 0 < model.now.grid.horizon }
-    requires reach { IsReach model.now.grid below.now reach }
-    requires column { column < columns model.now.grid }
+    requires column { HasColumn model.now stencils.now below.now reach column advisory }
     requires changes { AreColumnChanges model.now column changes.now }
-    requires advisory { advisory < model.now.grid.advisories }
     requires source { IsSource model.now below.now reach changes.now column advisory uppers.now lowers.now
         source }
-    requires below { length below.now ≡ states model.now.grid }
     requires earlier { (i b : ℕ) → i < length model.now.grid.h → b < advisory
         → AreMeansIn model.now below.now column i b (pair_at (pairs_at means.old i) b) }
     ensures means { (i b : ℕ) → i < length model.now.grid.h → b < advisory + 1

@@ -5,7 +5,6 @@ mod column_sums;
 mod columns;
 mod stencil_backups;
 mod stencil_means;
-mod stencil_values;
 
 pub use columns::fill_column;
 pub use stencil_backups::backup_with;

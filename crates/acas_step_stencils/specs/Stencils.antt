@@ -48,6 +48,14 @@ pub record AreStencilsOf (m : ModelData) (s : Stencils) : Type 0 where
   pub total : IsDivisor s.total
   pub by : s.total.by ≡ total_weight m
 
+-- stencils are those of a model, and have one of a sigma point at a vertex under an advisory, by their numbers
+pub record HaveStencil (m : ModelData) (s : Stencils) (x a k : ℕ) : Type 0 where
+  pub stencils : AreStencilsOf m s
+  pub horizon : 0 < m.grid.horizon
+  pub vertex : x < vertices m.grid
+  pub advisory : a < m.grid.advisories
+  pub sigma : k < length m.sigmas
+
 -- stencils are those of a model, and there is a second to go
 pub record AreUsable (m : ModelData) (s : Stencils) : Type 0 where
   pub stencils : AreStencilsOf m s

@@ -8,7 +8,7 @@ ghost use Rattle.acas_grid.specs.States as numbers;
 ghost use Rattle.acas_process.specs.Step as process;
 ghost use Rattle.acas_step.specs.Corners.{AreCorners, IsInterpolation, IsWeighting};
 ghost use Rattle.acas_step.specs.Ends.{FitsGrid, IsEnds, IsRound};
-ghost use Rattle.acas_step_stencils.specs.Stencils.{AreStencils, AreStencilsOf, IsAbove, IsStencil, point_of, stencil_count};
+ghost use Rattle.acas_step_stencils.specs.Stencils.{AreStencils, AreStencilsOf, HaveStencil, IsAbove, IsStencil, point_of, stencil_count};
 ghost use Rattle.acas_step_stencils.specs.Units.{AreUnits, DivideGaps, DivideOffsets, DivideUnits, HoldsRates, IsCountedIn, IsUnitCell, IsVertexCell};
 ghost use Rattle.acas_step_stencils.specs.declared.stencils.Stencil.{Stencil};
 
@@ -277,11 +277,7 @@ impl Stencils {
 
     // The stencil of a sigma point at a vertex under an advisory.
     fn stencil(&self, model: &Model, vertex: u32, advisory: u8, sigma: u32) -> Stencil
-        requires stencils { AreStencilsOf model.now self.now }
-        requires horizon { 0 < model.now.grid.horizon }
-        requires vertex { vertex < vertices model.now.grid }
-        requires advisory { advisory < model.now.grid.advisories }
-        requires sigma { sigma < length model.now.sigmas }
+        requires { HaveStencil model.now self.now vertex advisory sigma }
         ensures { let x = numbers.vertex_at model.now.grid vertex in
             IsStencil model.now.grid self.now.units (process.moved model.now x advisory sigma) result }
     {
@@ -291,11 +287,7 @@ impl Stencils {
 
     // The cell to which a sigma point leads from a vertex within a second under an advisory.
     pub(crate) fn cell(&self, model: &Model, vertex: u32, advisory: u8, sigma: u32) -> Cell
-        requires stencils { AreStencilsOf model.now self.now }
-        requires horizon { 0 < model.now.grid.horizon }
-        requires vertex { vertex < vertices model.now.grid }
-        requires advisory { advisory < model.now.grid.advisories }
-        requires sigma { sigma < length model.now.sigmas }
+        requires { HaveStencil model.now self.now vertex advisory sigma }
         ensures round { let x = numbers.vertex_at model.now.grid vertex in
             IsRound model.now.grid (process.moved model.now x advisory sigma) result }
         ensures fits { FitsGrid model.now.grid result }
@@ -307,11 +299,7 @@ impl Stencils {
 
     /// The cell in units to which a sigma point leads from a vertex within a second under an advisory, with no division.
     pub fn unit_cell(&self, model: &Model, vertex: u32, advisory: u8, sigma: u32) -> UnitCell
-        requires stencils { AreStencilsOf model.now self.now }
-        requires horizon { 0 < model.now.grid.horizon }
-        requires vertex { vertex < vertices model.now.grid }
-        requires advisory { advisory < model.now.grid.advisories }
-        requires sigma { sigma < length model.now.sigmas }
+        requires { HaveStencil model.now self.now vertex advisory sigma }
         ensures { let x = numbers.vertex_at model.now.grid vertex in
             IsUnitCell model.now.grid self.now.units (process.moved model.now x advisory sigma) result }
     {
@@ -330,11 +318,7 @@ impl Stencils {
         sigma: u32,
         rates: &Cell,
     ) -> UnitCell
-        requires stencils { AreStencilsOf model.now self.now }
-        requires horizon { 0 < model.now.grid.horizon }
-        requires vertex { vertex < vertices model.now.grid }
-        requires advisory { advisory < model.now.grid.advisories }
-        requires sigma { sigma < length model.now.sigmas }
+        requires stencil { HaveStencil model.now self.now vertex advisory sigma }
         requires rates { let x = numbers.vertex_at model.now.grid vertex in
             HoldsRates model.now.grid self.now.units (process.moved model.now x advisory sigma) rates.now }
         ensures cell { let x = numbers.vertex_at model.now.grid vertex in
@@ -359,11 +343,7 @@ impl Stencils {
     /// The corners of the cell to which a sigma point leads from a vertex within a second under an advisory: those that `corners`
     /// gives of the point that `moved` gives.
     pub fn corners(&self, model: &Model, vertex: u32, advisory: u8, sigma: u32) -> CornerSet
-        requires stencils { AreStencilsOf model.now self.now }
-        requires horizon { 0 < model.now.grid.horizon }
-        requires vertex { vertex < vertices model.now.grid }
-        requires advisory { advisory < model.now.grid.advisories }
-        requires sigma { sigma < length model.now.sigmas }
+        requires { HaveStencil model.now self.now vertex advisory sigma }
         ensures corners { let x = numbers.vertex_at model.now.grid vertex in
             let s = process.moved model.now x advisory sigma in
             AreCorners model.now.grid s result.corners result.total }

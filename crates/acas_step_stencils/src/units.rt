@@ -4,6 +4,7 @@ ghost use Rattle.std.specs.Int.{IsGcd, ◌∣◌};
 ghost use Rattle.acas_process.specs.Axis.{gap};
 ghost use Rattle.acas_step_stencils.specs.Units.{AreUnits, DivideGaps, DividesGaps};
 
+use acas_frac::gcd;
 use acas_grid::{Axis, Grid};
 
 /// A length above 0 on each axis, in ticks or ft/min, in which offsets and gaps are counted.
@@ -14,20 +15,13 @@ pub(crate) struct Units {
     pub(crate) v1: u64,
 }
 
-/// The greatest common divisor, where the second number is above 0, by Euclid's algorithm.
+/// The greatest common divisor, where the second number is above 0.
 pub(crate) fn common(a: u64, b: u64) -> u64
     requires { 0 < b }
     ensures divisor { IsGcd a b result }
     ensures some { 0 < result }
 {
-    let mut x = a;
-    let mut y = b;
-    while y != 0 {
-        let rest = x % y;
-        x = y;
-        y = rest;
-    }
-    x
+    gcd(u128::from(a), u128::from(b)) as u64
 }
 
 /// How often a unit goes into a length that it divides.

@@ -5,7 +5,7 @@ use Rattle.std.proofs.Math.Nat.{mul-le-mul_right}
 use Rattle.std.proofs.Math.Seq.{take-append_seam}
 use Rattle.std.specs.List.{slice_range}
 use Rattle.acas_spec.specs.Limits.{IsModel}
-use Rattle.acas_spec.specs.Model.{ModelData, entries, states, vertices}
+use Rattle.acas_spec.specs.Model.{GridData, ModelData, entries, states, vertices}
 use Rattle.acas_grid.specs.Grid.{IsVertex}
 use Rattle.acas_spec.specs.declared.place.Vertex.{Vertex}
 use Rattle.acas_grid.proofs.Vertices.{row_below, some_width}
@@ -21,7 +21,8 @@ use Rattle.acas_step.proofs.NumberedStates.{layer_values-is}
 use Rattle.acas_grid.specs.States.{state_present, state_vertex}
 use Rattle.acas_step.specs.declared.layer.Side.TheVariants.{Upper, Lower}
 use Rattle.acas_sweep.specs.Entries.{AreBelow, AreOver, IsWhole, listed_entry}
-use Rattle.acas_sweep.specs.Layers.{AreLayers, LayersData}
+use Rattle.acas_layers.specs.Layers.{all_layers}
+use Rattle.acas_sweep.specs.Layers.{AreLayers}
 use Rattle.acas_sweep.proofs.Placed.{below_or_at}
 use Rattle.acas_sweep.proofs.Turns.{turn-below}
 use Rattle.acas_grid.proofs.StateNumbers.{state_present-below}
@@ -167,8 +168,8 @@ next_below m n pairs advice pairs' advice' valid some h long enough below over =
 -- ---- all layers
 
 pub are_layers : (m : ModelData) (pairs : List Pair) (advice : List ℕ) → length pairs ≡ entries m.grid → length advice ≡ entries m.grid → AreBelow m (m.grid.horizon + 1) pairs advice
-    → AreLayers m (record { horizon = m.grid.horizon; states = states m.grid; pairs = pairs; advice = advice })
-are_layers m pairs advice pair_count advice_count below = record { horizon = refl; layer = λ n h. layer n h }
+    → AreLayers m (all_layers m.grid pairs advice)
+are_layers m pairs advice pair_count advice_count below = record { horizon = refl; count = refl; layer = λ n h. layer n h }
   where
     ends : (n : ℕ) → n ≤ m.grid.horizon → n * states m.grid + states m.grid ≤ entries m.grid
     ends n h = let next : n + 1 ≤ m.grid.horizon + 1 = omega arith in omega (arith, mul-le-mul_right (states m.grid) next)
@@ -192,9 +193,8 @@ are_layers m pairs advice pair_count advice_count below = record { horizon = ref
       advices = λ s i. rw (at advice n s 0 i) ((below.entry n s (omega arith) i).advice);
     }
 
-pub same_layers : (horizon horizon' states states' : ℕ) (pairs pairs' : List Pair) (advice advice' : List ℕ) → horizon ≡ horizon' → states ≡ states' → pairs ≡ pairs' → advice ≡ advice'
-    → ◌≡◌ {A = LayersData} (record { horizon = horizon; states = states; pairs = pairs; advice = advice }) (record { horizon = horizon'; states = states'; pairs = pairs'; advice = advice' })
-same_layers horizon horizon' states states' pairs pairs' advice advice' h s p a = rw (h, s, p, a) refl
+pub same_lists : (g : GridData) (pairs pairs' : List Pair) (advice advice' : List ℕ) → pairs ≡ pairs' → advice ≡ advice' → all_layers g pairs advice ≡ all_layers g pairs' advice'
+same_lists g pairs pairs' advice advice' p a = rw (p, a) refl
 
 -- a list that is written back at its own length
 pub written_back : {A : Type 0} (n : ℕ) (xs ys : List A) → n ≡ length xs → take n (xs ++ ys) ≡ xs

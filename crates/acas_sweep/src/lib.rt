@@ -5,7 +5,6 @@
 
 mod laws;
 mod layer;
-mod layers;
 mod list;
 mod order;
 mod plane;
@@ -14,8 +13,8 @@ mod sink;
 mod stream;
 mod vertex;
 
+pub use acas_layers::Layers;
 pub use laws::{advices_are_advisories, backups_are_few};
-pub use layers::Layers;
 pub use list::sweep_list;
 pub use room::{SweepRoom, sweep_to};
 pub use sink::{LayerFailed, LayerSink};

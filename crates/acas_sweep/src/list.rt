@@ -5,8 +5,8 @@ ghost use Rattle.acas_sweep.specs.Entries.{AreBelow};
 ghost use Rattle.acas_sweep.specs.Layers.{AreLayers, backup_count, layer_backups};
 
 use crate::layer::{fill_first, fill_over};
-use crate::layers::Layers;
 use acas_base::Model;
+use acas_layers::Layers;
 use acas_step_choices::Backups;
 use acas_units::Pair;
 use std::alloc::{AllocError, Global};
@@ -52,10 +52,9 @@ pub fn sweep_list(alloc: Global, model: &Model, count: &mut Backups) -> Result<L
     ensures counted { OnOk result (count.new ≡ count.old + backup_count model.now) }
     ensures unchanged { OnErr result (count.new ≡ count.old) }
 {
-    let grid = model.grid();
-    let entries = grid.entries() as usize;
+    let entries = model.grid().entries() as usize;
     let mut pairs = vec![in alloc; Pair { upper: 0, lower: 0 }; entries]?;
     let mut advice = vec![in alloc; 0u8; entries]?;
     fill_layers(model, &mut pairs, &mut advice, count);
-    Ok(Layers::new(grid.horizon, grid.states() as usize, pairs, advice))
+    Ok(Layers::whole(model, pairs, advice))
 }

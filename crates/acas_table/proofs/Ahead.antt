@@ -1,20 +1,21 @@
 -- Bytes at hand, as more are read behind them.
-use Rattle.std.proofs.Common.{◌≡◌, ℕ, zero, suc, ◌+◌, ◌-◌, ◌<◌, ◌≤◌, List, [], ◌∷◌, ◌++◌, length, take, drop, Bool, cond, Option, None, Some, Ok, Err, sym, ◌∙◌, ap, subst, arith, inl, inr, append_assoc}
+use Rattle.std.proofs.Common.{◌≡◌, ℕ, ◌+◌, ◌-◌, ◌<◌, ◌≤◌, List, [], ◌++◌, length, take, drop, Bool, cond, Option, None, Some, Ok, Err, sym, ◌∙◌, ap, subst, arith, inl, inr, append_assoc}
 use Rattle.std.proofs.Math.Seq.{take-add, take-append-add}
 use Rattle.std.proofs.lemmas.List.{take-take, take-append-le, drop-take, drop-append-le, drop-drop, length-take-le, length-take, take_all}
-use Rattle.std.proofs.lemmas.Bool.{cases_lt, le-ltb, lt-ltb}
+use Rattle.std.proofs.lemmas.Bool.{cases_lt, le-ltb}
 use Rattle.std.specs.FinMap.{get}
 use Rattle.std.specs.Prelude.{⊤}
 use Rattle.acas_outside.specs.Bytes.{IsBytes}
 use Rattle.acas_outside.specs.Files.{Files, Given, Reads}
 use Rattle.acas_table.specs.declared.source.Source.{Source}
-use Rattle.acas_table.specs.Text.{part}
+use Rattle.acas_table_text.specs.Format.{part}
 use Rattle.sha2.specs.Hashers.{Holds256}
 use Rattle.sha2.specs.Sha256.{sha256}
-use Rattle.acas_table.specs.Faults.{end_fault, more_fault}
+use Rattle.acas_table_text.specs.Faults.{end_fault, more_fault}
 use Rattle.acas_table.specs.Source.{hashed_place, IsHashed, IsAt, IsAtFile, Moves, Checks, Finds}
-use Rattle.acas_table.specs.declared.fault.TableFault.{TableFault}
-use Rattle.acas_table.specs.declared.fault.TableFault.TheVariants.{Length}
+use Rattle.acas_table_text.proofs.Parts.{bytes_of_both, end_none, part-first, part-join, part-rest}
+use Rattle.acas_table_text.specs.declared.fault.TableFault.{TableFault}
+use Rattle.acas_table_text.specs.declared.fault.TableFault.TheVariants.{Length}
 
 -- a buffer into which bytes were read behind its first ones
 pub refilled : (items into rest past : List ℕ) (len to n : ℕ) → to ≤ length items → n ≤ length into → to + n ≤ len
@@ -28,7 +29,7 @@ refilled items into rest past len to n first within fits =
     ∙ ap (λ (l : List ℕ). take to items ++ take n l) (append_assoc into rest past)
     ∙ ap (λ (l : List ℕ). take to items ++ l) (take-append-le n into (rest ++ past) within)
 
-pub ahead_more : (old new bytes into : List ℕ) (from k n place : ℕ) → from + k ≤ length old → take (from + k + n) new ≡ take (from + k) old ++ take n into
+ahead_more : (old new bytes into : List ℕ) (from k n place : ℕ) → from + k ≤ length old → take (from + k + n) new ≡ take (from + k) old ++ take n into
     → part old from k ≡ part bytes place k → take n into ≡ take n (drop (place + k) bytes) → part new from (k + n) ≡ part bytes place (k + n)
 ahead_more old new bytes into from k n place room grown so_far more =
     sym (drop-take from (k + n) new)
@@ -39,12 +40,6 @@ ahead_more old new bytes into from k n place room grown so_far more =
     ∙ ap (λ (l : List ℕ). l ++ take n into) so_far
     ∙ ap (λ (l : List ℕ). part bytes place k ++ l) (more ∙ ap (λ (l : List ℕ). take n l) (sym (drop-drop k place bytes)))
     ∙ sym (take-add k n (drop place bytes))
-
--- bytes behind bytes
-pub bytes_of_both : (a b : List ℕ) → IsBytes a → IsBytes b → IsBytes (a ++ b)
-bytes_of_both [] b front behind i = behind i
-bytes_of_both (x ∷ a) b front behind zero = front 0
-bytes_of_both (x ∷ a) b front behind (suc i) = bytes_of_both a b (λ j. front (suc j)) behind i
 
 -- what was seen stays, and grows by a field
 seen_moves : (old new : Source) (bytes : List ℕ) → new.place ≡ old.place → IsBytes (take old.place bytes) → IsBytes (take new.place bytes)
@@ -62,13 +57,6 @@ hashed_same old new bytes hasher mark place hashed =
     let same : part bytes old.mark (hashed_place old - old.mark) ≡ part bytes new.mark (hashed_place new - new.mark) =
     ap (λ (m : ℕ). part bytes old.mark (m - old.mark)) (sym place) ∙ ap (λ (m : ℕ). part bytes m (hashed_place new - m)) (sym mark) in
     rw hasher (subst (λ (l : List ℕ). Holds256 old.hasher l) same hashed)
-
--- the n bytes at a place are there, or the bytes end before
-pub end_none : (e : ℕ) (bytes : List ℕ) (at n : ℕ) → at + n ≤ length bytes → end_fault e bytes at n ≡ None
-end_none e bytes at n within = ap (λ (b : Bool). cond b (Some (Length e (length bytes))) None) (le-ltb (length bytes) (at + n) within)
-
-pub end_found : (e : ℕ) (bytes : List ℕ) (at n : ℕ) → length bytes < at + n → end_fault e bytes at n ≡ Some (Length e (length bytes))
-end_found e bytes at n short = ap (λ (b : Bool). cond b (Some (Length e (length bytes))) None) (lt-ltb (length bytes) (at + n) short)
 
 more_file : {X : Type 0} (x : X) (file : Option (List ℕ)) (old new : Source) (into : List ℕ) (n at : ℕ) → 0 < n → Reads file at (Ok n) into → at ≡ old.place + (old.to - old.from)
     → new.hashed ≡ old.hashed → new.from ≡ old.from → new.to ≡ old.to + n → new.hasher ≡ old.hasher → Moves old new → take (old.to + n) new.buffer.items ≡ take old.to old.buffer.items ++ take n into
@@ -103,26 +91,6 @@ pub more_given : {X : Type 0} (x : X) (holds : Option Files) (name : List ℕ) (
     → Given holds name (λ file. IsAtFile old file → Checks {X = X} (λ bytes. end_fault old.expected bytes (old.place + (old.to - old.from)) 1) (λ _ _. ⊤) file new (Ok x))
 more_given x None name old new into n at some reads place hashed from to hasher moves grown = tt
 more_given x (Some files) name old new into n at some reads place hashed from to hasher moves grown = more_file x (get files name) old new into n at some reads place hashed from to hasher moves grown
-
--- the first n of the bytes at hand
-pub part-first : (a b : List ℕ) (i j n k : ℕ) → n ≤ k → part a i k ≡ part b j k → part a i n ≡ part b j n
-part-first a b i j n k within same =
-    sym (take-take n k (drop i a) within) ∙ ap (λ (l : List ℕ). take n l) same ∙ take-take n k (drop j b) within
-
-part-rest_of : (a : List ℕ) (i n k : ℕ) → n ≤ k → drop n (part a i k) ≡ part a (i + n) (k - n)
-part-rest_of a i n k within =
-    ap (λ (m : ℕ). drop n (take m (drop i a))) (omega arith)
-    ∙ drop-take n (k - n) (drop i a)
-    ∙ ap (λ (l : List ℕ). take (k - n) l) (drop-drop n i a)
-
--- and those behind them
-pub part-rest : (a b : List ℕ) (i j n k : ℕ) → n ≤ k → part a i k ≡ part b j k → part a (i + n) (k - n) ≡ part b (j + n) (k - n)
-part-rest a b i j n k within same =
-    sym (part-rest_of a i n k within) ∙ ap (λ (l : List ℕ). drop n l) same ∙ part-rest_of b j n k within
-
-pub part-join : (a : List ℕ) (i k n : ℕ) → part a i k ++ part a (i + k) n ≡ part a i (k + n)
-part-join a i k n =
-    ap (λ (l : List ℕ). part a i k ++ take n l) (sym (drop-drop k i a)) ∙ sym (take-add k n (drop i a))
 
 -- of what the buffer has, the bytes that the digest lacks
 behind_hand : (s : Source) (bytes : List ℕ) → IsAt s bytes → part s.buffer.items s.hashed (s.from - s.hashed) ≡ part bytes (hashed_place s) (s.from - s.hashed)

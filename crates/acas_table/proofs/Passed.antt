@@ -5,16 +5,15 @@ use Rattle.std.specs.FinMap.{get}
 use Rattle.std.specs.Option.{option_map}
 use Rattle.std.proofs.lemmas.List.{take_more, drop_more, take-append-drop}
 use Rattle.acas_outside.specs.Files.{Files, Given}
-use Rattle.acas_table.specs.Faults.{first, unless, end_fault, width_of, fault_in, fault_at, widths, fields_fault, header_fields, header_fault}
-use Rattle.acas_table.specs.Text.{length_1, part}
-use Rattle.acas_table.specs.Source.{IsAt, IsAtFile, Blames, Checks, StandsAt, Steps}
-use Rattle.acas_table.proofs.Cuts.{first_none, first_one}
-use Rattle.acas_table.specs.declared.shape.TableShape.{TableShape}
-use Rattle.acas_table.specs.declared.field.Field.{Field}
-use Rattle.acas_table.specs.declared.field.Field.TheVariants as fields
+use Rattle.acas_table_text.specs.Faults.{first, unless, end_fault, width_of, fault_in, fault_at, widths, fields_fault}
+use Rattle.acas_table_text.specs.Format.{part}
+use Rattle.acas_table.specs.Source.{IsAt, IsAtFile, Blames, Checks, Steps}
+use Rattle.acas_table_text.proofs.Cuts.{first_none, first_one}
+use Rattle.acas_table_text.specs.declared.field.Field.{Field}
+use Rattle.acas_table_text.specs.declared.field.Field.TheVariants as fields
 use Rattle.acas_table.specs.declared.source.Source.{Source}
-use Rattle.acas_table.specs.declared.fault.TableFault.{TableFault}
-use Rattle.acas_table.specs.declared.fault.TableFault.TheVariants.{Magic, Version, OtherModel, Shape, Length, Advice, Digest, Failed, Absent, Memory}
+use Rattle.acas_table_text.specs.declared.fault.TableFault.{TableFault}
+use Rattle.acas_table_text.specs.declared.fault.TableFault.TheVariants.{Magic, Version, OtherModel, Shape, Length, Advice, Digest, LayerDigest, Failed, Absent, Memory}
 
 -- the source has passed over these fields, which have no fault
 abbrev pub HasPassed : ℕ → ℕ → List Field → Option (List ℕ) → Source → Type 0
@@ -22,7 +21,7 @@ HasPassed e at all None new = (all ≡ []) × (new.from ≡ new.to)
 HasPassed e at all (Some bytes) new = (fields_fault e at all bytes ≡ None) × IsAt new bytes
 
 -- behind fields without fault, the fault is that of the others
-behind_good : (e at : ℕ) (front rest : List Field) (bytes : List ℕ) → fields_fault e at front bytes ≡ None → fields_fault e at (front ++ rest) bytes ≡ fields_fault e (at + widths front) rest bytes
+pub behind_good : (e at : ℕ) (front rest : List Field) (bytes : List ℕ) → fields_fault e at front bytes ≡ None → fields_fault e at (front ++ rest) bytes ≡ fields_fault e (at + widths front) rest bytes
 behind_good e at [] rest bytes none = ap (λ (k : ℕ). fields_fault e k rest bytes) (omega arith)
 behind_good e at (field ∷ front) rest bytes none =
     let w = width_of field in
@@ -33,12 +32,7 @@ behind_good e at (field ∷ front) rest bytes none =
     ∙ behind_good e (at + w) front rest bytes b.0
     ∙ ap (λ (k : ℕ). fields_fault e k rest bytes) (omega arith)
 
--- a source that has passed over no field yet
-pub passed_none : (e at : ℕ) (file : Option (List ℕ)) (s : Source) → IsAtFile s file → HasPassed e at [] file s
-passed_none e at None s stands = (refl, stands)
-passed_none e at (Some bytes) s stands = (refl, stands)
-
-pub passed_stands : (e at : ℕ) (all : List Field) (file : Option (List ℕ)) (s : Source) → HasPassed e at all file s → IsAtFile s file
+passed_stands : (e at : ℕ) (all : List Field) (file : Option (List ℕ)) (s : Source) → HasPassed e at all file s → IsAtFile s file
 passed_stands e at all None s passed = passed.1
 passed_stands e at all (Some bytes) s passed = passed.1
 
@@ -51,15 +45,11 @@ next_fault e at front rest field bytes mid expected place none =
     ∙ ap (λ (d : ℕ). first (fault_at d (at + widths front) field bytes ∷ behind ∷ [])) (sym expected)
     ∙ ap (λ (k : ℕ). first (fault_at mid.expected k field bytes ∷ behind ∷ [])) (sym place)
 
-pub passed_more : {X : Type 0} (x : X) (e at : ℕ) (front : List Field) (field : Field) (file : Option (List ℕ)) (mid new : Source) → mid.expected ≡ e → mid.place ≡ at + widths front
+passed_more : {X : Type 0} (x : X) (e at : ℕ) (front : List Field) (field : Field) (file : Option (List ℕ)) (mid new : Source) → mid.expected ≡ e → mid.place ≡ at + widths front
     → HasPassed e at front file mid → Checks {X = X} (fault_at mid.expected mid.place field) (λ _ _. ⊤) file new (Ok x) → HasPassed e at (front ++ field ∷ []) file new
 passed_more x e at front field None mid new expected place passed checks = absurd checks
 passed_more x e at front field (Some bytes) mid new expected place passed checks =
     (next_fault e at front [] field bytes mid expected place passed.0 ∙ ap (λ (o : Option TableFault). first (o ∷ None ∷ [])) checks.0, checks.2)
-
-pub passed_all : {X : Type 0} (x : X) (e at : ℕ) (all : List Field) (file : Option (List ℕ)) (new : Source) → 0 < length all → HasPassed e at all file new → Checks {X = X} (fields_fault e at all) (λ _ _. ⊤) file new (Ok x)
-passed_all x e at all None new some passed = absurd (omega (arith, some, ap length passed.0))
-passed_all x e at all (Some bytes) new some passed = (passed.0, tt, passed.1)
 
 -- a fault of a field is one of its bytes
 pub record IsOfBytes (fault : TableFault) : Type 0 where
@@ -73,10 +63,11 @@ the_fault false other fault e = cc
 
 pub of_field : (field : Field) (found : List ℕ) (fault : TableFault) → fault_in field found ≡ Some fault → IsOfBytes fault
 of_field fields.Magic found fault e = let is = the_fault _ _ _ e in record { failed = λ k. cc; absent = λ k. cc; memory = λ k. cc }
-of_field (fields.Version expected) found fault e = let is = the_fault _ _ _ e in record { failed = λ k. cc; absent = λ k. cc; memory = λ k. cc }
+of_field fields.Version found fault e = let is = the_fault _ _ _ e in record { failed = λ k. cc; absent = λ k. cc; memory = λ k. cc }
 of_field (fields.Model digest) found fault e = let is = the_fault _ _ _ e in record { failed = λ k. cc; absent = λ k. cc; memory = λ k. cc }
 of_field (fields.Number place expected) found fault e = let is = the_fault _ _ _ e in record { failed = λ k. cc; absent = λ k. cc; memory = λ k. cc }
 of_field (fields.Digest computed) found fault e = let is = the_fault _ _ _ e in record { failed = λ k. cc; absent = λ k. cc; memory = λ k. cc }
+of_field (fields.LayerDigest layer computed) found fault e = let is = the_fault _ _ _ e in record { failed = λ k. cc; absent = λ k. cc; memory = λ k. cc }
 
 blames_found : (found : Option TableFault) (fault : TableFault) → IsOfBytes fault → found ≡ Some fault → Blames (Some found) fault
 blames_found found Magic of_bytes is = is
@@ -86,6 +77,7 @@ blames_found found (Shape a b d) of_bytes is = is
 blames_found found (Length a b) of_bytes is = is
 blames_found found (Advice a b d) of_bytes is = is
 blames_found found (Digest a b) of_bytes is = is
+blames_found found (LayerDigest a b d) of_bytes is = is
 blames_found found Failed of_bytes is = tt
 blames_found found Absent of_bytes is = absurd (of_bytes.absent refl)
 blames_found found Memory of_bytes is = is
@@ -112,7 +104,7 @@ field_given None name field n found old mid fault is width here place checks = t
 field_given (Some files) name field n found old mid fault is width here place checks = λ stands. field_file (get files name) field n found old mid fault is width here place (checks stands)
 
 -- a fault of bytes that is another's too
-blames_too : (x y : Option TableFault) (fault : TableFault) → (x ≡ Some fault → y ≡ Some fault) → Blames (Some x) fault → Blames (Some y) fault
+pub blames_too : (x y : Option TableFault) (fault : TableFault) → (x ≡ Some fault → y ≡ Some fault) → Blames (Some x) fault → Blames (Some y) fault
 blames_too x y Magic too blames = too blames
 blames_too x y (Version a) too blames = too blames
 blames_too x y (OtherModel a b) too blames = too blames
@@ -120,11 +112,12 @@ blames_too x y (Shape a b d) too blames = too blames
 blames_too x y (Length a b) too blames = too blames
 blames_too x y (Advice a b d) too blames = too blames
 blames_too x y (Digest a b) too blames = too blames
+blames_too x y (LayerDigest a b d) too blames = too blames
 blames_too x y Failed too blames = tt
 blames_too x y Absent too blames = absurd (cc blames)
 blames_too x y Memory too blames = too blames
 
-pub passed_blames : (X : Type 0) (e at : ℕ) (front rest : List Field) (field : Field) (file : Option (List ℕ)) (mid new : Source) (fault : TableFault) → mid.expected ≡ e → mid.place ≡ at + widths front
+passed_blames : (X : Type 0) (e at : ℕ) (front rest : List Field) (field : Field) (file : Option (List ℕ)) (mid new : Source) (fault : TableFault) → mid.expected ≡ e → mid.place ≡ at + widths front
     → HasPassed e at front file mid → Checks {X = X} (fault_at mid.expected mid.place field) (λ _ _. ⊤) file new (Err fault) → Checks {X = X} (fields_fault e at (front ++ field ∷ rest)) (λ _ _. ⊤) file new (Err fault)
 passed_blames X e at front rest field None mid new fault expected place passed checks = checks
 passed_blames X e at front rest field (Some bytes) mid new fault expected place passed checks =
@@ -182,13 +175,3 @@ blamed_given {X = X} (Some files) later name i all old mid new fault result is w
     subst (λ (r : Result X TableFault). Checks {X = X} (fields_fault old.expected old.place all) (λ _ _. ⊤) (get files name) new r) (sym is)
     (blamed_file X (get files name) i all old mid new fault within steps (passed stands)
     (subst (λ (h : Option Files). Given h name (λ file. IsAtFile mid file → Checks {X = X} (fault_at mid.expected mid.place (get_or all i fields.Magic)) (λ _ _. ⊤) file new (Err fault))) same checks))
-
--- the fields of the header
-pub header_given : {X : Type 0} (holds : Option Files) (name digest : List ℕ) (s : TableShape) (old new : Source) (all : List Field) (result : Result X TableFault) → all ≡ header_fields digest s → StandsAt s old 0
-    → Given holds name (λ file. IsAtFile old file → Checks (fields_fault old.expected old.place all) (λ _ _. ⊤) file new result)
-    → Given holds name (λ file. IsAtFile old file → Checks (header_fault digest s) (λ _ _. ⊤) file new result)
-unfolding header_fault
-header_given holds name digest s old new all result is stands checks =
-    let a = subst (λ (e : ℕ). Given holds name (λ file. IsAtFile old file → Checks (fields_fault e old.place all) (λ _ _. ⊤) file new result)) stands.expected checks in
-    let b = subst (λ (k : ℕ). Given holds name (λ file. IsAtFile old file → Checks (fields_fault (length_1 s) k all) (λ _ _. ⊤) file new result)) stands.place a in
-    subst (λ (l : List Field). Given holds name (λ file. IsAtFile old file → Checks (fields_fault (length_1 s) 0 l) (λ _ _. ⊤) file new result)) is b

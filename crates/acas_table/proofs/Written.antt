@@ -2,18 +2,19 @@
 use Rattle.std.proofs.Common.{◌≡◌, ℕ, ◌+◌, List, [], ◌∷◌, ◌++◌, sym, ◌∙◌, ap, subst}
 use Rattle.std.proofs.lemmas.List.{length_push}
 use Rattle.acas_units.specs.declared.pair.Entry.{Entry}
-use Rattle.acas_table.specs.Text.{base, next_base}
+use Rattle.acas_table_text.specs.Growth.{base, next_base}
 use Rattle.acas_table.specs.Pieces.{Holds}
 use Rattle.acas_table.specs.Writer.{HasWritten}
 use Rattle.acas_table.specs.declared.writer.TableWriter.{TableWriter}
-use Rattle.acas_table.proofs.Versions.{base-more}
+use Rattle.acas_table_text.specs.declared.format.Format.{Format}
+use Rattle.acas_table_text.proofs.Versions.{base-more}
 
-pub writes_layer : (old new : TableWriter) (layers : List (List Entry)) (layer : List Entry) → HasWritten old layers → new.version ≡ old.version → new.head.items ≡ old.head.items → new.given ≡ old.given + 1
-    → Holds new.pieces (next_base old.version (base old.version old.head.items layers) layer) → HasWritten new (layers ++ layer ∷ [])
-writes_layer old new layers layer written version head given holds = record {
+pub writes_layer : (old new : TableWriter) (layers : List (List Entry)) (layer : List Entry) → HasWritten old layers → new.format ≡ old.format → new.head.items ≡ old.head.items → new.given ≡ old.given + 1
+    → Holds new.pieces (next_base old.format (base old.format old.head.items layers) layer) → HasWritten new (layers ++ layer ∷ [])
+writes_layer old new layers layer written format head given holds = record {
   hashed =
       subst (λ (l : List ℕ). Holds new.pieces l)
-      (sym (ap (λ (v : ℕ). base v new.head.items (layers ++ layer ∷ [])) version ∙ ap (λ (h : List ℕ). base old.version h (layers ++ layer ∷ [])) head ∙ base-more old.version old.head.items layers layer))
+      (sym (ap (λ (f : Format). base f new.head.items (layers ++ layer ∷ [])) format ∙ ap (λ (h : List ℕ). base old.format h (layers ++ layer ∷ [])) head ∙ base-more old.format old.head.items layers layer))
       holds;
   count = length_push layers layer ∙ ap (λ (n : ℕ). n + 1) written.count ∙ sym given;
 }

@@ -1,10 +1,5 @@
-pub mod Shape
-pub mod Text
-pub mod Layers
-pub mod Faults
-pub mod Refusals
-pub mod Tables
 pub mod Pieces
 pub mod Writer
 pub mod Source
+pub mod Standing
 pub mod Reader

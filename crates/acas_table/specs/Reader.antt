@@ -4,19 +4,21 @@ use Rattle.acas_outside.specs.Files.{Files, Given}
 use Rattle.acas_outside.specs.Frame.{OnlyReads}
 use Rattle.acas_outside.specs.declared.folder.Folder.{Ghosts as FolderMeanings}
 use Rattle.acas_units.specs.declared.pair.Entry.{Entry}
-use Rattle.acas_table.specs.Text.{entry_at, length_1}
-use Rattle.acas_table.specs.Faults.{header_fault, entry_fault, first_below, tail_fault, first_fault}
-use Rattle.acas_table.specs.Shape.{entry_count}
+use Rattle.acas_table_text.specs.Format.{format_of, length_of}
+use Rattle.acas_table_text.specs.Text.{entry_at, text_of_layers}
+use Rattle.acas_table_text.specs.Faults.{header_fault, entry_fault, first_below, tail_fault, first_fault}
 use Rattle.acas_table.specs.Source.{IsAt, Takes, bytes_taken}
-use Rattle.acas_table.specs.Tables.{entries_below, flat_text}
-use Rattle.acas_table.specs.declared.shape.TableShape.{TableShape}
+use Rattle.acas_table_text.specs.Tables.{layers_at}
+use Rattle.acas_table_text.specs.declared.format.Format.{Format}
+use Rattle.acas_table_text.specs.declared.shape.TableShape.{TableShape}
 use Rattle.acas_table.specs.declared.reader.TableReader.{TableReader}
-use Rattle.acas_table.specs.declared.fault.TableFault.{TableFault}
-use Rattle.acas_table.specs.declared.fault.TableFault.TheVariants.{Failed, Absent, Memory}
+use Rattle.acas_table_text.specs.declared.fault.TableFault.{TableFault}
+use Rattle.acas_table_text.specs.declared.fault.TableFault.TheVariants.{Failed, Absent, Memory}
 
 -- what is seen of a reader
 pub record ReaderState : Type 0 where
   pub shape : TableShape
+  pub format : Format
   -- how many entries it gave
   pub given : ℕ
   -- how many bytes it took
@@ -28,6 +30,7 @@ pub record ReaderState : Type 0 where
 abbrev pub reader_state : TableReader → ReaderState
 reader_state r = record {
   shape = r.shape;
+  format = r.format;
   given = r.given;
   taken = bytes_taken r.source;
   fault = r.fault;
@@ -41,8 +44,10 @@ pub record IsNew (s : TableShape) (r : ReaderState) : Type 0 where
   pub no_fault : r.fault ≡ None
   pub not_done : r.done ≡ false
 
--- the reader stands in these bytes: it has read the header and the entries that it gave, which have no fault
+-- the reader stands in these bytes: it has read the header and, in the format that the bytes have, the entries that it
+-- gave and the digests between them, which have no fault
 pub record HasRead (digest : List ℕ) (r : TableReader) (bytes : List ℕ) : Type 0 where
+  pub format : format_of bytes ≡ r.format
   pub header : header_fault digest r.shape bytes ≡ None
   pub entries : first_below (entry_fault r.shape bytes) r.given ≡ None
   pub source : IsAt r.source bytes
@@ -67,7 +72,7 @@ Starts digest s (Some bytes) (Err fault) =
 -- `entry`, at the bytes in which the reader stands
 abbrev pub GivesEntry : List ℕ → ReaderState → List ℕ → Result Entry TableFault → Type 0
 GivesEntry digest old bytes (Ok entry) =
-    (entry ≡ entry_at bytes old.given) × (entry_fault old.shape bytes old.given ≡ None)
+    (entry ≡ entry_at old.shape bytes old.given) × (entry_fault old.shape bytes old.given ≡ None)
 GivesEntry digest old bytes (Err Failed) = ⊤
 GivesEntry digest old bytes (Err Absent) = ⊥
 GivesEntry digest old bytes (Err Memory) = ⊥
@@ -79,7 +84,7 @@ abbrev pub Finishes : {X : Type 0} → List ℕ → TableShape → List ℕ → 
 Finishes digest s bytes (Ok x) =
     (tail_fault s bytes ≡ None)
     × (first_fault digest s bytes ≡ None)
-    × (bytes ≡ flat_text digest s (entries_below bytes (entry_count s)))
+    × (bytes ≡ text_of_layers (format_of bytes) digest s (layers_at s bytes))
 Finishes digest s bytes (Err Failed) = ⊤
 Finishes digest s bytes (Err Absent) = ⊥
 Finishes digest s bytes (Err Memory) = ⊥
@@ -102,8 +107,9 @@ pub record Leaves {F X : Type 0} (d : FolderMeanings F) (old new : F) (name : Li
   pub fault : now.fault ≡ kept result
   pub again : IfSome before.fault (λ fault. result ≡ Err fault)
   pub shape : now.shape ≡ before.shape
+  pub format : now.format ≡ before.format
   pub taken : Takes d old new before.taken now.taken
-  pub most : now.taken ≤ length_1 now.shape + 1
+  pub most : now.taken ≤ length_of now.format now.shape + 1
   pub memory : FindsNow before result Memory → ⊥
   pub not_held : FindsNow before result Absent → Given (d.holds old) name (λ file. file ≡ None)
   pub frame : OnlyReads d old new (FindsNow before result Failed) (FindsNow before result Absent)

@@ -7,11 +7,12 @@ use Rattle.acas_outside.specs.Counts.{raised}
 use Rattle.acas_outside.specs.Files.{Given}
 use Rattle.acas_outside.specs.Frame.{OnlyReads}
 use Rattle.acas_outside.specs.declared.folder.Folder.{Ghosts as FolderMeanings}
-use Rattle.acas_table.specs.Text.{part, length_1}
-use Rattle.acas_table.specs.Faults.{end_fault}
-use Rattle.acas_table.specs.declared.shape.TableShape.{TableShape}
-use Rattle.acas_table.specs.declared.fault.TableFault.{TableFault}
-use Rattle.acas_table.specs.declared.fault.TableFault.TheVariants as faults
+use Rattle.acas_table_text.specs.Format.{format_of, length_of, part}
+use Rattle.acas_table_text.specs.declared.format.Format.{Format}
+use Rattle.acas_table_text.specs.Faults.{end_fault}
+use Rattle.acas_table_text.specs.declared.shape.TableShape.{TableShape}
+use Rattle.acas_table_text.specs.declared.fault.TableFault.{TableFault}
+use Rattle.acas_table_text.specs.declared.fault.TableFault.TheVariants as faults
 use Rattle.acas_table.specs.declared.source.Source.{Source}
 
 -- the place before which the digest has taken in all
@@ -80,11 +81,16 @@ Checks fault P None new (Ok x) = ⊥
 Checks fault P (Some bytes) new (Ok x) = (fault bytes ≡ None) × P x bytes × IsAt new bytes
 Checks fault P file new (Err f) = Blames (option_map fault file) f
 
--- the source is of a table of a shape, and stands at this place
-pub record StandsAt (s : TableShape) (source : Source) (at : ℕ) : Type 0 where
+-- a file that is held is of a format
+abbrev pub IsOfFormat : Format → Option (List ℕ) → Type 0
+IsOfFormat f None = ⊤
+IsOfFormat f (Some bytes) = format_of bytes ≡ f
+
+-- the source is of a table of a format and a shape, and stands at this place
+pub record StandsAt (f : Format) (s : TableShape) (source : Source) (at : ℕ) : Type 0 where
   pub place : source.place ≡ at
-  pub limit : source.limit ≡ length_1 s + 1
-  pub expected : source.expected ≡ length_1 s
+  pub limit : source.limit ≡ length_of f s + 1
+  pub expected : source.expected ≡ length_of f s
 
 -- so many bytes are at hand, or the file ends before
 pub record Fills {F X : Type 0} (d : FolderMeanings F) (old new : F) (name : List ℕ) (before now : Source) (wanted : ℕ)

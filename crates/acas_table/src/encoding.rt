@@ -2,27 +2,27 @@
 ghost use Rattle.std.specs.Prelude.{◌≡◌, ◌≤◌, ◌*◌, ◌++◌, length, take, IfOk, OnOk};
 ghost use Rattle.acas_outside.specs.Bytes.{IsBytes};
 ghost use Rattle.std.specs.Int.{w64, cast_unsigned};
-ghost use Rattle.byteorder.specs.Endian.{little_bytes};
-ghost use Rattle.acas_table.specs.Text.{entry_of, entry_text, header, layer_of, layer_text};
+ghost use Rattle.byteorder.specs.Endian.{little_bytes, little_number};
+ghost use Rattle.acas_table_text.specs.Text.{entry_of, entry_text, header, layer_of, layer_text};
 
-use crate::shape::TableShape;
+use acas_table_text::{Format, TableShape};
 use acas_units::{Entry, Pair};
 use byteorder::{ByteOrder, LittleEndian};
 use std::alloc::{AllocError, Global};
 
 /// The header of a table, from the digest of its model's text.
-#[tactic(auto, unfolding(crate::specs::Text::header))]
+#[tactic(auto, unfolding(acas_table_text::specs::Text::header))]
 pub fn header_bytes(
     alloc: Global,
-    version: u32,
+    format: Format,
     shape: &TableShape,
     model: &[u8; 32],
 ) -> Result<Vec<u8>, AllocError>
-    ensures { IfOk result (λ v. v.items ≡ header version model.now shape.now) }
+    ensures { IfOk result (λ v. v.items ≡ header format model.now shape.now) }
 {
     let mut head = Vec::new(alloc);
     head.extend_from_slice(b"ACXT")?;
-    push_number(&mut head, version)?;
+    push_number(&mut head, format.version())?;
     head.extend_from_slice(model)?;
     push_number(&mut head, shape.altitudes)?;
     push_number(&mut head, shape.own_rates)?;
@@ -56,7 +56,7 @@ pub fn encode_entries(out: &mut [u8], pairs: &[Pair], advice: &[u8])
     }
 }
 
-#[tactic(auto, unfolding(crate::specs::Text::entry_text))]
+#[tactic(auto, unfolding(acas_table_text::specs::Text::entry_text))]
 fn entry_bytes(entry: &Entry) -> [u8; 17]
     ensures { result ≡ entry_text entry.now }
 {
@@ -92,7 +92,7 @@ fn value_bytes(value: i64) -> [u8; 8]
 }
 
 /// The entry that 17 bytes are.
-#[tactic(auto, unfolding(crate::specs::Text::entry_of))]
+#[tactic(auto, unfolding(acas_table_text::specs::Text::entry_of))]
 pub fn decode_entry(field: &[u8]) -> Entry
     requires { length field.now ≡ 17 }
     ensures value { result ≡ entry_of field.now }
@@ -105,4 +105,13 @@ pub fn decode_entry(field: &[u8]) -> Entry
         },
         advice: field[16],
     }
+}
+
+/// The number that four bytes are.
+pub fn decode_number(field: &[u8]) -> u32
+    requires { length field.now ≡ 4 }
+    ensures value { result ≡ little_number 4 field.now }
+    ensures bytes { IsBytes field.now }
+{
+    LittleEndian::read_u32(field)
 }

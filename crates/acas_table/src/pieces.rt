@@ -27,7 +27,7 @@ impl Pieces {
     ghost use Rattle.acas_outside.specs.Files.{Given, Grows, GrowsPart};
     ghost use Rattle.acas_outside.specs.Frame.{OnlyWrites};
     ghost use Rattle.acas_table.specs.Pieces.{Appends, Holds};
-    ghost use Rattle.acas_table.specs.Text.{layer_text, layer_of};
+    ghost use Rattle.acas_table_text.specs.Text.{layer_text, layer_of};
 
     /// Room for pieces that follow these bytes.
     pub fn behind(alloc: Global, head: &[u8]) -> Result<Pieces, AllocError>

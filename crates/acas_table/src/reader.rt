@@ -1,37 +1,43 @@
 //! The reader of a table.
-ghost use Rattle.std.specs.Prelude.{◌≡◌, ◌≤◌, ◌+◌, ◌*◌, false};
+ghost use Rattle.std.specs.Prelude.{◌≡◌, ◌≤◌, ◌+◌, false};
 ghost use Rattle.std.specs.Option.{ForNone};
-ghost use Rattle.acas_table.specs.Shape.{IsShape, entry_count};
-ghost use Rattle.acas_table.specs.Text.{length_1};
+ghost use Rattle.acas_table_text.specs.Shape.{IsShape, entry_count};
+ghost use Rattle.acas_table_text.specs.Format.{group_size, length_of};
+ghost use Rattle.acas_table.specs.Standing.{StandsIn};
 
 use crate::body::{read_end, read_entry};
-use crate::fault::TableFault;
-use crate::header::check_header;
-use crate::shape::TableShape;
+use crate::header::{check_model, read_format};
+use crate::place::GroupPlace;
 use crate::source::Source;
 use acas_base::Model;
 use acas_outside::Folder;
+use acas_table_text::{Format, TableFault, TableShape};
 use acas_units::Entry;
 use std::alloc::Global;
 
-/// A table of version 1, as it is read entry by entry.
+/// A table of either version, as it is read entry by entry. A digest is read with the first entry behind it, before
+/// that entry, and the last digest at the end.
 ///
 /// It counts the bytes that it takes of its file, from 0 on. Over every folder each call raises the folder's count by
-/// just as much as its own. Its own is at most one more than the table's length, and just that length where `finish`
-/// answers `Ok`: no byte is read twice.
+/// just as much as its own. Its own is at most one more than the length of a table of the version that was read, and
+/// just that length where `finish` answers `Ok`: no byte is read twice.
 #[derive(Drop)]
 pub struct TableReader {
     shape: TableShape,
+    format: Format,
+    group: u32,
     source: Source,
     given: u32,
+    place: GroupPlace,
     fault: Option<TableFault>,
     done: bool,
     ghost limited: { IsShape shape },
+    ghost sized: { group ≡ group_size format shape },
     ghost count: { given ≤ entry_count shape },
-    ghost limit: { source.limit ≡ length_1 shape + 1 },
-    ghost expected: { source.expected ≡ length_1 shape },
-    ghost place: { ForNone fault (done ≡ false → source.place ≡ 60 + 17 * given) },
-    ghost mark: { ForNone fault (done ≡ false → source.mark ≡ 0) },
+    ghost limit: { source.limit ≡ length_of format shape + 1 },
+    ghost expected: { source.expected ≡ length_of format shape },
+    ghost stands: { ForNone fault (done ≡ false →
+        StandsIn format shape source given place.groups place.left) },
 }
 
 impl TableReader {
@@ -39,8 +45,8 @@ impl TableReader {
     ghost use Rattle.acas_outside.specs.Counts.{raised};
     ghost use Rattle.acas_outside.specs.Files.{Given};
     ghost use Rattle.acas_outside.specs.Frame.{OnlyReads};
-    ghost use Rattle.acas_table.specs.Shape.{entry_count, shape_of};
-    ghost use Rattle.acas_table.specs.Text.{length_1};
+    ghost use Rattle.acas_table_text.specs.Shape.{entry_count, shape_of};
+    ghost use Rattle.acas_table_text.specs.Format.{expected_length, length_of};
     ghost use Rattle.acas_table.specs.Source.{Takes};
     ghost use Rattle.acas_table.specs.Reader.{reader_state, IsNew, HasRead, Leaves, Told, Starts, GivesEntry, Finishes};
 
@@ -57,9 +63,13 @@ impl TableReader {
             Starts digest.now (shape_of model.now.grid) file result) }
         ensures state { IfOk result (λ r. IsNew (shape_of model.now.grid) (reader_state r)) }
         ensures taken { IfOk result (λ r. Takes F.Folder folder.old folder.new 0 (reader_state r).taken) }
-        ensures most { IfOk result (λ r. (reader_state r).taken ≤ length_1 (shape_of model.now.grid) + 1) }
-        ensures most_taken { let most = length_1 (shape_of model.now.grid) + 1 in
+        ensures most { IfOk result (λ r.
+            (reader_state r).taken ≤ length_of (reader_state r).format (shape_of model.now.grid) + 1) }
+        ensures most_taken { let most = length_of Format.Layered (shape_of model.now.grid) + 1 in
             F.taken folder.new ≤ raised (F.taken folder.old) most }
+        ensures most_of_file { Told (F.holds folder.old) name.now (λ bytes.
+            let most = expected_length (shape_of model.now.grid) bytes + 1 in
+            F.taken folder.new ≤ raised (F.taken folder.old) most) }
         ensures frame { OnlyReads F.Folder folder.old folder.new
             (IsErrOf result TableFault.Failed) (IsErrOf result TableFault.Absent) }
     {
@@ -79,27 +89,39 @@ impl TableReader {
         ensures given { Given (F.holds folder.old) name.now (λ file. Starts digest.now shape file result) }
         ensures state { IfOk result (λ r. IsNew shape (reader_state r)) }
         ensures taken { IfOk result (λ r. Takes F.Folder folder.old folder.new 0 (reader_state r).taken) }
-        ensures most { IfOk result (λ r. (reader_state r).taken ≤ length_1 shape + 1) }
-        ensures most_taken { F.taken folder.new ≤ raised (F.taken folder.old) (length_1 shape + 1) }
+        ensures most { IfOk result (λ r.
+            (reader_state r).taken ≤ length_of (reader_state r).format shape + 1) }
+        ensures most_taken { let most = length_of Format.Layered shape + 1 in
+            F.taken folder.new ≤ raised (F.taken folder.old) most }
+        ensures most_of_file { Told (F.holds folder.old) name.now (λ bytes.
+            F.taken folder.new ≤ raised (F.taken folder.old) (expected_length shape bytes + 1)) }
         ensures frame { OnlyReads F.Folder folder.old folder.new
             (IsErrOf result TableFault.Failed) (IsErrOf result TableFault.Absent) }
     {
-        let Ok(mut source) = Source::new(alloc, shape.length()) else {
+        // The version says how long the file is to be; before it is read, no byte behind it is taken.
+        let Ok(mut source) = Source::new(alloc, Format::Layered.length(&shape), 8) else {
             return Err(TableFault::Memory);
         };
-        match check_header(&mut source, &shape, digest, folder, name) {
-            Ok(()) => Ok(TableReader {
-                shape,
-                source,
-                given: 0,
-                fault: None,
-                done: false,
-            }),
-            Err(fault) => Err(fault),
-        }
+        let format = read_format(&mut source, folder, name)?;
+        source.expect(format.length(&shape));
+        check_model(&mut source, format, &shape, digest, folder, name)?;
+        let group = format.group_size(&shape);
+        Ok(TableReader {
+            shape,
+            format,
+            group,
+            source,
+            given: 0,
+            place: GroupPlace {
+                groups: 0,
+                left: group,
+            },
+            fault: None,
+            done: false,
+        })
     }
 
-    /// Reads the next entry.
+    /// Reads the next entry, and before it the digest that stands between it and the last one, where one does.
     pub fn entry<F: Folder>(&mut self, folder: &mut F, name: &str) -> Result<Entry, TableFault>
         requires served { IsTrue (F.serves folder.old name.now) }
         requires more { (reader_state self.old).given < entry_count (reader_state self.old).shape }
@@ -117,9 +139,19 @@ impl TableReader {
         if let Some(fault) = self.fault {
             return Err(fault);
         }
-        match read_entry(&mut self.source, &self.shape, self.given, folder, name) {
+        let ended = self.place.ended();
+        match read_entry(
+            &mut self.source,
+            self.format,
+            &self.shape,
+            self.given,
+            ended,
+            folder,
+            name,
+        ) {
             Ok(entry) => {
                 self.given += 1;
+                self.place = self.place.next(self.group);
                 Ok(entry)
             }
             Err(fault) => {
@@ -129,7 +161,7 @@ impl TableReader {
         }
     }
 
-    /// Reads the digest and the end.
+    /// Reads the last digest and the end.
     pub fn finish<F: Folder>(&mut self, folder: &mut F, name: &str) -> Result<(), TableFault>
         requires served { IsTrue (F.serves folder.old name.now) }
         requires all { (reader_state self.old).given ≡ entry_count (reader_state self.old).shape }
@@ -138,15 +170,15 @@ impl TableReader {
             HasRead digest self.old bytes → Finishes digest (reader_state self.old).shape bytes result) }
         ensures count { (reader_state self.new).given ≡ (reader_state self.old).given }
         ensures done { (reader_state self.new).done ≡ is_ok result }
-        ensures all_taken { OnOk result
-            ((reader_state self.new).taken ≡ length_1 (reader_state self.new).shape) }
+        ensures all_taken { let now = reader_state self.new in
+            OnOk result (now.taken ≡ length_of now.format now.shape) }
         ensures leaves { Leaves F.Folder folder.old folder.new name.now
             (reader_state self.old) (reader_state self.new) result }
     {
         if let Some(fault) = self.fault {
             return Err(fault);
         }
-        match read_end(&mut self.source, &self.shape, folder, name) {
+        match read_end(&mut self.source, self.format, &self.shape, folder, name) {
             Ok(()) => {
                 self.done = true;
                 Ok(())

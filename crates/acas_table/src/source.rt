@@ -3,10 +3,9 @@
 //! The digest takes in large pieces: what was read stays in the buffer until more bytes are wanted or the digest is.
 ghost use Rattle.std.specs.Prelude.{◌≡◌, ◌≤◌, ◌<◌, ◌+◌, ◌-◌, ◌^◌, length, IfOk};
 
-use crate::encoding::decode_entry;
-use crate::fault::TableFault;
-use crate::field::Field;
+use crate::encoding::{decode_entry, decode_number};
 use acas_outside::{Folder, ReadMiss};
+use acas_table_text::{Field, Format, TableFault};
 use acas_units::Entry;
 use sha2::{Digest, Sha256};
 use std::alloc::{AllocError, Global};
@@ -16,6 +15,9 @@ const PIECE: usize = 65_535;
 
 /// How many bytes an entry has.
 const ENTRY: usize = 17;
+
+/// How many bytes a version has.
+const VERSION: usize = 4;
 
 #[derive(Drop)]
 pub struct Source {
@@ -38,20 +40,21 @@ pub struct Source {
 }
 
 impl Source {
-    ghost use Rattle.std.specs.Prelude.{◌≡◌, ◌≤◌, ◌<◌, ◌+◌, ◌-◌, ◌^◌, List, ℕ, IsTrue, OnErr, OnOk, IfOk, Option, length, ⊤};
+    ghost use Rattle.std.specs.Prelude.{◌≡◌, ◌≤◌, ◌<◌, ◌+◌, ◌-◌, ◌^◌, List, ℕ, IsTrue, OnErr, OnOk, IfOk, Option, Some, length, ⊤};
     ghost use Rattle.sha2.specs.Sha256.{sha256};
-    ghost use Rattle.acas_table.specs.Text.{entry_of, part};
-    ghost use Rattle.acas_table.specs.Faults.{end_fault, fault_at, fields_fault, more_fault, width_of, widths};
+    ghost use Rattle.byteorder.specs.Endian.{little_number};
+    ghost use Rattle.acas_table_text.specs.Format.{format_of_version, part};
+    ghost use Rattle.acas_table_text.specs.Text.{entry_of};
+    ghost use Rattle.acas_table_text.specs.Faults.{end_fault, fault_at, fields_fault, more_fault, width_of, widths};
     ghost use Rattle.acas_outside.specs.Files.{Given};
     ghost use Rattle.acas_outside.specs.Bytes.{IsBytes};
     ghost use Rattle.acas_table.specs.Source.{IsAt, IsAtFile, Moves, Checks, Fills, Finds, ReadsTable, Steps, bytes_taken};
 
-    /// A source at the front of a file that is to have so many bytes.
-    pub fn new(alloc: Global, expected: u64) -> Result<Source, AllocError>
-        requires { expected < 2 ^ 63 }
+    /// A source at the front of a file that is to have so many bytes, and takes no more than `limit` bytes of it.
+    pub fn new(alloc: Global, expected: u64, limit: u64) -> Result<Source, AllocError>
         ensures place { IfOk result (λ s. s.place ≡ 0) }
         ensures expected { IfOk result (λ s. s.expected ≡ expected) }
-        ensures limit { IfOk result (λ s. s.limit ≡ expected + 1) }
+        ensures limit { IfOk result (λ s. s.limit ≡ limit) }
         ensures mark { IfOk result (λ s. s.mark ≡ 0) }
         ensures taken { IfOk result (λ s. bytes_taken s ≡ 0) }
         ensures at { IfOk result (λ s. (file : Option (List ℕ)) → IsAtFile s file) }
@@ -62,11 +65,26 @@ impl Source {
             from: 0,
             to: 0,
             place: 0,
-            limit: expected + 1,
+            limit,
             expected,
             mark: 0,
             hasher: Sha256::new(),
         })
+    }
+
+    /// Expects a file of so many bytes from now on, and takes at most one byte more.
+    pub fn expect(&mut self, expected: u64)
+        requires most { expected < 2 ^ 63 }
+        requires taken { bytes_taken self.old ≤ expected + 1 }
+        ensures at { (file : Option (List ℕ)) → IsAtFile self.old file → IsAtFile self.new file }
+        ensures place { self.new.place ≡ self.old.place }
+        ensures expected { self.new.expected ≡ expected }
+        ensures limit { self.new.limit ≡ expected + 1 }
+        ensures mark { self.new.mark ≡ self.old.mark }
+        ensures taken { bytes_taken self.new ≡ bytes_taken self.old }
+    {
+        self.expected = expected;
+        self.limit = expected + 1;
     }
 
     // Reads more bytes behind those at hand.
@@ -229,7 +247,8 @@ impl Source {
         requires some { 0 < length fields.now }
         requires limit { self.old.place + widths fields.now ≤ self.old.limit }
         ensures given { Given (F.holds folder.old) name.now (λ file. IsAtFile self.old file →
-            Checks (fields_fault self.old.expected self.old.place fields.now) (λ _ _. ⊤) file self.new result) }
+            Checks (fields_fault self.old.expected self.old.place fields.now) (λ _ _. ⊤)
+            file self.new result) }
         ensures steps { OnOk result (Steps self.old self.new (widths fields.now)) }
         ensures reads { ReadsTable F.Folder folder.old folder.new name.now self.old self.new result }
     {
@@ -237,6 +256,26 @@ impl Source {
             self.check(field, folder, name)?;
         }
         Ok(())
+    }
+
+    /// The next four bytes of the file, which are its version and say its format.
+    pub fn version<F: Folder>(&mut self, folder: &mut F, name: &str) -> Result<Format, TableFault>
+        requires served { IsTrue (F.serves folder.old name.now) }
+        requires limit { self.old.place + 4 ≤ self.old.limit }
+        ensures given { Given (F.holds folder.old) name.now (λ file. IsAtFile self.old file →
+            Checks (fault_at self.old.expected self.old.place Field.Version)
+            (λ format bytes. format_of_version (little_number 4 (part bytes self.old.place 4)) ≡ Some format)
+            file self.new result) }
+        ensures steps { OnOk result (Steps self.old self.new 4) }
+        ensures reads { ReadsTable F.Folder folder.old folder.new name.now self.old self.new result }
+    {
+        self.fill(folder, name, VERSION)?;
+        let found = decode_number(self.at_hand(VERSION));
+        self.pass(VERSION);
+        match Format::of_version(found) {
+            Some(format) => Ok(format),
+            None => Err(TableFault::Version { found }),
+        }
     }
 
     /// The next entry of the file, which the digest takes in.

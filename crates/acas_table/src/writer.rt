@@ -1,13 +1,13 @@
 //! The writer of a table.
 ghost use Rattle.std.specs.Prelude.{◌≤◌, ◌+◌};
-ghost use Rattle.acas_table.specs.Shape.{IsShape};
+ghost use Rattle.acas_table_text.specs.Shape.{IsShape};
 
 use crate::encoding::header_bytes;
 use crate::parts::{append_ending, append_layer};
 use crate::pieces::Pieces;
-use crate::shape::TableShape;
 use acas_base::Model;
 use acas_outside::{Failed, Folder, store_file};
+use acas_table_text::{Format, TableShape};
 use acas_units::Pair;
 use std::alloc::{AllocError, Global};
 
@@ -27,7 +27,7 @@ pub enum Phase {
 /// A table, as it is written layer by layer. No call but the one that makes the writer takes memory.
 #[derive(Drop)]
 pub struct TableWriter {
-    version: u32,
+    format: Format,
     shape: TableShape,
     head: Vec<u8>,
     pieces: Pieces,
@@ -38,24 +38,26 @@ pub struct TableWriter {
 }
 
 impl TableWriter {
-    ghost use Rattle.std.specs.Prelude.{◌≡◌, ◌⊎◌, ◌≤◌, ◌<◌, ◌+◌, ◌++◌, ◌∷◌, [], List, IfOk, OnOk, OnErr, IsErr, IsSome, IsTrue, length, is_ok, if◌then◌else◌};
+    ghost use Rattle.std.specs.Prelude.{◌≡◌, ◌⊎◌, ◌≤◌, ◌<◌, ◌+◌, ◌++◌, ◌∷◌, [], List, IfOk, OnOk, OnErr, IsErr, IsSome, IsTrue, length, is_ok, if◌then◌else◌, Some};
+    ghost use Rattle.std.specs.Option.{option_map};
     ghost use Rattle.acas_units.specs.declared.pair.Entry.{Entry as TableEntry};
     ghost use Rattle.acas_outside.specs.Files.{Given, Grows, GrowsPart, Stores, StoresPart};
     ghost use Rattle.acas_outside.specs.Frame.{OnlyWrites};
-    ghost use Rattle.acas_table.specs.Shape.{shape_of};
-    ghost use Rattle.acas_table.specs.Text.{layer_of, length_of};
+    ghost use Rattle.acas_table_text.specs.Shape.{shape_of};
+    ghost use Rattle.acas_table_text.specs.Text.{layer_of};
+    ghost use Rattle.acas_table_text.specs.Format.{format_of_version, length_of};
     ghost use Rattle.acas_table.specs.Writer.{writer_state, new_writer, HasWritten, next_bytes, last_bytes};
 
-    /// A writer of tables of version 1 for a model, whose text has this digest.
+    /// A writer of tables of version 2 for a model, whose text has this digest.
     pub fn new(alloc: Global, model: &Model, digest: &[u8; 32]) -> Result<TableWriter, AllocError>
         ensures state { IfOk result (λ w.
-            writer_state w ≡ new_writer 1 digest.now (shape_of model.now.grid)) }
+            writer_state w ≡ new_writer Format.Layered digest.now (shape_of model.now.grid)) }
         ensures written { IfOk result (λ w. HasWritten w []) }
     {
-        TableWriter::of_version(alloc, model, digest, 1)
+        TableWriter::of_shape(alloc, TableShape::of(model), digest, Format::Layered)
     }
 
-    /// A writer of version 1, or of version 2, in which each layer has its digest behind it.
+    /// A writer of tables of version 1, with one digest at the end, or of version 2, with a digest behind each layer.
     pub fn of_version(
         alloc: Global,
         model: &Model,
@@ -64,28 +66,33 @@ impl TableWriter {
     ) -> Result<TableWriter, AllocError>
         requires { (version ≡ 1) ⊎ (version ≡ 2) }
         ensures state { IfOk result (λ w.
-            writer_state w ≡ new_writer version digest.now (shape_of model.now.grid)) }
+            Some (writer_state w) ≡ option_map (λ f. new_writer f digest.now (shape_of model.now.grid))
+            (format_of_version version)) }
         ensures written { IfOk result (λ w. HasWritten w []) }
     {
-        TableWriter::of_shape(alloc, TableShape::of(model), digest, version)
+        let format = if version == 1 {
+            Format::Whole
+        } else {
+            Format::Layered
+        };
+        TableWriter::of_shape(alloc, TableShape::of(model), digest, format)
     }
 
-    /// A writer of either version of tables of a shape.
+    /// A writer of tables of a shape in either format.
     pub(crate) fn of_shape(
         alloc: Global,
         shape: TableShape,
         digest: &[u8; 32],
-        version: u32,
+        format: Format,
     ) -> Result<TableWriter, AllocError>
-        requires version { (version ≡ 1) ⊎ (version ≡ 2) }
         requires limited { IsShape shape }
-        ensures state { IfOk result (λ w. writer_state w ≡ new_writer version digest.now shape) }
+        ensures state { IfOk result (λ w. writer_state w ≡ new_writer format digest.now shape) }
         ensures written { IfOk result (λ w. HasWritten w []) }
     {
-        let head = header_bytes(alloc, version, &shape, digest)?;
+        let head = header_bytes(alloc, format, &shape, digest)?;
         let pieces = Pieces::behind(alloc, &head)?;
         Ok(TableWriter {
-            version,
+            format,
             shape,
             head,
             pieces,
@@ -114,7 +121,7 @@ impl TableWriter {
         Ok(())
     }
 
-    /// Appends the next layer, the values and the advices of its states by number.
+    /// Appends the next layer, the values and the advices of its states by number, and in version 2 its digest.
     pub fn layer<F: Folder>(
         &mut self,
         folder: &mut F,
@@ -142,13 +149,13 @@ impl TableWriter {
         ensures frame { OnlyWrites F.Folder folder.old folder.new (IsErr result) }
     {
         self.phase = Phase::Failed;
-        append_layer(&mut self.pieces, self.version, pairs, advice, folder, name)?;
+        append_layer(&mut self.pieces, self.format, pairs, advice, folder, name)?;
         self.phase = Phase::Started;
         self.given += 1;
         Ok(())
     }
 
-    /// Appends what follows the layers, and answers the table's length.
+    /// Appends what follows the layers, in version 1 a digest and in version 2 nothing, and answers the table's length.
     pub fn finish<F: Folder>(&mut self, folder: &mut F, name: &str) -> Result<u64, Failed>
         requires served { IsTrue (F.serves folder.old name.now) }
         requires held { Given (F.holds folder.old) name.now (λ file. IsSome file) }
@@ -161,18 +168,14 @@ impl TableWriter {
             (GrowsPart (F.holds folder.old) (F.holds folder.new) name.now
             (last_bytes (writer_state self.old) layers)) }
         ensures length { let old = writer_state self.old in
-            IfOk result (λ n. n ≡ length_of old.version old.shape) }
+            IfOk result (λ n. n ≡ length_of old.format old.shape) }
         ensures state { let phase = if is_ok result then Phase.Finished else Phase.Failed in
             writer_state self.new ≡ record (writer_state self.old) { phase = phase } }
         ensures frame { OnlyWrites F.Folder folder.old folder.new (IsErr result) }
     {
         self.phase = Phase::Failed;
-        append_ending(&mut self.pieces, self.version, folder, name)?;
+        append_ending(&mut self.pieces, self.format, folder, name)?;
         self.phase = Phase::Finished;
-        Ok(if self.version == 1 {
-            self.shape.length()
-        } else {
-            self.shape.length_2()
-        })
+        Ok(self.format.length(&self.shape))
     }
 }

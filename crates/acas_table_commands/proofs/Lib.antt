@@ -1,2 +1,3 @@
 mod Swept
 pub mod Worth
+pub mod MigratedTables

@@ -13,7 +13,8 @@ use Rattle.acas_process.proofs.BoundLaws.{two_sided_bounds}
 use Rattle.acas_process.proofs.CompiledLaws.{compiled_is_sound, compiled_is_tight}
 use Rattle.acas_accept.specs.Accepted.{IsAcceptedTable}
 use Rattle.acas_accept.specs.GivenTable.{given_table}
-use Rattle.acas_table.specs.declared.refusal.TableRefusal.{TableRefusal}
+use Rattle.acas_table_text.specs.declared.format.Format.TheVariants.{Layered}
+use Rattle.acas_table_text.specs.declared.refusal.TableRefusal.{TableRefusal}
 use Rattle.acas_accept.proofs.CompiledTables.{compiled_is_accepted}
 use Rattle.acas_accept.proofs.Tables.{given_is_accepted}
 use Rattle.acas_command.specs.Answers.{Agrees, Answers, Completes, Refuses}
@@ -30,12 +31,12 @@ use Rattle.acas_table_file.proofs.Files.{behind-table, read-table, rejects-table
 use Rattle.acas_table_file.specs.Worth.{RejectsTable}
 use Rattle.acas_table_commands.specs.AcceptedLine.{accepted_line}
 use Rattle.acas_table_commands.specs.Calls.{CallsForCheck, CallsForCompile, CallsForValues, check_of, compile_of, values_of}
-use Rattle.acas_table_commands.specs.CompiledLine.{compiled_line}
+use Rattle.acas_table_commands.specs.StoredLine.{compiled_line}
 use Rattle.acas_table_rows.specs.TableFile.{compiled_text}
 use Rattle.acas_table_lines.specs.ValuesText.{values_text}
 use Rattle.acas_table_commands.specs.Worth.{AcceptsTable, CheckIsWorth, CompileIsWorth, PrintsTable, StoresTable, ValuesIsWorth}
 
-prints-cause : (o o' : Outcome) → o ≡ o' → MayPrint o'.cause → MayPrint o.cause
+pub prints-cause : (o o' : Outcome) → o ≡ o' → MayPrint o'.cause → MayPrint o.cause
 prints-cause o o' same h = subst (λ (p : Outcome). MayPrint p.cause) (sym same) h
 
 -- what `values` goes on with
@@ -85,7 +86,7 @@ stores-table model table files after o called prints stored =
       says = says;
       bounds = two_sided_bounds b.m (compiled b.m) says.text.within (compiled_is_sound b.m says.text.within);
       tight = compiled_is_tight b.m says.text.within;
-      accepted = compiled_is_accepted b.m (sha256 b.bytes) says.text.within;
+      accepted = compiled_is_accepted b.m Layered (sha256 b.bytes) says.text.within;
       stored = subst (λ (p : Outcome). after.holds ≡ Some (with_file p.file files)) (called ∙ b.is) stored;
     }
 
@@ -114,7 +115,7 @@ line_of_check m bytes = prints (accepted_line m.grid)
 abbrev pub rest_of_check : Option (List ℕ) → List ℕ → ModelData → Outcome
 rest_of_check file digest m = with_table m digest file (line_of_check m)
 
-bytes-of : (file : Option (List ℕ)) (bytes : List ℕ) → file ≡ Some bytes → IsSomeAnd file IsBytes → IsBytes bytes
+pub bytes-of : (file : Option (List ℕ)) (bytes : List ℕ) → file ≡ Some bytes → IsSomeAnd file IsBytes → IsBytes bytes
 bytes-of file bytes there h = let some : IsSomeAnd (Some bytes) IsBytes = subst (λ (f : Option (List ℕ)). IsSomeAnd f IsBytes) there h in some
 
 accepts-table : (model table : List ℕ) (files : Files) (before after : Outside) → Completes (CallsForCheck model table) files Done before after → IsSomeAnd (get files table) IsBytes

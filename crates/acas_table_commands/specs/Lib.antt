@@ -1,4 +1,4 @@
-pub mod CompiledLine
+pub mod StoredLine
 pub mod AcceptedLine
 pub mod Calls
 pub mod Work

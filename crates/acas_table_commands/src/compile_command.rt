@@ -1,16 +1,13 @@
 //! The command `compile`.
-ghost use Rattle.std.specs.Prelude.{◌≤◌, ◌^◌, [], ◌≡◌, IsErrOf, IsTrue};
+ghost use Rattle.std.specs.Prelude.{◌≤◌, ◌^◌, IsErrOf, IsTrue};
 ghost use Rattle.acas_outside.specs.Frame.{ReadsAndWrites};
 ghost use Rattle.acas_outside.specs.Outside.{outside};
-ghost use Rattle.acas_table.specs.Shape.{shape_of};
-ghost use Rattle.acas_table.specs.Text.{length_1};
 ghost use Rattle.acas_command.specs.Answers.{Answers, ended};
 ghost use Rattle.acas_table_commands.specs.Calls.{CallsForCompile};
-ghost use Rattle.acas_table_commands.specs.CompiledLine.{compiled_line};
 ghost use Rattle.acas_table_commands.specs.Work.{CountsSweep};
 
-use acas_command::{Cause, put_count, put_text, read_model_file};
-use acas_grid::Grid;
+use crate::stored_line::write_stored_line;
+use acas_command::{Cause, read_model_file};
 use acas_outside::{Folder, Sink, emit};
 use acas_plane::Turned;
 use acas_step::LayerMeans;
@@ -22,8 +19,9 @@ use acas_table_rows::store_swept;
 use acas_units::Line;
 use std::alloc::Global;
 
-/// Stores the compiled table of a model under another name, and then prints how large it is. It takes all its memory before it
-/// creates the table's file. It counts the backups and the turned pairs of its sweep; each count is to be at most 2^63 before.
+/// Stores the compiled table of a model under another name, in version 2, and then prints how large it is. It takes all
+/// its memory before it creates the table's file. It counts the backups and the turned pairs of its sweep; each count
+/// is to be at most 2^63 before.
 pub fn compile<F: Folder, O: Sink>(
     alloc: Global,
     model: &str,
@@ -58,25 +56,9 @@ pub fn compile<F: Folder, O: Sink>(
         Ok(length) => length,
         Err(_) => return Err(Cause::Folder),
     };
-    write_line(&mut line, found.model.grid(), length);
+    write_stored_line(&mut line, "compiled", found.model.grid(), length);
     match emit(out, line.bytes()) {
         Ok(()) => Ok(()),
         Err(_) => Err(Cause::Output),
     }
-}
-
-// Makes the line of a table of this length over a grid.
-#[tactic(auto, unfolding(crate::specs::CompiledLine::compiled_line))]
-fn write_line(line: &mut Line, grid: &Grid, length: u64)
-    requires empty { line.old ≡ [] }
-    requires length { length ≡ length_1 (shape_of grid.now) }
-    ensures { line.new ≡ compiled_line grid.now }
-{
-    put_text(line, "compiled layers ");
-    put_count(line, u64::from(grid.horizon) + 1);
-    put_text(line, " states ");
-    put_count(line, u64::from(grid.states()));
-    put_text(line, " bytes ");
-    put_count(line, length);
-    put_text(line, "\n");
 }

@@ -16,8 +16,8 @@ use acas_sweep::SweepRoom;
 use acas_table_lines::{Pen, print_table};
 use std::alloc::Global;
 
-/// Prints the compiled table of a model, layer by layer as the sweep goes. It takes all its memory before the first byte goes out. It
-/// counts the backups and the turned pairs of its sweep; each count is to be at most 2^63 before.
+/// Prints the compiled table of a model, layer by layer as the sweep goes. It takes all its memory before the first
+/// byte goes out. It counts the backups and the turned pairs of its sweep; each count is to be at most 2^63 before.
 pub fn values<F: Folder, O: Sink>(
     alloc: Global,
     model: &str,

@@ -8,9 +8,11 @@ use Rattle.acas_spec.specs.Model.{ModelData}
 use Rattle.acas_spec.specs.Table.{Table}
 use Rattle.acas_grid.specs.Grid.{state_number, vertex_number}
 use Rattle.acas_base.specs.Advices.{AdvicesData}
+use Rattle.acas_layers.specs.Layers.{LayersData}
 use Rattle.acas_step.proofs.NumberedStates.{state_number-below}
 use Rattle.acas_outside.specs.Files.{Files, Given}
-use Rattle.acas_table.specs.declared.refusal.TableRefusal.{TableRefusal}
+use Rattle.acas_table_text.specs.declared.refusal.TableRefusal.{TableRefusal}
+use Rattle.acas_accept.specs.Answers.{HasLayers}
 use Rattle.acas_accept.specs.Refusals.{first_refusal}
 use Rattle.acas_accept.proofs.Tables.{accepted_has_none, given_is_accepted}
 use Rattle.acas_accept.specs.Accepted.{IsAcceptedTable}
@@ -24,7 +26,7 @@ use Rattle.acas_input.specs.declared.fault.InputFault.{InputFault}
 use Rattle.acas_command.proofs.Behind.{told-map}
 use Rattle.acas_command.proofs.Refused.{IsNoFileCause, behind-model}
 use Rattle.acas_command.proofs.Says.{file-says, read-model, says-model}
-use Rattle.acas_table_file.specs.AcceptedFile.{IsTableFile, IsTableOf}
+use Rattle.acas_table_file.specs.AcceptedFile.{IsLayersFile, IsTableFile, IsTableOf}
 use Rattle.acas_table_file.specs.Calls.{with_acceptance, with_table}
 use Rattle.acas_table_file.specs.Worth.{RejectsTable, TellsAdvices}
 
@@ -38,6 +40,17 @@ with_table-file m digest file advices o is = ap (λ (f : Option (List ℕ)). wit
 pub called-table : (holds : Option Files) (name digest : List ℕ) (m : ModelData) (advices : AdvicesData) (o : Outcome) → Given holds name (λ file. IsTableFile m digest file advices)
     → IfSome holds (λ files. with_table m digest (get files name) (λ bytes. o) ≡ o)
 called-table holds name digest m advices o accepted = told-map holds _ _ (λ files is. with_table-file m digest (get files name) advices o is) accepted
+
+-- behind it, where what goes on with its bytes is the same for all bytes that have these layers
+with_table-layers : (m : ModelData) (digest : List ℕ) (file : Option (List ℕ)) (layers : LayersData) (rest : List ℕ → Outcome) (o : Outcome) → ((bytes : List ℕ) → HasLayers m bytes layers → rest bytes ≡ o)
+    → IsLayersFile m digest file layers → with_table m digest file rest ≡ o
+with_table-layers m digest file layers rest o same is =
+    ap (λ (f : Option (List ℕ)). with_table m digest f rest) is.there ∙ with_table-accepted m digest is.bytes rest is.accepted ∙ same is.bytes is.held
+
+pub called-layers : (holds : Option Files) (name digest : List ℕ) (m : ModelData) (layers : LayersData) (rest : List ℕ → Outcome) (o : Outcome) → ((bytes : List ℕ) → HasLayers m bytes layers → rest bytes ≡ o)
+    → Given holds name (λ file. IsLayersFile m digest file layers) → IfSome holds (λ files. with_table m digest (get files name) rest ≡ o)
+called-layers holds name digest m layers rest o same accepted =
+    told-map holds _ _ (λ files is. with_table-layers m digest (get files name) layers rest o same is) accepted
 
 -- a table that is not refused, and one that is
 pub behind-table : (m : ModelData) (digest : List ℕ) (file : Option (List ℕ)) (rest : List ℕ → Outcome) → MayPrint (with_table m digest file rest).cause

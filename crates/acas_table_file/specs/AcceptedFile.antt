@@ -3,10 +3,11 @@ use Rattle.std.specs.Prelude.{◌≡◌, ℕ, List, Option, None, Some}
 use Rattle.std.specs.FinMap.{get}
 use Rattle.acas_spec.specs.Model.{ModelData}
 use Rattle.acas_base.specs.Advices.{AdvicesData, AreAdvices, AreAdvicesOf}
+use Rattle.acas_layers.specs.Layers.{LayersData}
 use Rattle.acas_outside.specs.Bytes.{IsBytes}
 use Rattle.acas_outside.specs.Files.{Files}
 use Rattle.acas_outside.specs.Outside.{Outside}
-use Rattle.acas_accept.specs.Answers.{HasAdvices}
+use Rattle.acas_accept.specs.Answers.{HasAdvices, HasLayers}
 use Rattle.acas_accept.specs.Refusals.{first_refusal}
 use Rattle.acas_command.specs.Answers.{Answers}
 use Rattle.acas_command.specs.Called.{calls_for}
@@ -22,6 +23,14 @@ pub record IsTableFile (model : ModelData) (digest : List ℕ) (file : Option (L
   pub accepted : first_refusal model digest bytes ≡ None
   pub whole : IsBytes bytes
   pub held : HasAdvices model bytes advices
+
+-- the same, and these are its layers
+pub record IsLayersFile (model : ModelData) (digest : List ℕ) (file : Option (List ℕ)) (layers : LayersData) : Type 0 where
+  pub bytes : List ℕ
+  pub there : file ≡ Some bytes
+  pub accepted : first_refusal model digest bytes ≡ None
+  pub whole : IsBytes bytes
+  pub held : HasLayers model bytes layers
 
 -- M is the file of a model, T that of an accepted table of it, and these are the table's advices
 pub record IsTableOf (model table : List ℕ) (files : Files) (m : ModelData) (advices : AdvicesData) : Type 0 where

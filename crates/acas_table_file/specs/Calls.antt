@@ -1,7 +1,7 @@
 -- What is looked at in a table's file before a command goes on.
 use Rattle.std.specs.Prelude.{ℕ, List, Option, Some, None}
 use Rattle.acas_spec.specs.Model.{ModelData}
-use Rattle.acas_table.specs.declared.refusal.TableRefusal.{TableRefusal}
+use Rattle.acas_table_text.specs.declared.refusal.TableRefusal.{TableRefusal}
 use Rattle.acas_accept.specs.Refusals.{first_refusal}
 use Rattle.acas_command.specs.Outcome.{Outcome, refuses}
 use Rattle.acas_command.specs.declared.status.FileRole.TheVariants.{Table as TableFile}

@@ -14,7 +14,8 @@ use acas_outside::Folder;
 use acas_step_columns::StencilMeans;
 use std::alloc::Global;
 
-/// Reads and checks the file of a table and gives its advices, or gives the cause that ends every command that reads one.
+/// Reads and checks the file of a table and gives its advices, or gives the cause that ends every command that reads
+/// one.
 pub fn read_table_file<F: Folder>(
     alloc: Global,
     found: &ModelFile,
@@ -22,9 +23,8 @@ pub fn read_table_file<F: Folder>(
     folder: &mut F,
 ) -> Result<Advices, Cause>
     requires { IsTrue (F.serves folder.old name.now) }
-    ensures ok { IfOk result (λ advices.
-        Given (F.holds folder.old) name.now (λ file.
-        IsTableFile found.now.model found.now.digest file advices)) }
+    ensures ok { IfOk result (λ advices. Given (F.holds folder.old) name.now
+        (λ file. IsTableFile found.now.model found.now.digest file advices)) }
     ensures advices { IfOk result (λ advices. AreAdvicesOf found.now.model advices) }
     ensures err { IfErr result (λ cause. RefusesTable found.now.model found.now.digest name.now cause
         (beside F.Folder folder.old) (beside F.Folder folder.new)) }

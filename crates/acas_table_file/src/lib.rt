@@ -2,5 +2,7 @@
 #![tactic(auto)]
 
 mod accepted_file;
+mod layers_file;
 
 pub use accepted_file::read_table_file;
+pub use layers_file::read_table_layers;

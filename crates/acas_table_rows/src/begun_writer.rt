@@ -17,7 +17,7 @@ impl BegunWriter {
     ghost use Rattle.acas_units.specs.declared.pair.Entry.{Entry as TableEntry};
     ghost use Rattle.acas_outside.specs.Files.{Given, Grows, GrowsPart};
     ghost use Rattle.acas_outside.specs.Frame.{OnlyWrites};
-    ghost use Rattle.acas_table.specs.Text.{layer_of};
+    ghost use Rattle.acas_table_text.specs.Text.{layer_of};
     ghost use Rattle.acas_table.specs.Writer.{HasWritten, next_bytes, writer_state};
     ghost use Rattle.acas_table.specs.declared.writer.Phase.TheVariants.{Started};
     ghost use Rattle.acas_table_rows.specs.BegunWriter.{is_held};

@@ -4,11 +4,12 @@ ghost use Rattle.acas_outside.specs.Files.{Files, Given, Stores, StoresPart};
 ghost use Rattle.acas_outside.specs.Frame.{OnlyWrites};
 ghost use Rattle.acas_spec.specs.Model.{entries};
 ghost use Rattle.acas_sweep.specs.Layers.{backup_count};
-ghost use Rattle.acas_table.specs.Shape.{shape_of};
-ghost use Rattle.acas_table.specs.Text.{length_1};
+ghost use Rattle.acas_table_text.specs.Shape.{shape_of};
+ghost use Rattle.acas_table_text.specs.Format.{length_of};
+ghost use Rattle.acas_table_text.specs.declared.format.Format.TheVariants.{Layered};
 ghost use Rattle.acas_table.specs.Writer.{HasWritten, new_writer, writer_state};
 ghost use Rattle.acas_sweep.specs.Room.{IsRoomFor};
-ghost use Rattle.acas_table_rows.specs.TableFile.{IsWriting, compiled_text, first_part};
+ghost use Rattle.acas_table_rows.specs.TableFile.{IsCompiling, compiled_part, compiled_text};
 
 use crate::begun_writer::BegunWriter;
 use crate::table_rows::TableRows;
@@ -20,8 +21,9 @@ use acas_step_choices::Backups;
 use acas_sweep::{SweepFault, SweepRoom, sweep_to};
 use acas_table::TableWriter;
 
-/// Stores the compiled table of a model, layer by layer as the sweep goes, and answers its length. Where it fails, the name holds
-/// what it held, or a proper prefix of the table's text. It takes no memory. It counts the backups and the turned pairs of the sweep.
+/// Stores the compiled table of a model, layer by layer as the sweep goes, and answers its length. Where it fails, the
+/// name holds what it held, or a proper prefix of the table's text. It takes no memory. It counts the backups and the
+/// turned pairs of the sweep.
 pub fn store_swept<M: LayerMeans, F: Folder>(
     found: &ModelFile,
     layer_means: &M,
@@ -35,15 +37,17 @@ pub fn store_swept<M: LayerMeans, F: Folder>(
     requires served { IsTrue (F.serves folder.old name.now) }
     requires fits { M.fits layer_means.now found.now.model }
     requires room { IsRoomFor found.now.model room.old }
-    requires state { writer_state writer ≡ new_writer 1 found.now.digest (shape_of found.now.model.grid) }
+    requires state { writer_state writer
+        ≡ new_writer Layered found.now.digest (shape_of found.now.model.grid) }
     requires written { HasWritten writer [] }
     requires backups { backups.old ≤ 2 ^ 63 }
     requires turned { turned.old ≤ 2 ^ 63 }
-    ensures ok { OnOk result
-        (Stores (F.holds folder.old) (F.holds folder.new) name.now (compiled_text found.now.digest found.now.model)) }
-    ensures err { OnErr result ((F.holds folder.new ≡ F.holds folder.old)
-        ⊎ StoresPart (F.holds folder.old) (F.holds folder.new) name.now (compiled_text found.now.digest found.now.model)) }
-    ensures length { IfOk result (λ n. n ≡ length_1 (shape_of found.now.model.grid)) }
+    ensures ok { let text = compiled_text found.now.digest found.now.model in
+        OnOk result (Stores (F.holds folder.old) (F.holds folder.new) name.now text) }
+    ensures err { let text = compiled_text found.now.digest found.now.model in
+        OnErr result ((F.holds folder.new ≡ F.holds folder.old)
+        ⊎ StoresPart (F.holds folder.old) (F.holds folder.new) name.now text) }
+    ensures length { IfOk result (λ n. n ≡ length_of Layered (shape_of found.now.model.grid)) }
     ensures frame { OnlyWrites F.Folder folder.old folder.new (IsErr result) }
     ensures counted { OnOk result (backups.new ≡ backups.old + backup_count found.now.model) }
     ensures turns { OnOk result (turned.new ≡ turned.old + entries found.now.model.grid) }
@@ -82,17 +86,20 @@ fn append_swept<M: LayerMeans, F: Folder>(
     requires held { Given (F.holds folder.old) name.now (λ file. IsSome file) }
     requires fits { M.fits layer_means.now found.now.model }
     requires room { IsRoomFor found.now.model room.old }
-    requires writing { IsWriting found.now.digest found.now.model 0 begun.old.writer }
+    requires writing { IsCompiling found.now.digest found.now.model 0 begun.old.writer }
     requires backups { backups.old ≤ 2 ^ 63 }
     requires turned { turned.old ≤ 2 ^ 63 }
-    ensures ok { (before : Option Files)
-        → Stores before (F.holds folder.old) name.now (first_part found.now.digest found.now.model 0)
-        → OnOk result (Stores before (F.holds folder.new) name.now (first_part found.now.digest found.now.model (found.now.model.grid.horizon + 1))) }
+    ensures ok { let layer_count = found.now.model.grid.horizon + 1 in
+        (before : Option Files)
+        → Stores before (F.holds folder.old) name.now (compiled_part found.now.digest found.now.model 0)
+        → OnOk result (Stores before (F.holds folder.new) name.now
+        (compiled_part found.now.digest found.now.model layer_count)) }
     ensures err { (before : Option Files)
-        → Stores before (F.holds folder.old) name.now (first_part found.now.digest found.now.model 0)
-        → OnErr result (StoresPart before (F.holds folder.new) name.now (compiled_text found.now.digest found.now.model)) }
-    ensures writing { OnOk result
-        (IsWriting found.now.digest found.now.model (found.now.model.grid.horizon + 1) begun.new.writer) }
+        → Stores before (F.holds folder.old) name.now (compiled_part found.now.digest found.now.model 0)
+        → OnErr result
+        (StoresPart before (F.holds folder.new) name.now (compiled_text found.now.digest found.now.model)) }
+    ensures writing { let layer_count = found.now.model.grid.horizon + 1 in
+        OnOk result (IsCompiling found.now.digest found.now.model layer_count begun.new.writer) }
     ensures frame { OnlyWrites F.Folder folder.old folder.new (IsErr result) }
     ensures counted { OnOk result (backups.new ≡ backups.old + backup_count found.now.model) }
     ensures turns { OnOk result (turned.new ≡ turned.old + entries found.now.model.grid) }

@@ -1,7 +1,9 @@
-//! Tests of numbers, of grids and of the outside: the public calls of `acas_units`, `acas_frac`, `acas_grid`, `acas_outside` and
-//! `acas_print`, with values worked out by hand.
+//! Tests of numbers, of grids, of blocks of two planes and of the outside: the public calls of `acas_units`, `acas_frac`, `acas_grid`,
+//! `acas_plane`, `acas_outside` and `acas_print`, with values worked out by hand.
 #![tactic(auto)]
 
+#[cfg(test)]
+mod blocks;
 #[cfg(test)]
 mod fractions;
 #[cfg(test)]

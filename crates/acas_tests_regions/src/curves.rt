@@ -1,11 +1,11 @@
 //! The climbs of curves, in ticks.
 use crate::limits::{is_curve, is_held_curve, is_start};
-use crate::models::four;
-use crate::rows::{is_at, numbers, whole};
+use crate::rows::{fractions, is_at};
 use acas_base::Model;
 use acas_frac::Frac;
 use acas_region::{highest, lowest};
 use acas_region_curves::{approach, held};
+use acas_tests_data::model_of;
 use std::test::Fail;
 
 // The climb of an approach, if the row begins with numbers within its limits.
@@ -52,12 +52,12 @@ const HOLDS: &str = "0 1500 480 0 20 110625/2
 fn approaches_bend_at_the_aim_and_holds_come_before(rt: HostRuntime) -> Result<(), Fail> {
     let alloc = rt.alloc();
     for line in APPROACHES.lines() {
-        let row = numbers(alloc, line).ok_or("numbers")?;
+        let row = fractions(alloc, line).ok_or("numbers")?;
         let climb = approached(&row).ok_or("a climb")?;
         assert!(rt; is_at(&row, 4, &climb) == Some(true), "{line}");
     }
     for line in HOLDS.lines() {
-        let row = numbers(alloc, line).ok_or("numbers")?;
+        let row = fractions(alloc, line).ok_or("numbers")?;
         let climb = flown(&row).ok_or("a climb")?;
         assert!(rt; is_at(&row, 5, &climb) == Some(true), "{line}");
     }
@@ -73,7 +73,7 @@ struct Climbs {
 
 // Under the advisory, from the rate and in the time that a row begins with, if they are within the limits.
 fn climbs_of(model: &Model, row: &[Frac]) -> Option<Climbs> {
-    let advisory = u8::try_from(whole(row, 0)?).ok()?;
+    let advisory = u8::try_from(row.get(0)?.num()).ok()?;
     let (v, t) = (row.get(1)?, row.get(2)?);
     if u32::from(advisory) < model.grid().advisories && is_start(v, t) {
         Some(Climbs {
@@ -93,9 +93,9 @@ const CLIMBS: &str = "3 3000 20 -86875/12 198125/6
 #[test]
 fn climbs_are_between_two_curves(rt: HostRuntime) -> Result<(), Fail> {
     let alloc = rt.alloc();
-    let model = four(alloc).ok_or("a model")?;
+    let model = model_of(alloc, "d").ok_or("a model")?;
     for line in CLIMBS.lines() {
-        let row = numbers(alloc, line).ok_or("numbers")?;
+        let row = fractions(alloc, line).ok_or("numbers")?;
         let climbs = climbs_of(&model, &row).ok_or("climbs")?;
         assert!(rt; is_at(&row, 3, &climbs.least) == Some(true), "{line}");
         assert!(rt; is_at(&row, 4, &climbs.greatest) == Some(true), "{line}");

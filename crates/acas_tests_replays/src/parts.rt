@@ -5,54 +5,17 @@ ghost use Rattle.acas_encounter.specs.Encounter.{IsEncounterOf};
 
 use acas_base::{Advices, Model};
 use acas_encounter::{Encounter, read_encounter};
-use acas_model::read_model;
+use acas_tests_data::model_of;
 use std::alloc::Global;
 
-// Two altitudes, two own rates and two of the intruder, and three advisories.
-const REST: &str = r#"
-[grid]
-altitude = [-1000, -170]
-own_rate = [0, 60]
-intruder_rate = [-60, 0]
-[closing]
-least = 500
-greatest = 500
-[pilot]
-pull = 480
-limit = 960
-[cost]
-contact = 5
-[[advisory]]
-name = "clear"
-lo = -10000
-hi = 10000
-choices = ["clear", "climb", "descend"]
-costs = [0, 0, 0]
-[[advisory]]
-name = "climb"
-lo = 1500
-hi = 10000
-choices = ["clear", "climb", "descend"]
-costs = [0, 0, 0]
-[[advisory]]
-name = "descend"
-lo = -10000
-hi = -1500
-choices = ["clear", "climb", "descend"]
-costs = [0, 0, 0]
-[[sigma]]
-weight = 1
-own = 0
-intruder = 0
-"#;
-
-/// A model of a horizon and half a height in ft, in this order. The radius of its puck is 500 ft.
-pub fn model_of(alloc: Global, words: &str) -> Option<Model> {
+/// A model of a horizon and half a height in ft, in this order: two altitudes, two own rates and two of the intruder, and three advisories.
+/// The radius of its puck is 500 ft.
+pub fn model_with(alloc: Global, words: &str) -> Option<Model> {
     let (horizon, half) = words.split_once(' ')?;
-    let text = format!(in alloc;
-        "version = 1\nhorizon = {horizon}\npuck = {{ radius = 500, half_height = {half} }}\n{REST}"
+    let recipe = format!(in alloc;
+        "c\nhorizon = 1 => horizon = {horizon}\nhalf_height = 100 => half_height = {half}"
     ).ok()?;
-    read_model(alloc, text.as_bytes()).ok()
+    model_of(alloc, recipe.as_str())
 }
 
 // Keeps the advice at a place of a table's advices, one layer after the other.

@@ -1,5 +1,5 @@
 //! Rows: a model, the advices of a table, an encounter, and what its replay prints.
-use crate::parts::{advices_of, encounter_of, model_of};
+use crate::parts::{advices_of, encounter_of, model_with};
 use acas_outside::MemorySink;
 use acas_replay::{ReplayFault, replay};
 use std::alloc::Global;
@@ -18,7 +18,7 @@ pub fn printed(alloc: Global, row: &str, writes: Vec<u64>, most: u32) -> Option<
     let (advices, rest) = rest.split_once(" : ")?;
     let (start, rest) = rest.split_once(" : ")?;
     let (own, intruder) = rest.split_once(" : ")?;
-    let model = model_of(alloc, model)?;
+    let model = model_with(alloc, model)?;
     let advices = advices_of(alloc, &model, advices)?;
     let encounter = encounter_of(alloc, &model, start, own, intruder)?;
     if most == 0 {

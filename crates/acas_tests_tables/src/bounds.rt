@@ -1,8 +1,9 @@
 //! Entries that are held against the layer below, by its values and by its means. More of them are cases of `acas_cases`.
 use self::Wanted::{Allows, Needs, NotAllowed, Sound};
-use crate::models::{COSTLY, NOISY, model_of};
+use crate::models::{COSTLY, NOISY};
 use acas_bounds::{BoundFault, Plane, check_at, check_by_means, check_entry, fill_means};
 use acas_grid::state_present;
+use acas_tests_data::model_of;
 use acas_units::{Entry, Pair};
 use std::alloc::Global;
 

@@ -51,13 +51,13 @@ pub fn write_three<F: Folder>(
     writer.finish(folder, name)
 }
 
-/// The bytes of a table of either version, of a model of 16 states whose horizon is 2.
+/// The bytes of a table of the second version or of the first, of a model of 16 states whose horizon is 2.
 pub fn table_of(alloc: Global, model: &Model, layers: &Layers, is_second: bool) -> Option<Vec<u8>> {
     let grid = model.grid();
     let made = if is_second {
-        TableWriter::of_version(alloc, model, &MODEL, 2)
-    } else {
         TableWriter::new(alloc, model, &MODEL)
+    } else {
+        TableWriter::of_version(alloc, model, &MODEL, 1)
     };
     let mut writer = made.ok()?;
     if grid.states() != 16 || grid.horizon != 2 {

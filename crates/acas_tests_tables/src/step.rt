@@ -4,10 +4,10 @@ ghost use Rattle.acas_spec.specs.Model.{states};
 ghost use Rattle.acas_step.specs.Columns.{columns};
 ghost use Rattle.acas_step_stencils.specs.Stencils.{AreStencilsOf};
 
-use crate::models::{FOUR, NOISY, WIDE, model_of};
+use crate::models::{FOUR, NOISY, WIDE};
 use acas_base::{Choice, Model};
 use acas_frac::{Down, Up};
-use acas_grid::{Point, state_present, state_vertex};
+use acas_grid::{Point, state_present};
 use acas_step::{
     ColumnMeans, Corner, CornerSet, Side, column_count, corners, mean, means_at, moved, reach_of,
     terminal, vertex_in_column,
@@ -15,6 +15,7 @@ use acas_step::{
 use acas_step_choices::{Backups, backup};
 use acas_step_columns::fill_column;
 use acas_step_stencils::Stencils;
+use acas_tests_data::model_of;
 use acas_units::{GREATEST_ADVISORIES, GREATEST_VERTICES, Pair};
 use std::alloc::{AllocError, Global};
 use std::test::Fail;
@@ -110,18 +111,57 @@ fn points_have_corners(rt: HostRuntime) -> Result<(), Fail> {
     Ok(())
 }
 
-// The values with no second to go.
-fn last_layer(alloc: Global, model: &Model) -> Result<Vec<Pair>, AllocError> {
+// The cost at the end, if the vertex is one of the model's.
+fn ending(model: &Model, vertex: u32) -> Option<i64> {
+    if vertex < model.grid().vertices() {
+        Some(terminal(model, vertex))
+    } else {
+        None
+    }
+}
+
+#[test]
+fn contact_costs_at_the_end(rt: HostRuntime) -> Result<(), Fail> {
+    let four = model_of(rt.alloc(), FOUR).ok_or("a model")?;
+    // six vertices at each altitude, of which the third is that of contact
+    let rows = [
+        (0, Some(0)),
+        (11, Some(0)),
+        (12, Some(5)),
+        (17, Some(5)),
+        (18, Some(0)),
+        (24, None),
+    ];
+    for (vertex, cost) in rows {
+        assert_eq!(rt; ending(&four, vertex), cost, "{vertex}");
+    }
+    Ok(())
+}
+
+// The values with no second to go: under each advisory, at each altitude its own, for so many pairs of rates.
+fn last_layer(
+    alloc: Global,
+    advisories: u32,
+    values: &[i64],
+    rates: u32,
+) -> Result<Vec<Pair>, AllocError> {
     let mut pairs = Vec::new(alloc);
-    for state in 0..model.grid().states() {
-        let vertex = state_vertex(model.grid(), state);
-        let cost = 1_000_000 * terminal(model, model.grid().vertex_number(vertex));
-        pairs.push(Pair {
-            upper: cost,
-            lower: cost,
-        })?;
+    for _ in 0..advisories {
+        for value in values {
+            for _ in 0..rates {
+                pairs.push(Pair {
+                    upper: *value,
+                    lower: *value,
+                })?;
+            }
+        }
     }
     Ok(pairs)
+}
+
+// The last layer of the model of four altitudes.
+fn last_of_four(alloc: Global) -> Result<Vec<Pair>, AllocError> {
+    last_layer(alloc, 4, &[0, 0, 5_000_000, 0], 6)
 }
 
 // Both values of a choice, if it is one of the model's and the layer has the model's states.
@@ -167,7 +207,7 @@ fn means_of(model: &Model, vertex: u32, advisory: u8, below: &[Pair]) -> Option<
 #[test]
 fn choices_have_values(rt: HostRuntime) -> Result<(), Fail> {
     let four = model_of(rt.alloc(), FOUR).ok_or("a model")?;
-    let last = last_layer(rt.alloc(), &four)?;
+    let last = last_of_four(rt.alloc())?;
     let mut count = Backups::new();
     // 50 of 670 ft up to contact of cost 5; from contact; past the lower end; a cost of -3
     let rows = [
@@ -245,14 +285,29 @@ fn same_means(model: &Model, stencils: &Stencils, below: &[Pair]) -> bool
     same
 }
 
+// Whether the stencils of a model give the plain step over a layer.
+fn gives_the_plain_step(alloc: Global, text: &str, below: &[Pair]) -> Option<bool> {
+    let model = model_of(alloc, text)?;
+    let Ok(stencils) = Stencils::make(alloc, &model) else {
+        return None;
+    };
+    Some(same_corners(&model, &stencils) && same_means(&model, &stencils, below))
+}
+
 #[test]
 fn stencils_give_the_plain_step(rt: HostRuntime) -> Result<(), Fail> {
-    for text in [FOUR, NOISY, WIDE] {
-        let model = model_of(rt.alloc(), text).ok_or("a model")?;
-        let stencils = Stencils::make(rt.alloc(), &model)?;
-        let below = last_layer(rt.alloc(), &model)?;
-        assert!(rt; same_corners(&model, &stencils), "{text}");
-        assert!(rt; same_means(&model, &stencils, &below), "{text}");
+    let alloc = rt.alloc();
+    let rows = [
+        (FOUR, last_of_four(alloc)?),
+        (NOISY, last_layer(alloc, 2, &[1_000_000, 0], 4)?),
+        (WIDE, last_layer(alloc, 2, &[0, 0], 4)?),
+    ];
+    for (text, below) in &rows {
+        assert_eq!(rt;
+            gives_the_plain_step(alloc, text, below),
+            Some(true),
+            "{text}"
+        );
     }
     Ok(())
 }

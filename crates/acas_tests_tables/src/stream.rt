@@ -1,13 +1,14 @@
 //! The streamed sweep: what it hands on is what the plain sweep keeps, and it ends where what takes the layers fails.
 ghost use Rattle.std.specs.Prelude.{⊤};
 
-use crate::models::{FOUR, NOISY, TIED, model_of};
+use crate::models::{FOUR, NOISY, TIED};
 use acas_base::Model;
 use acas_plane::{PlaneBlock, Turned};
 use acas_step::LayerMeans;
 use acas_step_choices::Backups;
 use acas_step_columns::StencilMeans;
 use acas_sweep::{LayerFailed, LayerSink, sweep, sweep_list};
+use acas_tests_data::model_of;
 use acas_units::Pair;
 use std::alloc::Global;
 use std::test::Fail;

@@ -1,18 +1,19 @@
 //! Tables that are written and read again. The bytes and digests are from outside the program.
 ghost use Rattle.std.specs.Prelude.{◌≡◌, IsTrue, false};
 ghost use Rattle.acas_table.specs.Reader.{reader_state};
-ghost use Rattle.acas_table.specs.Shape.{entry_count};
+ghost use Rattle.acas_table_text.specs.Shape.{entry_count};
 
 use crate::layers::{Layers, MODEL, folder_failing, table_of};
-use crate::models::{NOISY, model_of};
+use crate::models::NOISY;
 use acas_base::Model;
 use acas_outside::Folder;
 use acas_table::{TableFault, TableReader};
+use acas_tests_data::model_of;
 use acas_units::{Entry, Pair};
 use std::alloc::Global;
 use std::test::Fail;
 
-// The last bytes of a table of three layers.
+// The last bytes of a table of three layers in version 1.
 const DIGEST: [u8; 32] = [
     0x0a, 0xe2, 0x63, 0x97, 0x21, 0x53, 0x9f, 0x24, 0x24, 0xf1, 0x45, 0xab, 0x64, 0x00, 0xa3, 0xab,
     0x7b, 0xbb, 0xcb, 0x04, 0x3e, 0xf6, 0xe4, 0x36, 0x83, 0x55, 0xe6, 0xb1, 0x09, 0x46, 0x1b, 0x7f,
@@ -120,20 +121,18 @@ fn tables_are_read_as_they_were_written(rt: HostRuntime) -> Result<(), Fail> {
         upper: 666_667,
         lower: 666_666,
     };
-    for most in [1, 100, 4_096] {
-        let entries = read_back(rt.alloc(), &model, false, most).ok_or("a table")??;
+    for (is_second, most) in [
+        (false, 1),
+        (false, 100),
+        (false, 4_096),
+        (true, 1),
+        (true, 100),
+    ] {
+        let entries = read_back(rt.alloc(), &model, is_second, most).ok_or("a table")??;
         assert_eq!(rt; entries.len(), 48);
         assert!(rt; entries.get(17) == Some(&Entry { pair, advice: 0 }));
         assert!(rt; entries.get(15).map(|last| last.advice) == Some(255));
     }
-    Ok(())
-}
-
-#[test]
-fn tables_of_the_second_version_are_not_read(rt: HostRuntime) -> Result<(), Fail> {
-    let model = model_of(rt.alloc(), NOISY).ok_or("a model")?;
-    let answer = read_back(rt.alloc(), &model, true, 100).ok_or("an answer")?;
-    assert_eq!(rt; answer.err(), Some(TableFault::Version { found: 2 }));
     Ok(())
 }
 

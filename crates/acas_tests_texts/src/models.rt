@@ -1,6 +1,6 @@
 //! A model in two spellings, and what it says.
 use acas_base::{Advices, Choice, Model, SigmaPoint};
-use acas_model::{ModelFault, read_model};
+use acas_model::read_model;
 use std::alloc::Global;
 use std::test::Fail;
 
@@ -149,7 +149,5 @@ fn any_spelling_says_the_same(rt: HostRuntime) -> Result<(), Fail> {
         assert_eq!(rt; model.delay(), 0);
         assert!(rt; keeps_advices(rt.alloc(), &model));
     }
-    let cut = read_model(rt.alloc(), b"version = \xFF\n");
-    assert!(rt; matches!(cut, Err(ModelFault::NotToml)));
     Ok(())
 }

@@ -20,7 +20,7 @@ use Rattle.acas_pass_laws.proofs.Touching.{lasts}
 use Rattle.acas_witness_plans.specs.declared.plan.Plan.{Plan}
 use Rattle.acas_rulings.specs.declared.flight.Flight as printed
 use Rattle.acas_rulings.specs.Witness.{search_between, IsFlightInContact}
-use Rattle.acas_witness_laws.specs.FoundPlans.{IsPlanIn}
+use Rattle.acas_witness.specs.FoundPlans.{IsPlanIn}
 use Rattle.acas_rulings.specs.Printed.{Prints, hold_part, some_part, flight_fractions}
 use Rattle.acas_witness_response.proofs.Assembly.{AreParts-append}
 use Rattle.acas_witness_plans.proofs.Portions.{finer}

@@ -11,7 +11,7 @@ ghost use Rattle.acas_rulings.specs.Printed.{flight_fractions};
 ghost use Rattle.acas_witness_response.specs.PrintedPlans.{PrintsPlan};
 ghost use Rattle.acas_witness_search.specs.Surveys.{search_of};
 ghost use Rattle.acas_rulings.specs.Witness.{IsClearIn, IsEndangeredIn, IsInContactIn, IsTimeOf, IsWitnessIn, search_between};
-ghost use Rattle.acas_witness_laws.specs.FoundPlans.{IsFoundPlan, IsPlanFor};
+ghost use Rattle.acas_witness.specs.FoundPlans.{IsFoundPlan, IsPlanFor};
 
 use acas_base::Model;
 use acas_frac::Frac;

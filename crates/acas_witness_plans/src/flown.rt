@@ -11,32 +11,8 @@ use crate::numbers::{across, common, known, parts};
 use crate::plan::{Outcome, Plan};
 use crate::points::ratio;
 use acas_frac::Frac;
-use acas_region_curves::{RATE_PARTS, TIME_PARTS, held};
+use acas_region_curves::{RATE_PARTS, TIME_PARTS, held, rate_parts, time_parts};
 use acas_units::{GREATEST_HALF_HEIGHT, GREATEST_RATE, TICKS_PER_FOOT, WINDOW_SECONDS};
-
-/// A rate's parts.
-pub fn rate_numbers(rate: &Frac) -> (i64, u64)
-    requires { IsRate rate.now }
-    ensures num { Fraction.num rate.now ≡ result.0 }
-    ensures den { Fraction.den rate.now ≡ result.1 }
-    ensures num_size { unsigned_abs result.0 ≤ unsigned_abs GREATEST_RATE * RATE_PARTS }
-    ensures den_size { result.1 ≤ RATE_PARTS }
-    ensures some { 0 < result.1 }
-{
-    (rate.num() as i64, rate.den() as u64)
-}
-
-/// A time's parts.
-pub fn time_numbers(time: &Frac) -> (u64, u64)
-    requires { IsTime time.now }
-    ensures num { Fraction.num time.now ≡ pos result.0 }
-    ensures den { Fraction.den time.now ≡ result.1 }
-    ensures num_size { result.0 ≤ WINDOW_SECONDS * TIME_PARTS }
-    ensures den_size { result.1 ≤ TIME_PARTS }
-    ensures some { 0 < result.1 }
-{
-    (time.num() as u64, time.den() as u64)
-}
 
 // An altitude over a denominator.
 fn over(altitude: i64, den: u64) -> i64
@@ -67,8 +43,8 @@ fn intruder_end(altitude: i64, intruder: &Frac, time: &Frac) -> Frac
     ensures end { IsIntruderEnd altitude intruder.now time.now result }
     ensures lowest { IsFrac result }
 {
-    let (rate, rate_den) = rate_numbers(intruder);
-    let (num, den) = time_numbers(time);
+    let (rate, rate_den) = rate_parts(intruder);
+    let (num, den) = time_parts(time);
     let shared = rate_den * den;
     ratio(over(altitude, shared) + flown(rate, num), shared)
 }

@@ -1,9 +1,8 @@
-//! Fractions by their parts, their order as a test, and products of 128 bits under bounds.
-ghost use Rattle.std.specs.Prelude.{◌≡◌, ◌^◌, ◌≤◌, pos, ◌*ℤ◌, ◌≤ℤ◌, int_le, unsigned_abs};
+//! Fractions by their parts, and products of 128 bits under bounds.
+ghost use Rattle.std.specs.Prelude.{◌≡◌, ◌^◌, ◌≤◌, pos, ◌*ℤ◌, ◌≤ℤ◌, unsigned_abs};
 ghost use Rattle.acas_frac.specs.Fraction.{Fraction, IsFrac};
 
 use acas_frac::Frac;
-use std::cmp::Ordering;
 
 /// The numerator and the denominator, with their bounds.
 pub fn parts(value: &Frac) -> (i128, i128)
@@ -21,18 +20,6 @@ pub fn known(value: Frac) -> Frac
 {
     let (_, _) = parts(&value);
     value
-}
-
-/// Whether a value is at most another.
-pub fn is_at_most(value: &Frac, other: &Frac) -> bool
-    ensures { result ≡ int_le (Fraction.num value.now *ℤ pos (Fraction.den other.now))
-        (Fraction.num other.now *ℤ pos (Fraction.den value.now)) }
-{
-    match value.compare(other) {
-        Ordering::Less => true,
-        Ordering::Equal => true,
-        Ordering::Greater => false,
-    }
 }
 
 /// The number, which is not negative.

@@ -76,7 +76,7 @@ pub fn place(from: u64, to: u64, number: u64) -> u64
 }
 
 /// The parts of a window's time.
-pub fn time_parts(time: &Frac) -> (u64, u64)
+pub fn end_parts(time: &Frac) -> (u64, u64)
     requires { IsEnd time.now }
     ensures num { Fraction.num time.now ≡ pos result.0 }
     ensures den { Fraction.den time.now ≡ result.1 }
@@ -108,8 +108,8 @@ pub fn time_place(from: &Frac, to: &Frac, number: u32) -> Frac
         IsOver unit (pos (time_toward from.now to.now number)) result }
     ensures time { IsTime result }
 {
-    let (a, b) = time_parts(from);
-    let (c, d) = time_parts(to);
+    let (a, b) = end_parts(from);
+    let (c, d) = end_parts(to);
     let first = TIME_STEPS * a * d;
     let last = TIME_STEPS * c * b;
     let moved = u64::from(number) * (b * d);

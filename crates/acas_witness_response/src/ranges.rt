@@ -5,10 +5,10 @@ ghost use Rattle.acas_rulings.specs.Ranges.{IsBoxesRange, IsCellsRange, IsContac
 
 use acas_base::Model;
 use acas_frac::Frac;
-use acas_region_curves::TIME_PARTS;
+use acas_region_curves::{TIME_PARTS, time_parts};
 use acas_rulings::{Flight, Witness};
 use acas_units::{GREATEST_CLOSING, GREATEST_HORIZON, GREATEST_RADIUS, Span, WINDOW_SECONDS};
-use acas_witness_plans::{natural, ratio, time_numbers};
+use acas_witness_plans::{natural, ratio};
 
 // The radius, and what a speed flies in the lesser of a time and so many seconds.
 fn range_of(radius: u64, speed: u64, most: u64, time: u64, den: u64) -> Frac
@@ -35,7 +35,7 @@ pub fn of_cell(model: &Model, n: u32, flight: Flight) -> Witness
 {
     let _ = model.grid();
     let closing = model.closing();
-    let (time, den) = time_numbers(&flight.time);
+    let (time, den) = time_parts(&flight.time);
     Witness {
         range: range_of(
             natural(model.radius()),
@@ -85,7 +85,7 @@ fn pair_of(radius: u64, near: u64, far: u64, slow: u64, fast: u64, time: &Frac) 
     ensures contact { IsContactOfBox radius (interval_from near far) (interval_from slow fast) time.now
         result.0 result.1 }
 {
-    let (num, den) = time_numbers(time);
+    let (num, den) = time_parts(time);
     let first = near.saturating_sub(radius);
     if first * den <= slow * num {
         (

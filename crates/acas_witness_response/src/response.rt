@@ -7,22 +7,10 @@ ghost use Rattle.acas_witness_plans.specs.Bends.{IsBend, IsDifference};
 ghost use Rattle.acas_witness_response.specs.PrintedPlans.{AreSegmentsFor, HoldsFor, IsFineBend, IsLeftAfter, IsSignedPull};
 
 use acas_frac::Frac;
-use acas_region_curves::{PULL_PARTS, RATE_PARTS};
+use acas_region_curves::{RATE_PARTS, pull_parts, rate_parts};
 use acas_rulings::Segment;
-use acas_units::{GREATEST_LIMIT, GREATEST_RATE, WINDOW_SECONDS};
-use acas_witness_plans::{across, common, is_at_most, known, parts, rate_numbers, ratio};
-
-// A pull's parts.
-fn pull_numbers(pull: &Frac) -> (u64, u64)
-    requires { IsPull pull.now }
-    ensures num { Fraction.num pull.now ≡ pos result.0 }
-    ensures den { Fraction.den pull.now ≡ result.1 }
-    ensures num_size { result.0 ≤ GREATEST_LIMIT * PULL_PARTS }
-    ensures den_size { result.1 ≤ PULL_PARTS }
-    ensures some { 0 < result.0 }
-{
-    (pull.num() as u64, pull.den() as u64)
-}
+use acas_units::{GREATEST_RATE, WINDOW_SECONDS};
+use acas_witness_plans::{across, common, known, parts, ratio};
 
 // The way from one rate to another, over the product of their denominators.
 fn way_of(rate: i64, rate_den: u64, aim: i64, aim_den: u64) -> u64
@@ -44,9 +32,9 @@ fn bend_of(rate: &Frac, aim: &Frac, pull: &Frac) -> Frac
     ensures bend { IsBend rate.now aim.now pull.now result }
     ensures lowest { IsFrac result }
 {
-    let (v, m) = rate_numbers(rate);
-    let (k, n) = rate_numbers(aim);
-    let (b, d) = pull_numbers(pull);
+    let (v, m) = rate_parts(rate);
+    let (k, n) = rate_parts(aim);
+    let (b, d) = pull_parts(pull);
     ratio((way_of(v, m, k, n) * d) as i64, m * n * b)
 }
 
@@ -71,10 +59,10 @@ fn toward(rate: &Frac, aim: &Frac, pull: &Frac) -> Frac
     requires pull { IsPull pull.now }
     ensures { IsSignedPull rate.now aim.now pull.now result }
 {
-    if is_at_most(rate, aim) {
+    if rate.is_at_most(aim) {
         *pull
     } else {
-        let (num, den) = pull_numbers(pull);
+        let (num, den) = pull_parts(pull);
         ratio(-(num as i64), den)
     }
 }
@@ -110,7 +98,7 @@ pub fn segments_of(
         );
     }
     let acceleration = toward(rate, aim, pull);
-    if is_at_most(time, &bend) {
+    if time.is_at_most(&bend) {
         return (
             Some(Segment {
                 duration: *time,
@@ -148,7 +136,7 @@ pub fn held_part(time: &Frac, hold: &Frac) -> (Option<Frac>, Frac)
     if time.num() == 0 {
         return (None, known(*time));
     }
-    if is_at_most(time, hold) {
+    if time.is_at_most(hold) {
         return (Some(*time), Frac::whole(0));
     }
     (Some(*hold), difference(time, hold))

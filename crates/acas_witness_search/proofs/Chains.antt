@@ -1,19 +1,22 @@
 -- From pass to pass.
-use Rattle.std.proofs.Common.{◌≡◌, ℕ, ◌<◌, ap, sym, ◌∙◌, Bool, true, List, ◌∷◌}
+use Rattle.std.proofs.Common.{◌≡◌, ℕ, ◌<◌, ap, sym, subst, ◌∙◌, Bool, true, true≢false, List, ◌∷◌, Some, None, lit<}
+use Rattle.std.proofs.lemmas.Option.{same_Some}
 use Rattle.acas_frac.specs.Fraction.{Fraction, Same}
 use Rattle.acas_passes.specs.Value.{is_below}
 use Rattle.acas_passes.proofs.Halvings.{is_below-Same}
 use Rattle.acas_passes.specs.Flights.{value}
 use Rattle.acas_passes.specs.Passes.{Pass, IsLast, here, later, below_at, IsGentle}
 use Rattle.acas_passes.specs.Search.{Search, IsSearch, unit}
+use Rattle.acas_pass_laws.proofs.Joins.{joined, own-end}
 use Rattle.acas_pass_laws.proofs.Gentle.{each_gentle}
 use Rattle.acas_pass_laws.proofs.Somes.{AllSome, each_some}
 use Rattle.acas_witness_search.specs.declared.quantity.Quantity.{Quantity}
 use Rattle.acas_witness_search.specs.declared.quantity.Quantity.TheVariants.{Time, Altitude, Intruder, Aim, Pull, Hold, Own}
 use Rattle.acas_witness_search.specs.declared.survey.Survey.{Survey}
 use Rattle.acas_witness_plans.specs.declared.plan.Plan.{Plan}
-use Rattle.acas_witness_search.specs.Surveys.{search_of, pass_of}
-use Rattle.acas_witness_search.specs.Passes.{IsMissed, IsHit, IsEndOf}
+use Rattle.acas_witness_search.specs.Surveys.{EndsNotBelow, StartsBelow, search_of, pass_of}
+use Rattle.acas_witness_search.specs.Order.{next_of}
+use Rattle.acas_witness_search.specs.Passes.{IsMissed, IsHit, IsEndOf, IsMissedIn, IsHitIn, IsEndIn, passes_from}
 
 pub search_fine : (s : Survey) → IsSearch (search_of s)
 search_fine s = record {
@@ -56,3 +59,67 @@ end_here half q p rest f h = record { flight = p.point h.at_end; ends = here p r
 
 pub end_later : (half q : ℕ) (p : Pass) (rest : List Pass) (f : Plan) → IsMissed half q p → IsEndOf half q rest f → IsEndOf half q (p ∷ rest) f
 end_later half q p rest f m e = record { flight = e.flight; ends = later p rest m.last e.flight m.is_last m.below e.ends; point = e.point; flown = e.flown }
+
+-- ---- the passes by the quantities that they move
+
+-- how many passes come after one
+abbrev pub passes_after : Quantity → ℕ
+passes_after Time = 6
+passes_after Altitude = 5
+passes_after Intruder = 4
+passes_after Aim = 3
+passes_after Pull = 2
+passes_after Hold = 1
+passes_after Own = 0
+
+pub fewer_after : (q next : Quantity) → next_of q ≡ Some next → passes_after next < passes_after q
+fewer_after Time next e = subst (λ n. passes_after n < 6) (same_Some Altitude next e) (lit< tt)
+fewer_after Altitude next e = subst (λ n. passes_after n < 5) (same_Some Intruder next e) (lit< tt)
+fewer_after Intruder next e = subst (λ n. passes_after n < 4) (same_Some Aim next e) (lit< tt)
+fewer_after Aim next e = subst (λ n. passes_after n < 3) (same_Some Pull next e) (lit< tt)
+fewer_after Pull next e = subst (λ n. passes_after n < 2) (same_Some Hold next e) (lit< tt)
+fewer_after Hold next e = subst (λ n. passes_after n < 1) (same_Some Own next e) (lit< tt)
+fewer_after Own next e = absurd cc
+
+-- after a pass that is missed the next one starts below
+module _ (s : Survey) where
+  starts : (q q' : Quantity) → ((last : ℕ) → IsLast (pass_of q (search_of s)) last → (pass_of q (search_of s)).point last ≡ (pass_of q' (search_of s)).point 0) → IsMissedIn s (pass_of q) → StartsBelow s (pass_of q')
+  starts q q' join m = first_below s.half (unit (search_of s)) (pass_of q (search_of s)) (pass_of q' (search_of s)) join m
+
+  pub missed_then : (q next : Quantity) → next_of q ≡ Some next → IsMissedIn s (pass_of q) → StartsBelow s (pass_of next)
+  missed_then Time next e m = subst (λ n. StartsBelow s (pass_of n)) (same_Some Altitude next e) (starts Time Altitude (joined (search_of s) (search_fine s)).0 m)
+  missed_then Altitude next e m = subst (λ n. StartsBelow s (pass_of n)) (same_Some Intruder next e) (starts Altitude Intruder (joined (search_of s) (search_fine s)).1.0 m)
+  missed_then Intruder next e m = subst (λ n. StartsBelow s (pass_of n)) (same_Some Aim next e) (starts Intruder Aim (joined (search_of s) (search_fine s)).1.1.0 m)
+  missed_then Aim next e m = subst (λ n. StartsBelow s (pass_of n)) (same_Some Pull next e) (starts Aim Pull (joined (search_of s) (search_fine s)).1.1.1.0 m)
+  missed_then Pull next e m = subst (λ n. StartsBelow s (pass_of n)) (same_Some Hold next e) (starts Pull Hold (joined (search_of s) (search_fine s)).1.1.1.1.0 m)
+  missed_then Hold next e m = subst (λ n. StartsBelow s (pass_of n)) (same_Some Own next e) (starts Hold Own (joined (search_of s) (search_fine s)).1.1.1.1.1.0 m)
+  missed_then Own next e m = absurd cc
+
+  -- the last pass is not missed
+  pub never_missed_last : (q : Quantity) → next_of q ≡ None → EndsNotBelow s → IsMissedIn s (pass_of q) → ⊥
+  never_missed_last Time e h m = cc
+  never_missed_last Altitude e h m = cc
+  never_missed_last Intruder e h m = cc
+  never_missed_last Aim e h m = cc
+  never_missed_last Pull e h m = cc
+  never_missed_last Hold e h m = cc
+  never_missed_last Own e h m = true≢false (sym m.below ∙ ap (λ x. is_below s.half (value (unit (search_of s)) x)) (own-end (search_of s) (search_fine s) m.last m.is_last) ∙ h)
+
+  -- where a pass is hit the passes from it on end, and else where those after it do
+  pub ends_here : (q : Quantity) (f : Plan) → IsHitIn s (pass_of q) f → IsEndIn s (passes_from q) f
+  ends_here Time f h = end_here _ _ _ _ f h
+  ends_here Altitude f h = end_here _ _ _ _ f h
+  ends_here Intruder f h = end_here _ _ _ _ f h
+  ends_here Aim f h = end_here _ _ _ _ f h
+  ends_here Pull f h = end_here _ _ _ _ f h
+  ends_here Hold f h = end_here _ _ _ _ f h
+  ends_here Own f h = end_here _ _ _ _ f h
+
+  pub ends_later : (q next : Quantity) (f : Plan) → next_of q ≡ Some next → IsMissedIn s (pass_of q) → IsEndIn s (passes_from next) f → IsEndIn s (passes_from q) f
+  ends_later Time next f e m h = end_later _ _ _ _ f m (subst (λ n. IsEndIn s (passes_from n) f) (sym (same_Some Altitude next e)) h)
+  ends_later Altitude next f e m h = end_later _ _ _ _ f m (subst (λ n. IsEndIn s (passes_from n) f) (sym (same_Some Intruder next e)) h)
+  ends_later Intruder next f e m h = end_later _ _ _ _ f m (subst (λ n. IsEndIn s (passes_from n) f) (sym (same_Some Aim next e)) h)
+  ends_later Aim next f e m h = end_later _ _ _ _ f m (subst (λ n. IsEndIn s (passes_from n) f) (sym (same_Some Pull next e)) h)
+  ends_later Pull next f e m h = end_later _ _ _ _ f m (subst (λ n. IsEndIn s (passes_from n) f) (sym (same_Some Hold next e)) h)
+  ends_later Hold next f e m h = end_later _ _ _ _ f m (subst (λ n. IsEndIn s (passes_from n) f) (sym (same_Some Own next e)) h)
+  ends_later Own next f e m h = absurd cc

@@ -3,9 +3,11 @@ use Rattle.std.specs.Prelude.{◌≡◌, ℕ, List, [], ◌∷◌, true, false}
 use Rattle.acas_passes.specs.Halving.{HalvesTo}
 use Rattle.acas_passes.specs.Flights.{Flight}
 use Rattle.acas_passes.specs.Passes.{Pass, IsLast, EndsAt, below_at}
-use Rattle.acas_passes.specs.Search.{Search, unit, altitude_pass, intruder_pass, aim_pass, pull_pass, hold_pass, own_pass}
+use Rattle.acas_passes.specs.Search.{Search, unit, passes, altitude_pass, intruder_pass, aim_pass, pull_pass, hold_pass, own_pass}
 use Rattle.acas_witness_plans.specs.declared.plan.Plan.{Plan}
 use Rattle.acas_witness_search.specs.declared.survey.Survey.{Survey}
+use Rattle.acas_witness_search.specs.declared.quantity.Quantity.{Quantity}
+use Rattle.acas_witness_search.specs.declared.quantity.Quantity.TheVariants.{Time, Altitude, Intruder, Aim, Pull, Hold, Own}
 use Rattle.acas_witness_plans.specs.Plans.{IsPlanOf, CanBeFlown}
 use Rattle.acas_witness_search.specs.Surveys.{search_of}
 
@@ -32,25 +34,15 @@ pub record IsEndOf (half q : ℕ) (passes : List Pass) (plan : Plan) : Type 0 wh
   pub point : IsPlanOf q flight plan
   pub flown : CanBeFlown plan
 
--- ---- the passes from one on
-
-abbrev pub from_own_on : Search → List Pass
-from_own_on s = own_pass s ∷ []
-
-abbrev pub from_hold_on : Search → List Pass
-from_hold_on s = hold_pass s ∷ from_own_on s
-
-abbrev pub from_pull_on : Search → List Pass
-from_pull_on s = pull_pass s ∷ from_hold_on s
-
-abbrev pub from_aim_on : Search → List Pass
-from_aim_on s = aim_pass s ∷ from_pull_on s
-
-abbrev pub from_intruder_on : Search → List Pass
-from_intruder_on s = intruder_pass s ∷ from_aim_on s
-
-abbrev pub from_altitude_on : Search → List Pass
-from_altitude_on s = altitude_pass s ∷ from_intruder_on s
+-- the passes from that over a quantity on
+abbrev pub passes_from : Quantity → Search → List Pass
+passes_from Time s = passes s
+passes_from Altitude s = altitude_pass s ∷ intruder_pass s ∷ aim_pass s ∷ pull_pass s ∷ hold_pass s ∷ own_pass s ∷ []
+passes_from Intruder s = intruder_pass s ∷ aim_pass s ∷ pull_pass s ∷ hold_pass s ∷ own_pass s ∷ []
+passes_from Aim s = aim_pass s ∷ pull_pass s ∷ hold_pass s ∷ own_pass s ∷ []
+passes_from Pull s = pull_pass s ∷ hold_pass s ∷ own_pass s ∷ []
+passes_from Hold s = hold_pass s ∷ own_pass s ∷ []
+passes_from Own s = own_pass s ∷ []
 
 -- ---- the same of a survey
 

@@ -7,7 +7,7 @@ ghost use Rattle.acas_witness_search.specs.Surveys.{search_of};
 use crate::survey::Survey;
 use acas_passes::{PULL_STEPS, RATE_STEPS, TIME_STEPS};
 use acas_units::{GREATEST_CLOSING, GREATEST_RATE, WINDOW_SECONDS};
-use acas_witness_plans::{rate_steps, time_parts};
+use acas_witness_plans::{end_parts, rate_steps};
 
 // The way between two numbers, in either direction.
 fn way(from: u64, to: u64) -> u64
@@ -48,8 +48,8 @@ impl Survey {
     pub(crate) fn last_time(&self) -> u32
         ensures { IsLast (time_pass (search_of self.now)) result }
     {
-        let (a, b) = time_parts(&self.low);
-        let (c, d) = time_parts(&self.high);
+        let (a, b) = end_parts(&self.low);
+        let (c, d) = end_parts(&self.high);
         time_steps_between(a, b, c, d)
     }
 

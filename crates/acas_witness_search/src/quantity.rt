@@ -1,8 +1,10 @@
 //! One pass of a survey.
+ghost use Rattle.std.specs.Prelude.{◌≡◌};
 ghost use Rattle.acas_passes.specs.Flights.{value};
 ghost use Rattle.acas_passes.specs.Passes.{IsLast};
 ghost use Rattle.acas_passes.specs.Search.{unit};
 ghost use Rattle.acas_witness_plans.specs.Plans.{CanBeFlown, clearance_of};
+ghost use Rattle.acas_witness_search.specs.Order.{next_of};
 ghost use Rattle.acas_witness_search.specs.Surveys.{IsPointOf, pass_of, search_of};
 
 use crate::survey::Survey;
@@ -19,6 +21,23 @@ pub(crate) enum Quantity {
     Pull,
     Hold,
     Own,
+}
+
+impl Quantity {
+    /// The quantity that the next pass moves.
+    pub(crate) fn next(self) -> Option<Quantity>
+        ensures { result ≡ next_of self }
+    {
+        match self {
+            Quantity::Time => Some(Quantity::Altitude),
+            Quantity::Altitude => Some(Quantity::Intruder),
+            Quantity::Intruder => Some(Quantity::Aim),
+            Quantity::Aim => Some(Quantity::Pull),
+            Quantity::Pull => Some(Quantity::Hold),
+            Quantity::Hold => Some(Quantity::Own),
+            Quantity::Own => None,
+        }
+    }
 }
 
 /// The pass of a survey over a quantity, and the number of its last point.

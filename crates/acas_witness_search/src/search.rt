@@ -2,8 +2,8 @@
 ghost use Rattle.std.specs.Prelude.{◌≡◌, true, MatchOption};
 ghost use Rattle.acas_passes.specs.Value.{is_below};
 ghost use Rattle.acas_passes.specs.Flights.{value};
-ghost use Rattle.acas_passes.specs.Search.{aim_pass, altitude_pass, hold_pass, intruder_pass, low_flight, own_pass, passes, pull_pass, unit};
-ghost use Rattle.acas_witness_search.specs.Passes.{IsEndIn, IsHitIn, IsMissedIn, from_aim_on, from_altitude_on, from_hold_on, from_intruder_on, from_own_on, from_pull_on};
+ghost use Rattle.acas_passes.specs.Search.{low_flight, passes, unit};
+ghost use Rattle.acas_witness_search.specs.Passes.{IsEndIn, IsHitIn, IsMissedIn, passes_from};
 ghost use Rattle.acas_witness_search.specs.Surveys.{EndsNotBelow, StartsBelow, pass_of, search_of};
 
 use crate::quantity::{Quantity, SearchPass};
@@ -30,77 +30,18 @@ fn hit(survey: &Survey, quantity: Quantity) -> Option<Outcome>
     }
 }
 
-// The flight at which the pass over the own rate ends.
-fn from_own(survey: &Survey) -> Outcome
-    requires first { StartsBelow survey.now own_pass }
+// The flight at which the passes from that over a quantity on end.
+fn search_from(survey: &Survey, quantity: Quantity) -> Outcome
+    requires first { StartsBelow survey.now (pass_of quantity) }
     requires last { EndsNotBelow survey.now }
-    ensures { IsEndIn survey.now from_own_on result.plan }
+    ensures { IsEndIn survey.now (passes_from quantity) result.plan }
 {
-    let pass = SearchPass {
-        survey: *survey,
-        quantity: Quantity::Own,
-        last: survey.last_own(),
-    };
-    halve(&pass, pass.last)
-}
-
-// The flight at which the passes from that over the hold on end.
-fn from_hold(survey: &Survey) -> Outcome
-    requires first { StartsBelow survey.now hold_pass }
-    requires last { EndsNotBelow survey.now }
-    ensures { IsEndIn survey.now from_hold_on result.plan }
-{
-    match hit(survey, Quantity::Hold) {
+    match hit(survey, quantity) {
         Some(found) => found,
-        None => from_own(survey),
-    }
-}
-
-// The flight at which the passes from that over the pull on end.
-fn from_pull(survey: &Survey) -> Outcome
-    requires first { StartsBelow survey.now pull_pass }
-    requires last { EndsNotBelow survey.now }
-    ensures { IsEndIn survey.now from_pull_on result.plan }
-{
-    match hit(survey, Quantity::Pull) {
-        Some(found) => found,
-        None => from_hold(survey),
-    }
-}
-
-// The flight at which the passes from that over the aim on end.
-fn from_aim(survey: &Survey) -> Outcome
-    requires first { StartsBelow survey.now aim_pass }
-    requires last { EndsNotBelow survey.now }
-    ensures { IsEndIn survey.now from_aim_on result.plan }
-{
-    match hit(survey, Quantity::Aim) {
-        Some(found) => found,
-        None => from_pull(survey),
-    }
-}
-
-// The flight at which the passes from that over the intruder's rate on end.
-fn from_intruder(survey: &Survey) -> Outcome
-    requires first { StartsBelow survey.now intruder_pass }
-    requires last { EndsNotBelow survey.now }
-    ensures { IsEndIn survey.now from_intruder_on result.plan }
-{
-    match hit(survey, Quantity::Intruder) {
-        Some(found) => found,
-        None => from_aim(survey),
-    }
-}
-
-// The flight at which the passes from that over the altitude on end.
-fn from_altitude(survey: &Survey) -> Outcome
-    requires first { StartsBelow survey.now altitude_pass }
-    requires last { EndsNotBelow survey.now }
-    ensures { IsEndIn survey.now from_altitude_on result.plan }
-{
-    match hit(survey, Quantity::Altitude) {
-        Some(found) => found,
-        None => from_intruder(survey),
+        None => match quantity.next() {
+            Some(next) => search_from(survey, next),
+            None => unreachable!(),
+        },
     }
 }
 
@@ -111,8 +52,5 @@ pub fn through(survey: &Survey) -> Outcome
     requires last { EndsNotBelow survey.now }
     ensures { IsEndIn survey.now passes result.plan }
 {
-    match hit(survey, Quantity::Time) {
-        Some(found) => found,
-        None => from_altitude(survey),
-    }
+    search_from(survey, Quantity::Time)
 }

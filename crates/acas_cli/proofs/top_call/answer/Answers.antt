@@ -3,6 +3,7 @@ use Rattle.acas_outside.specs.Outside.{Outside, outside}
 use Rattle.acas_command.specs.Answers.{ended, report_ended}
 use Rattle.acas_audit_commands.proofs.Worth.{audit-worth, regions-worth}
 use Rattle.acas_encounter_commands.proofs.Worth.{replay-worth}
+use Rattle.acas_table_commands.proofs.MigratedTables.{migrate-worth}
 use Rattle.acas_table_commands.proofs.Worth.{check-worth, compile-worth, values-worth}
 use Rattle.acas_cli.proofs.top_call.answer.Goals as goal
 
@@ -46,6 +47,13 @@ returns-in-Replay-clause-headline g c =
     let after : Outside = outside g.F.Folder g.O.Sink c.replay.new.folder c.replay.new.out in
     rw (c.in-Replay.is, c.cause_of-in-Replay.ensures)
     (replay-worth c.in-Replay.model.now c.in-Replay.table.now c.in-Replay.encounter.now (ended c.replay.result) before after c.replay.ensures.answers)
+
+pub returns-in-Migrate-clause-headline : goal.returns-in-Migrate-clause-headline
+returns-in-Migrate-clause-headline g c =
+    let before : Outside = outside g.F.Folder g.O.Sink c.args.folder.now c.args.out.now in
+    let after : Outside = outside g.F.Folder g.O.Sink c.migrate.new.folder c.migrate.new.out in
+    rw (c.in-Migrate.is, c.cause_of-in-Migrate.ensures)
+    (migrate-worth c.in-Migrate.model.now c.in-Migrate.table.now c.in-Migrate.target.now (ended c.migrate.result) before after c.migrate.ensures.answers c.migrate.ensures.bytes)
 
 pub returns-in-Drill-clause-headline : goal.returns-in-Drill-clause-headline
 returns-in-Drill-clause-headline g c =

@@ -22,4 +22,4 @@ pub returns-clause-value : goal.returns-clause-value
 unfolding encounter_in
 returns-clause-value c =
     let count : c.len-seconds.result ≡ length c.in_ok-own.own.items = search rules in
-    rw (c.in_ok-top_keys.ensures, c.in_ok-version_of.ensures, c.in_ok-start.ensures.value, c.in_ok-own.ensures.value, ← count, c.in_ok-intruder.ensures.value, c.new.ensures) refl
+    rw (c.in_ok-only_keys.ensures, c.in_ok-version_of.ensures, c.in_ok-start.ensures.value, c.in_ok-own.ensures.value, ← count, c.in_ok-intruder.ensures.value, c.new.ensures) refl

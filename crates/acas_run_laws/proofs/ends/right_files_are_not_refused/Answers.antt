@@ -1,4 +1,4 @@
-use Rattle.acas_cli_words.specs.Words.{Audit, Check, Compile, Drill, Regions, Replay, Values}
+use Rattle.acas_cli_words.specs.Words.{Audit, Check, Compile, Drill, Migrate, Regions, Replay, Values}
 use Rattle.acas_run_laws.proofs.NotRefused.{ends-well, worth-form}
 use Rattle.acas_run_laws.proofs.ends.right_files_are_not_refused.Goals as goal
 
@@ -16,5 +16,7 @@ returns c = record {
       ends-well cause before after none ((worth-form (Regions model boxes) cause files before after told h).not_refused bytes given m said says there short text);
   replay = λ model table encounter bytes given flown_bytes m t flown cause files before after told says there accepted flown_there short text none h.
       ends-well cause before after none ((worth-form (Replay model table encounter) cause files before after told h).not_refused bytes given flown_bytes m t flown says there accepted flown_there short text);
+  migrate = λ model table target bytes given m t cause files before after told says there accepted none h.
+      ends-well cause before after none ((worth-form (Migrate model table target) cause files before after told h).not_refused bytes given m t says there accepted);
   drill = λ number cause files before after told none h. ends-well cause before after none (worth-form (Drill number) cause files before after told h).not_refused;
 }

@@ -1,5 +1,5 @@
 use Rattle.std.proofs.Common.{subst}
-use Rattle.acas_table.specs.Refusals.{IsOfBytes}
+use Rattle.acas_table_text.specs.Refusals.{IsOfBytes}
 use Rattle.acas_command.specs.declared.status.Cause.TheVariants.{Input, Model, Table}
 use Rattle.acas_run_laws.proofs.Causes.{has_cause-form}
 use Rattle.acas_run_laws.proofs.faults.refusals_are_of_bytes.Goals as goal

@@ -1,5 +1,5 @@
 use Rattle.acas_run_laws.proofs.Causes.{agrees-form}
-use Rattle.acas_run_laws.proofs.CompiledFiles.{other-form}
+use Rattle.acas_run_laws.proofs.StoredTables.{other-form}
 use Rattle.acas_run_laws.proofs.folder.other_files_stay.Goals as goal
 
 pub returns : goal.returns

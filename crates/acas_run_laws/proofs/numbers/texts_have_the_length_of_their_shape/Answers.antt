@@ -1,5 +1,5 @@
-use Rattle.acas_run_laws.proofs.TableLengths.{length-version_text}
+use Rattle.acas_run_laws.proofs.TableLengths.{length-text}
 use Rattle.acas_run_laws.proofs.numbers.texts_have_the_length_of_their_shape.Goals as goal
 
 pub returns : goal.returns
-returns c = length-version_text
+returns c = length-text

@@ -18,7 +18,7 @@ fill_blends-requires-clause-room c =
     let known = c.unit_cell-corner.ensures.known in
     let some : 0 < weight_of_cell t = omega (arith, known.divisor.some, known.by) in
     let least : weight_of_cell t ≤ reach.widest = omega (arith, c.if-corner-reach.false, known.by) in
-    has_room t reach.size some (omega (arith, mul-le-mul_right (2 * reach.size + 1) least, c.requires.reach.room))
+    has_room t reach.size some (omega (arith, mul-le-mul_right (2 * reach.size + 1) least, c.requires.column.reach.room))
 
 pub add_points-requires-clause-rates : goal.add_points-requires-clause-rates
 add_points-requires-clause-rates c =
@@ -36,5 +36,5 @@ loop-sigma-preserved c =
     let t = c.unit_cell-corner.result.cell in
     let first : c.first_state-first.result ≡ c.args.advisory * vertices m.grid = c.first_state-first.ensures.value ∙ ap (λ (d : GridData). c.args.advisory * vertices d) c.grid-grid.ensures.value in
     let blends = subst (λ (d : GridData). AreBlends d t c.first_state-first.result c.args.reach.size c.args.below.now c.fill_blends.new.uppers c.fill_blends.new.lowers) c.grid-grid.ensures.value c.fill_blends.ensures.blends in
-    c.add_points.ensures.sums c.args.below.now c.requires.below c.requires.reach.upper c.requires.reach.lower
+    c.add_points.ensures.sums c.args.below.now c.requires.column.below c.requires.column.reach.upper c.requires.column.reach.lower
     (subst (λ (n : ℕ). AreBlends m.grid t n c.args.reach.size c.args.below.now c.fill_blends.new.uppers c.fill_blends.new.lowers) first blends) c.loop-sigma.invariant c.if-not-add_points.false

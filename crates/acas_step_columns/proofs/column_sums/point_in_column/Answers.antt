@@ -75,9 +75,9 @@ returns-clause-point c = λ below count upper lower are.
     let here : t.h.cell < length m.grid.h = omega (arith, above) in
     let sums = c.along_h-sums in
     record {
-      upper = column_point up (inr refl) m u s at.result rates c.args.advisory by Upper below low.upper high.upper sums.result.upper c.quotient_up.result c.grid.ensures.valid c.requires.stencils.units at.ensures.cell
-          at.ensures.v0 at.ensures.v1 c.requires.advisory count upper (are.upper t.h.cell here) (are.upper (t.h.cell + 1) above) sums.ensures.upper c.quotient_up.ensures.value;
-      lower = column_point down (inl refl) m u s at.result rates c.args.advisory by Lower below low.lower high.lower sums.result.lower c.quotient_down.result c.grid.ensures.valid c.requires.stencils.units at.ensures.cell
-          at.ensures.v0 at.ensures.v1 c.requires.advisory count lower (are.lower t.h.cell here) (are.lower (t.h.cell + 1) above) sums.ensures.lower c.quotient_down.ensures.value;
+      upper = column_point up (inr refl) m u s at.result rates c.args.advisory by Upper below low.upper high.upper sums.result.upper c.quotient_up.result c.grid.ensures.valid c.requires.stencil.stencils.units at.ensures.cell
+          at.ensures.v0 at.ensures.v1 c.requires.stencil.advisory count upper (are.upper t.h.cell here) (are.upper (t.h.cell + 1) above) sums.ensures.upper c.quotient_up.ensures.value;
+      lower = column_point down (inl refl) m u s at.result rates c.args.advisory by Lower below low.lower high.lower sums.result.lower c.quotient_down.result c.grid.ensures.valid c.requires.stencil.stencils.units at.ensures.cell
+          at.ensures.v0 at.ensures.v1 c.requires.stencil.advisory count lower (are.lower t.h.cell here) (are.lower (t.h.cell + 1) above) sums.ensures.lower c.quotient_down.ensures.value;
       within = returns-clause-within c;
     }

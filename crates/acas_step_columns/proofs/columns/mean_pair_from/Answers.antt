@@ -24,14 +24,14 @@ returns-in-Twin-clause-means c =
     let from : IsSource m below c.args.reach changes c.args.column a c.args.uppers.now c.args.lowers.now (Twin twin) =
     subst (λ (s : Source). IsSource m below c.args.reach changes c.args.column a c.args.uppers.now c.args.lowers.now s) c.in-Twin.is c.requires.source in
     let formed : AreMeansAt m below x twin pair = subst (λ (k : ℕ). AreMeansAt m below x twin (pair_at c.args.earlier.now k)) (sym c.from.ensures) (c.requires.earlier twin from.0) in
-    means_of_twin m below c.args.reach.likes changes c.args.column c.args.i a twin pair c.requires.column c.requires.place c.requires.reach.likes c.requires.changes c.requires.advisory
-    (omega (arith, from.0, c.requires.advisory)) from.1 from.2 formed
+    means_of_twin m below c.args.reach.likes changes c.args.column c.args.i a twin pair c.requires.column.column c.requires.place c.requires.column.reach.likes c.requires.changes c.requires.column.advisory
+    (omega (arith, from.0, c.requires.column.advisory)) from.1 from.2 formed
 
 pub returns-in-Twin-clause-bounded : goal.returns-in-Twin-clause-bounded
 returns-in-Twin-clause-bounded c = λ most side within.
     let m = c.args.model.now in
     means_bounded m c.args.below.now (vertex_at m.grid (vertex_in m.grid c.args.column c.args.i)) c.args.advisory (pair_at c.args.earlier.now c.from.result) most side
-    c.grid-grid.ensures.valid c.requires.advisory c.requires.below (returns-in-Twin-clause-means c) within
+    c.grid-grid.ensures.valid c.requires.column.advisory c.requires.column.below (returns-in-Twin-clause-means c) within
 
 pub returns-in-Sums-clause-means : goal.returns-in-Sums-clause-means
 returns-in-Sums-clause-means c =
@@ -40,11 +40,11 @@ returns-in-Sums-clause-means c =
     let from : IsSource m below c.args.reach c.args.changes.now c.args.column c.args.advisory c.args.uppers.now c.args.lowers.now Sums =
     subst (λ (s : Source). IsSource m below c.args.reach c.args.changes.now c.args.column c.args.advisory c.args.uppers.now c.args.lowers.now s) c.in-Sums.is c.requires.source in
     means_of_all m below c.args.reach.size c.args.stencils.now.total.by (vertex_at m.grid (vertex_in m.grid c.args.column c.args.i)) c.args.advisory
-    (raised_in c.args.uppers.now c.args.lowers.now c.args.i) c.means_of_sums.result c.requires.stencils.by (from.1.each c.args.i c.requires.place)
+    (raised_in c.args.uppers.now c.args.lowers.now c.args.i) c.means_of_sums.result c.requires.column.stencils.by (from.1.each c.args.i c.requires.place)
     c.means_of_sums.ensures.upper c.means_of_sums.ensures.lower
 
 pub returns-in-Sums-clause-bounded : goal.returns-in-Sums-clause-bounded
 returns-in-Sums-clause-bounded c = λ most side within.
     let m = c.args.model.now in
     means_bounded m c.args.below.now (vertex_at m.grid (vertex_in m.grid c.args.column c.args.i)) c.args.advisory c.means_of_sums.result most side
-    c.grid-grid.ensures.valid c.requires.advisory c.requires.below (returns-in-Sums-clause-means c) within
+    c.grid-grid.ensures.valid c.requires.column.advisory c.requires.column.below (returns-in-Sums-clause-means c) within

@@ -3,7 +3,8 @@ use Rattle.std.proofs.lemmas.Int.{to_z-of_z}
 use Rattle.std.specs.Int.{cast_signed}
 use Rattle.byteorder.specs.Endian.{little_number}
 use Rattle.acas_units.specs.declared.pair.Entry.{Entry}
-use Rattle.acas_table.specs.Text.{part, entry_of}
+use Rattle.acas_table_text.specs.Format.{part}
+use Rattle.acas_table_text.specs.Text.{entry_of}
 use Rattle.acas_table.proofs.encoding.decode_entry.Goals as goal
 
 pub returns-clause-value : goal.returns-clause-value

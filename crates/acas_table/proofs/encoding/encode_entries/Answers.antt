@@ -2,7 +2,7 @@ use Rattle.std.proofs.Common.{◌≡◌, ◌-◌, ◌*◌, ◌+◌, length, pos,
 use Rattle.std.proofs.lemmas.Grind.{common_steps}
 use Rattle.std.proofs.lemmas.Slice.{take-put_mid}
 use Rattle.acas_units.specs.declared.pair.Pair.{Pair}
-use Rattle.acas_table.proofs.Layers.{text_next, text_step}
+use Rattle.acas_table_text.proofs.Layers.{text_next, text_step}
 use Rattle.acas_table.proofs.encoding.encode_entries.Goals as goal
 
 pub loop-i-preserved : goal.loop-i-preserved

@@ -1,5 +1,5 @@
 use Rattle.std.proofs.Common.{◌≡◌, ◌*◌, take}
-use Rattle.acas_table.specs.Text.{layer_text, layer_of}
+use Rattle.acas_table_text.specs.Text.{layer_text, layer_of}
 use Rattle.acas_table.proofs.encoding.encode_entries.Given as goal
 
 abbrev pub invariant-loop-i : goal.invariant-loop-i

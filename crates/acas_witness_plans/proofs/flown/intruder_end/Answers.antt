@@ -12,8 +12,8 @@ line_from h x t y xn xd tn td o f ex dx et dt eo ef e = record { over = rw (ex, 
 pub returns-clause-end : goal.returns-clause-end
 returns-clause-end c =
     let h : to_z w64 (of_z w64 c.args.altitude) ≡ c.args.altitude = omega (arith, ints, c.requires.altitude) in
-    let r : to_z w64 (of_z w64 c.rate_numbers-rate.result.0) ≡ c.rate_numbers-rate.result.0 = omega (arith, ints, c.rate_numbers-rate.ensures.num_size) in
+    let r : to_z w64 (of_z w64 c.rate_parts-rate.result.0) ≡ c.rate_parts-rate.result.0 = omega (arith, ints, c.rate_parts-rate.ensures.num_size) in
     let s : to_z w64 (of_z w64 (to_z w64 (of_z w64 c.over.result) +ℤ to_z w64 (of_z w64 c.flown.result))) ≡ c.over.result +ℤ c.flown.result = omega (arith, ints, c.over.ensures.size, c.flown.ensures.size) in
-    line_from c.args.altitude c.args.intruder.now c.args.time.now c.ratio.result c.rate_numbers-rate.result.0 c.rate_numbers-rate.result.1 c.time_numbers-num.result.0 c.time_numbers-num.result.1 c.over.result c.flown.result
-    c.rate_numbers-rate.ensures.num c.rate_numbers-rate.ensures.den c.time_numbers-num.ensures.num c.time_numbers-num.ensures.den
+    line_from c.args.altitude c.args.intruder.now c.args.time.now c.ratio.result c.rate_parts-rate.result.0 c.rate_parts-rate.result.1 c.time_parts-num.result.0 c.time_parts-num.result.1 c.over.result c.flown.result
+    c.rate_parts-rate.ensures.num c.rate_parts-rate.ensures.den c.time_parts-num.ensures.num c.time_parts-num.ensures.den
     (rw h at c.over.ensures.value) (rw r at c.flown.ensures.value) (rw s at c.ratio.ensures.value)

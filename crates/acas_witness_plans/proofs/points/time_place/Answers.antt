@@ -12,33 +12,33 @@ with_parts : (f g r : Fraction) (a b c d n : ℕ) → f.num ≡ pos a → f.den 
 with_parts f g r a b c d n ef df eg dg h = rw (ef, df, eg, dg) h
 
 pub time_at-requires-clause-most : goal.time_at-requires-clause-most
-time_at-requires-clause-most c = later_most c.time_parts-a.result.0 c.time_parts-a.result.1 c.time_parts-c.result.0 c.time_parts-c.result.1 c.from-then-first-moved.result
-    (rw (c.from.ensures ∙ sym c.from-then-first-moved.ensures) at c.if-first-moved.true) c.time_parts-c.ensures.most
+time_at-requires-clause-most c = later_most c.end_parts-a.result.0 c.end_parts-a.result.1 c.end_parts-c.result.0 c.end_parts-c.result.1 c.from-then-first-moved.result
+    (rw (c.from.ensures ∙ sym c.from-then-first-moved.ensures) at c.if-first-moved.true) c.end_parts-c.ensures.most
 
 pub overflow_sub-a : goal.overflow_sub-a
-overflow_sub-a c = sooner_room c.time_parts-a.result.0 c.time_parts-a.result.1 c.time_parts-c.result.0 c.time_parts-c.result.1 c.from-then-last-moved.result c.time_parts-c.ensures.some
+overflow_sub-a c = sooner_room c.end_parts-a.result.0 c.end_parts-a.result.1 c.end_parts-c.result.0 c.end_parts-c.result.1 c.from-then-last-moved.result c.end_parts-c.ensures.some
     (rw (c.from.ensures ∙ sym c.from-then-last-moved.ensures) at c.if-last-moved.true)
 
 pub returns-then-first-moved-clause-over : goal.returns-then-first-moved-clause-over
 returns-then-first-moved-clause-over c =
-    with_parts c.args.from.now c.args.to.now c.time_at.result _ _ _ _ c.args.number c.time_parts-a.ensures.num c.time_parts-a.ensures.den c.time_parts-c.ensures.num c.time_parts-c.ensures.den
-    (over_later c.time_at.result c.time_parts-a.result.0 c.time_parts-a.result.1 c.time_parts-c.result.0 c.time_parts-c.result.1 c.args.number
+    with_parts c.args.from.now c.args.to.now c.time_at.result _ _ _ _ c.args.number c.end_parts-a.ensures.num c.end_parts-a.ensures.den c.end_parts-c.ensures.num c.end_parts-c.ensures.den
+    (over_later c.time_at.result c.end_parts-a.result.0 c.end_parts-a.result.1 c.end_parts-c.result.0 c.end_parts-c.result.1 c.args.number
     (rw c.from-then-first-moved.ensures at c.time_at.ensures.value) (rw c.from.ensures at c.if-first-moved.true))
 
 pub returns-else-first-moved-clause-over : goal.returns-else-first-moved-clause-over
 returns-else-first-moved-clause-over c =
-    with_parts c.args.from.now c.args.to.now c.args.to.now _ _ _ _ c.args.number c.time_parts-a.ensures.num c.time_parts-a.ensures.den c.time_parts-c.ensures.num c.time_parts-c.ensures.den
-    (over_end c.args.to.now c.time_parts-a.result.0 c.time_parts-a.result.1 c.time_parts-c.result.0 c.time_parts-c.result.1 c.args.number c.time_parts-c.ensures.num c.time_parts-c.ensures.den
-    (end_later c.time_parts-a.result.0 c.time_parts-a.result.1 c.time_parts-c.result.0 c.time_parts-c.result.1 c.args.number c.if-first-last.true (rw c.from.ensures at c.if-first-moved.false)))
+    with_parts c.args.from.now c.args.to.now c.args.to.now _ _ _ _ c.args.number c.end_parts-a.ensures.num c.end_parts-a.ensures.den c.end_parts-c.ensures.num c.end_parts-c.ensures.den
+    (over_end c.args.to.now c.end_parts-a.result.0 c.end_parts-a.result.1 c.end_parts-c.result.0 c.end_parts-c.result.1 c.args.number c.end_parts-c.ensures.num c.end_parts-c.ensures.den
+    (end_later c.end_parts-a.result.0 c.end_parts-a.result.1 c.end_parts-c.result.0 c.end_parts-c.result.1 c.args.number c.if-first-last.true (rw c.from.ensures at c.if-first-moved.false)))
 
 pub returns-then-last-moved-clause-over : goal.returns-then-last-moved-clause-over
 returns-then-last-moved-clause-over c =
-    with_parts c.args.from.now c.args.to.now c.time_at-then-last-moved.result _ _ _ _ c.args.number c.time_parts-a.ensures.num c.time_parts-a.ensures.den c.time_parts-c.ensures.num c.time_parts-c.ensures.den
-    (over_sooner c.time_at-then-last-moved.result c.time_parts-a.result.0 c.time_parts-a.result.1 c.time_parts-c.result.0 c.time_parts-c.result.1 c.args.number c.time_parts-c.ensures.some
+    with_parts c.args.from.now c.args.to.now c.time_at-then-last-moved.result _ _ _ _ c.args.number c.end_parts-a.ensures.num c.end_parts-a.ensures.den c.end_parts-c.ensures.num c.end_parts-c.ensures.den
+    (over_sooner c.time_at-then-last-moved.result c.end_parts-a.result.0 c.end_parts-a.result.1 c.end_parts-c.result.0 c.end_parts-c.result.1 c.args.number c.end_parts-c.ensures.some
     (rw c.from-then-last-moved.ensures at c.time_at-then-last-moved.ensures.value) (rw c.from.ensures at c.if-last-moved.true))
 
 pub returns-else-last-moved-clause-over : goal.returns-else-last-moved-clause-over
 returns-else-last-moved-clause-over c =
-    with_parts c.args.from.now c.args.to.now c.args.to.now _ _ _ _ c.args.number c.time_parts-a.ensures.num c.time_parts-a.ensures.den c.time_parts-c.ensures.num c.time_parts-c.ensures.den
-    (over_end c.args.to.now c.time_parts-a.result.0 c.time_parts-a.result.1 c.time_parts-c.result.0 c.time_parts-c.result.1 c.args.number c.time_parts-c.ensures.num c.time_parts-c.ensures.den
-    (end_sooner c.time_parts-a.result.0 c.time_parts-a.result.1 c.time_parts-c.result.0 c.time_parts-c.result.1 c.args.number c.if-first-last.false (rw c.from.ensures at c.if-last-moved.false)))
+    with_parts c.args.from.now c.args.to.now c.args.to.now _ _ _ _ c.args.number c.end_parts-a.ensures.num c.end_parts-a.ensures.den c.end_parts-c.ensures.num c.end_parts-c.ensures.den
+    (over_end c.args.to.now c.end_parts-a.result.0 c.end_parts-a.result.1 c.end_parts-c.result.0 c.end_parts-c.result.1 c.args.number c.end_parts-c.ensures.num c.end_parts-c.ensures.den
+    (end_sooner c.end_parts-a.result.0 c.end_parts-a.result.1 c.end_parts-c.result.0 c.end_parts-c.result.1 c.args.number c.if-first-last.false (rw c.from.ensures at c.if-last-moved.false)))

@@ -1,10 +1,9 @@
 use Rattle.std.proofs.Common.{◌<◌, ℕ, List, None, Some, Ok, Err, sym, subst, arith}
 use Rattle.acas_spec.specs.Model.{entries}
 use Rattle.acas_units.specs.declared.pair.Pair.{Pair}
-use Rattle.acas_process.proofs.ModelLaws.{is_chosen}
 use Rattle.acas_table.specs.Reader.{reader_state, GivesEntry, HasRead}
-use Rattle.acas_table.specs.Shape.{entry_count}
-use Rattle.acas_table.specs.declared.shape.TableShape.{TableShape}
+use Rattle.acas_table_text.specs.Shape.{entry_count}
+use Rattle.acas_table_text.specs.declared.shape.TableShape.{TableShape}
 use Rattle.acas_accept.specs.GivenTable.{entry_place}
 use Rattle.acas_accept.proofs.Places.{entry_place-below}
 use Rattle.acas_accept.proofs.Planes.{allowed_at, says_at}
@@ -25,19 +24,12 @@ returns-in-Err-clause-given g c = λ digest.
     (λ bytes gives within. fault_answered c.args.model.now digest t c.args.n c.args.state bytes c.in-Err.fault c.refused.result c.refused.ensures.answered c.requires.check c.requires.n c.requires.state within (gives within.accepted.stands))
     (c.in-Err.ensures.given digest)
 
-pub keep-requires-clause-advice : goal.keep-requires-clause-advice
-keep-requires-clause-advice g c = λ some.
-    let m = c.args.model.now in
-    let advice : ℕ = c.in-Ok.entry.advice in
-    let chosen = c.in-Ok-check_at.ensures.allowed some in
-    omega (arith, (is_chosen m c.args.plane.now.present advice c.requires.check.valid c.requires.plane.present chosen).inside, c.requires.check.advices.advisories)
-
 pub returns-in-Ok-check_at-clause-check : goal.returns-in-Ok-check_at-clause-check
 returns-in-Ok-check_at-clause-check g c =
     let m = c.args.model.now in
     let on : IsOn c.args.self.now.reader c.entry.new.self = record { shape = c.in-Ok.ensures.leaves.shape; given = c.in-Ok.ensures.count; no_fault = c.in-Ok.ensures.leaves.fault; not_done = c.in-Ok.ensures.done } in
-    let keeps : Keeps c.args.self.now c.entry.new.self c.keep.new.self c.args.n c.args.state c.in-Ok.entry =
-    record { reader = c.keep.ensures.reader; means = c.keep.ensures.means; pairs = c.keep.ensures.pairs; advices = c.keep.ensures.advices } in
+    let keeps : Keeps c.args.self.now c.entry.new.self c.keep.new.self c.args.state c.in-Ok.entry =
+    record { reader = c.keep.ensures.reader; means = c.keep.ensures.means; pairs = c.keep.ensures.pairs; advice = c.keep.ensures.advice } in
     check_next m c.args.self.now c.entry.new.self c.keep.new.self c.args.n c.args.state c.in-Ok.entry c.requires.check c.requires.n c.requires.state on keeps
     (λ some. allowed_at m c.args.plane.now.present c.args.vertex c.args.state c.in-Ok.entry.advice c.requires.vertex c.requires.place (c.in-Ok-check_at.ensures.allowed (omega arith)))
 
@@ -48,8 +40,8 @@ returns-in-Ok-check_at-clause-given g c = λ digest.
     let says : Says c.args.model.now c.args.self.now.means.items c.in-Ok.entry c.args.n c.args.state None =
     subst (λ (means : List Pair). Says c.args.model.now means c.in-Ok.entry c.args.n c.args.state None) c.deref.ensures.value
     (says_at m c.deref.result.now c.in-Ok.entry c.args.n c.args.plane.now.present c.args.vertex c.args.state None c.requires.vertex c.requires.place c.in-Ok-check_at.ensures.value) in
-    let keeps : Keeps c.args.self.now c.entry.new.self c.keep.new.self c.args.n c.args.state c.in-Ok.entry =
-    record { reader = c.keep.ensures.reader; means = c.keep.ensures.means; pairs = c.keep.ensures.pairs; advices = c.keep.ensures.advices } in
+    let keeps : Keeps c.args.self.now c.entry.new.self c.keep.new.self c.args.state c.in-Ok.entry =
+    record { reader = c.keep.ensures.reader; means = c.keep.ensures.means; pairs = c.keep.ensures.pairs; advice = c.keep.ensures.advice } in
     told_map _ c.args.name.now
     (λ bytes. (HasRead digest c.args.self.now.reader bytes → GivesEntry digest (reader_state c.args.self.now.reader) bytes (Ok c.in-Ok.entry)) × (HasRead digest c.args.self.now.reader bytes → HasRead digest c.entry.new.self bytes)) _
     (λ bytes both within.

@@ -3,7 +3,6 @@ use Rattle.std.proofs.lemmas.Result.{err_from_is_err_and}
 use Rattle.acas_spec.specs.Model.{vertices}
 use Rattle.acas_grid.specs.Grid.{state_number}
 use Rattle.acas_table.specs.Reader.{Told}
-use Rattle.acas_accept.specs.GivenTable.{entry_place}
 use Rattle.acas_accept.specs.Checking.{IsCheckOf, IsInLayer}
 use Rattle.acas_accept.proofs.Planes.{next_plane, next_vertex, numbered, state_below}
 use Rattle.acas_table.proofs.Told.{told_at, told_then}
@@ -35,13 +34,14 @@ loop-vertex-preserved g c =
     let number = numbered m.grid c.args.present c.loop-vertex.vertex c.from.result c.vertices-vertices.result c.from.ensures (c.vertices-vertices.ensures.value ∙ ap vertices c.grid.ensures.value) in
     let next : state + 1 ≡ state_number c.args.model.now.grid c.args.present (c.loop-vertex.vertex + 1) = ap (λ (s : ℕ). s + 1) number ∙ next_vertex m.grid c.args.present c.loop-vertex.vertex in
     record {
-      check = subst (λ (s : ℕ). IsCheckOf c.args.model.now c.entry.new.self (entry_place c.args.model.now.grid c.args.n s)) next c.in_ok-entry.ensures.check;
+      check = subst (λ (s : ℕ). IsCheckOf c.args.model.now c.entry.new.self c.args.n s) next c.in_ok-entry.ensures.check;
       given = λ digest.
           subst (λ (s : ℕ). Told (g.F.Folder.holds c.args.folder.now) c.args.name.now (λ bytes. IsInLayer c.args.model.now digest c.args.self.now c.args.n first bytes → IsInLayer c.args.model.now digest c.entry.new.self c.args.n s bytes)) next
           (told_then _ c.args.name.now (λ bytes. IsInLayer c.args.model.now digest c.args.self.now c.args.n first bytes) (λ bytes. IsInLayer c.args.model.now digest c.loop-vertex.self c.args.n state bytes) _
           (subst (λ (s : ℕ). Told (g.F.Folder.holds c.args.folder.now) c.args.name.now (λ bytes. IsInLayer c.args.model.now digest c.args.self.now c.args.n first bytes → IsInLayer c.args.model.now digest c.loop-vertex.self c.args.n s bytes)) (sym number) (c.loop-vertex.invariant.given digest))
           (told_at _ _ c.args.name.now _ c.loop-vertex.invariant.frame.holds (c.in_ok-entry.ensures.given digest)));
       shape = c.entry.ensures.shape ∙ c.loop-vertex.invariant.shape;
+      format = c.entry.ensures.format ∙ c.loop-vertex.invariant.format;
       taken = grind arith;
       frame = grind arith;
     }

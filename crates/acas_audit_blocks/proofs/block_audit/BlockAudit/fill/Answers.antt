@@ -1,4 +1,4 @@
-use Rattle.std.proofs.Common.{◌≡◌, ◌/◌, ◌%◌, false, ◌∙◌, arith}
+use Rattle.std.proofs.Common.{◌≡◌, ◌==◌, ◌/◌, ◌%◌, ◌&&◌, false, not, ap, ◌∙◌, arith}
 use Rattle.acas_audit_blocks.specs.Audits.{audit_view, cell_count, place_of}
 use Rattle.acas_cells.specs.Cells.{cell_at}
 use Rattle.acas_cells.specs.Corners.{is_advised}
@@ -7,8 +7,8 @@ use Rattle.acas_audit_blocks.proofs.Filled.{advised_same, cell_of_place, places_
 use Rattle.acas_audit_blocks.proofs.Ruled.{place_within}
 use Rattle.acas_audit_blocks.proofs.block_audit.BlockAudit.fill.Goals as goal
 
-pub advised_at-set-requires-clause-cell : goal.advised_at-set-requires-clause-cell
-advised_at-set-requires-clause-cell c =
+pub advices_at-requires-clause-cell : goal.advices_at-requires-clause-cell
+advices_at-requires-clause-cell c =
     let inv = c.loop-place.invariant in
     let a = audit_view c.loop-place.self-inside in
     let same : cell_count a ≡ cell_count c.args.self.now = same_count _ _ _ _ _ _ inv.altitudes inv.own_rates inv.intruder_rates in
@@ -52,7 +52,7 @@ loop-place-preserved c =
       tabled = λ p a within. pushed_holds
           (λ q set. holds set a ≡ is_advised m advices (cell_at c.args.n c.args.present (q / old.intruder_rates / old.own_rates) (q / old.intruder_rates % old.own_rates) (q % old.intruder_rates)) a)
           old.reported.items _ _ c.loop-place.place inv.reported_long c.push_within-in-loop-place.ensures.items
-          (λ q before. inv.tabled q a before) (c.advised_at-set.ensures a) p within;
+          (λ q before. inv.tabled q a before) (c.without-set.ensures a ∙ ap (λ b. not (a == 0) && b) (c.advices_at.ensures.exact a)) p within;
     }
 
 pub returns-clause-begun : goal.returns-clause-begun

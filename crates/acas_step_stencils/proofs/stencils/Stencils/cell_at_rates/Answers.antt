@@ -11,8 +11,8 @@ ends_in-requires c =
     let is = c.stencil-stencil.ensures in
     let x = moved c.args.model.now (vertex_at g c.args.vertex) c.args.advisory c.args.sigma in
     let above = c.index-corner.result.now in
-    offset_at_rates g all.units x s c.args.rates.now s.base above c.requires.stencils.units is (base_at_rates g all.units x s c.args.rates.now is c.requires.rates)
-    (vertex_cell-read g all.units all.cells.items s.base above c.requires.stencils.cells is.base c.index-corner.ensures)
+    offset_at_rates g all.units x s c.args.rates.now s.base above c.requires.stencil.stencils.units is (base_at_rates g all.units x s c.args.rates.now is c.requires.rates)
+    (vertex_cell-read g all.units all.cells.items s.base above c.requires.stencil.stencils.cells is.base c.index-corner.ensures)
 
 pub returns-clause-cell : goal.returns-clause-cell
 returns-clause-cell c =
@@ -22,6 +22,6 @@ returns-clause-cell c =
     let is = c.stencil-stencil.ensures in
     let x = moved c.args.model.now (vertex_at g c.args.vertex) c.args.advisory c.args.sigma in
     let above = c.index-corner.result.now in
-    cell_at_rates g all.units x s c.args.rates.now s.base above c.ends_in.result c.grid.ensures.valid.grid c.requires.stencils.units is c.requires.rates (base_at_rates g all.units x s c.args.rates.now is c.requires.rates)
-    (vertex_cell-read g all.units all.cells.items s.base above c.requires.stencils.cells is.base c.index-corner.ensures)
+    cell_at_rates g all.units x s c.args.rates.now s.base above c.ends_in.result c.grid.ensures.valid.grid c.requires.stencil.stencils.units is c.requires.rates (base_at_rates g all.units x s c.args.rates.now is c.requires.rates)
+    (vertex_cell-read g all.units all.cells.items s.base above c.requires.stencil.stencils.cells is.base c.index-corner.ensures)
     c.ends_in.ensures.cell c.ends_in.ensures.lower c.ends_in.ensures.upper

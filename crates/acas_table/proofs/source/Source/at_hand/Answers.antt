@@ -1,5 +1,5 @@
 use Rattle.std.proofs.Common.{take, drop, ◌∙◌, ap, arith, List, ℕ}
-use Rattle.acas_table.specs.Text.{part}
+use Rattle.acas_table_text.specs.Format.{part}
 use Rattle.acas_table.proofs.Ahead.{at_hand_first}
 use Rattle.acas_table.proofs.source.Source.at_hand.Goals as goal
 

@@ -1,7 +1,7 @@
 use Rattle.std.proofs.Common.{take}
 use Rattle.acas_outside.specs.Files.{Given}
 use Rattle.acas_outside.specs.Frame.{OnlyReads}
-use Rattle.acas_table.specs.Faults.{widths}
+use Rattle.acas_table_text.specs.Faults.{widths}
 use Rattle.acas_table.specs.Source.{IsAtFile, Steps, TakesMore}
 use Rattle.acas_table.proofs.Passed.{HasPassed}
 use Rattle.acas_table.proofs.source.Source.check_all.Given as goal

@@ -1,5 +1,5 @@
 use Rattle.std.proofs.Common.{◌-◌, refl, ap, List, ℕ}
-use Rattle.acas_table.specs.Text.{part}
+use Rattle.acas_table_text.specs.Format.{part}
 use Rattle.acas_table.proofs.Ahead.{hashed_file}
 use Rattle.acas_table.proofs.source.Source.hash.Goals as goal
 

@@ -1,7 +1,7 @@
 use Rattle.std.proofs.Math.Bool.{Bool-set}
 use Rattle.std.proofs.Math.Logic.{∥∥₁_elim}
 use Rattle.acas_outside.proofs.Grown.{held_grown}
-use Rattle.acas_table.specs.Text.{layer_of}
+use Rattle.acas_table_text.specs.Text.{layer_of}
 use Rattle.acas_table_rows.proofs.BegunWriters.{begun-next, held-told}
 use Rattle.acas_table_rows.proofs.begun_writer.BegunWriter.layer.Goals as goal
 
