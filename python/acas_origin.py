@@ -9,7 +9,7 @@ FORMS = {
     "values": ("model",), "check": ("model", "table"), "audit": ("model", "table"), "regions": ("model", "boxes"),
     "replay": ("model", "table", "encounter"),
 }
-"""The commands that print, and the files that each reads, in the order of the words."""
+"""The commands that print what is kept, and the files that each reads, in the order of the words."""
 FILES = ("model", "table", "boxes", "encounter")
 DIGITS = frozenset("0123456789abcdef")
 

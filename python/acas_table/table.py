@@ -14,6 +14,9 @@ ENTRY = np.dtype([("upper", "<i8"), ("lower", "<i8"), ("advice", "u1")])
 HEADER = np.dtype([("magic", "V4"), ("version", "<u4"), ("model", "V32"), ("shape", "<u4", (5,))])
 """What stands before the entries: 60 bytes. The shape is altitudes, own rates, intruder rates, advisories and the horizon."""
 DIGEST_BYTES = 32
+VERSIONS = (1, 2)
+"""In version 1 one digest ends the file, over all bytes before; in version 2 one ends each layer, over the digest before and the layer's
+entries, or in layer 0 over the header and the entries."""
 NO_ADVICE = 255
 """The advice in layer 0, where no second is to go."""
 SHAPE_LIMITS = ((2, 129), (2, 129), (2, 129), (2, 16), (0, 120))
@@ -40,7 +43,8 @@ class Header:
     @property
     def length(self) -> int:
         """The bytes of the whole file."""
-        return HEADER.itemsize + ENTRY.itemsize * math.prod(self.shape) + DIGEST_BYTES
+        digests = 1 if self.version == 1 else self.shape[0]
+        return HEADER.itemsize + ENTRY.itemsize * math.prod(self.shape) + DIGEST_BYTES * digests
 
 
 @dataclass(frozen=True)
@@ -62,9 +66,10 @@ class Table:
 def read_table(path: str | os.PathLike[str], model: Model | None = None) -> Table:
     """Reads a table's file. A fault names the first field that is not as it has to be.
 
-    Looked at are the letters, the version, the numbers of the shape, the length, the digest of all bytes at the end of the file,
-    and that each advice is the number of an advisory. With a model also the digest of its file, its shape, and that each advice is
-    among the choices of the advisory that is present. Whether the values are sound is not looked at: that is `acas check`.
+    Looked at are the letters, the version, the numbers of the shape, the length, the digests, and that each advice is the number of
+    an advisory. Of version 1 that is the digest of all bytes at the end of the file, of version 2 that of each layer behind it: a
+    fault names the first layer that is damaged. With a model also the digest of its file, its shape, and that each advice is among
+    the choices of the advisory that is present. Whether the values are sound is not looked at: that is `acas check`.
 
     The entries stay in the file, which must not be written to while they are in use.
     """
@@ -74,13 +79,34 @@ def read_table(path: str | os.PathLike[str], model: Model | None = None) -> Tabl
         content = np.memmap(file, dtype=np.uint8, mode="r")
     if len(content) != header.length:
         raise Fault(source, "length", f"{len(content)} of {header.length}")
-    entries = content[:-DIGEST_BYTES]
-    kept, computed = content[-DIGEST_BYTES:].tobytes(), hashlib.sha256(entries).digest()
-    if kept != computed:
-        raise Fault(source, "digest", f"{kept.hex()} computed {computed.hex()}")
-    layers = entries[HEADER.itemsize :].view(ENTRY).reshape(header.shape)
+    layers = _layers_of_whole(content, header, source) if header.version == 1 else _layers_of_chain(content, header, source)
     _check_advice(layers["advice"], source, model)
     return Table(source, header, layers)
+
+
+def _layers_of_whole(content: np.ndarray, header: Header, source: str) -> np.ndarray:
+    """The entries of version 1, once the digest at the end is found to be that of all bytes before. `content` is uint8."""
+    hashed, kept = content[:-DIGEST_BYTES], content[-DIGEST_BYTES:].tobytes()
+    _check_digest(source, "digest", kept, hashlib.sha256(hashed).digest())
+    return hashed[HEADER.itemsize :].view(ENTRY).reshape(header.shape)
+
+
+def _layers_of_chain(content: np.ndarray, header: Header, source: str) -> np.ndarray:
+    """The entries of version 2, once the digest behind each layer is found to be that of the layer and of all before. `content` is uint8."""
+    layer = np.dtype([("entries", ENTRY, header.shape[1:]), ("digest", f"V{DIGEST_BYTES}")])
+    layers = content[HEADER.itemsize :].view(layer)
+    before = content[: HEADER.itemsize].tobytes()
+    for number in range(len(layers)):
+        computed = hashlib.sha256(before)
+        computed.update(layers["entries"][number])
+        before = layers["digest"][number].tobytes()
+        _check_digest(source, f"layer {number} digest", before, computed.digest())
+    return layers["entries"]
+
+
+def _check_digest(source: str, name: str, kept: bytes, computed: bytes) -> None:
+    if kept != computed:
+        raise Fault(source, name, f"{kept.hex()} computed {computed.hex()}")
 
 
 def _header(content: bytes, length: int, source: str, model: Model | None) -> Header:
@@ -90,7 +116,7 @@ def _header(content: bytes, length: int, source: str, model: Model | None) -> He
         raise Fault(source, "length", f"{length}, less than the {HEADER.itemsize} of a header")
     fields = np.frombuffer(content, dtype=HEADER)[0]
     version, digest, shape = int(fields["version"]), fields["model"].tobytes(), fields["shape"].tolist()
-    if version != 1:
+    if version not in VERSIONS:
         raise Fault(source, "version", str(version))
     if model is not None and digest != model.digest:
         raise Fault(source, "other model", f"{digest.hex()} found {model.digest.hex()} of {model.source}")

@@ -76,6 +76,7 @@ def test_each_command_that_prints(acas, folder, words):
     (("check", "c.acxt", "c.acxt"), 4, "acas: model refused: "),
     (("audit", "c.toml"), 2, "use: acas_run "),
     (("compile", "c.toml", "new.acxt"), 2, "use: acas_run "),
+    (("migrate", "c.toml", "c.acxt", "new.acxt"), 2, "use: acas_run "),
 ])
 def test_what_acas_refuses_is_not_written(acas, folder, words, code, said):
     """The code and the line are those of acas, and the files that were there stay."""
@@ -122,6 +123,19 @@ def test_report_of_another_table(acas, folder):
         check_origin("out", model, read_table("new.acxt", model))
     ended = plot("verdicts", "c.toml", "out", "p.png", *CELLS, "--table", "new.acxt")
     assert ended.returncode == 1 and ended.stderr.startswith("acas_plot: out: other table ")
+
+
+def test_report_of_the_same_table_in_another_version(acas, folder):
+    """Its lines are the same, and its bytes are not: it is another table, until it is audited too."""
+    acas.output("migrate", folder / "c.toml", folder / "c.acxt", folder / "new.acxt")
+    run(acas, "out", *WORDS)
+    model = read_model("c.toml")
+    with pytest.raises(Fault, match="^out: other table "):
+        read_report_of("out", model, read_table("new.acxt", model))
+    first = (folder / "out").read_text()
+    run(acas, "out", "audit", "c.toml", "new.acxt")
+    assert (folder / "out").read_text() == first
+    assert read_report_of("out", model, read_table("new.acxt", model)).reported == 1
 
 
 def test_text_that_was_changed_behind_its_origin(acas, folder):

@@ -31,9 +31,10 @@ def model():
     return read_model(EXAMPLES / "c.toml")
 
 
-@pytest.fixture
-def table(model):
-    return read_table(EXAMPLES / "c.acxt", model)
+@pytest.fixture(params=["c.acxt", "c2.acxt"])
+def table(request, model):
+    """The same table in version 1 and in version 2."""
+    return read_table(EXAMPLES / request.param, model)
 
 
 def test_the_program_prints_the_text_of_these_tests(acas, tmp_path):

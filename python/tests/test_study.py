@@ -67,7 +67,7 @@ def test_three_models_of_a_folder(acas, tmp_path):
     rows = {row["model"]: row for row in rows_of(results)}
     assert list(rows) == ["b", "c", "d"]
     assert rows["d"] == {
-        "model": "d", "layers": "31", "states": "96", "bytes": "50684", "cells": "720", "advised": "40", "lines": "40",
+        "model": "d", "layers": "31", "states": "96", "bytes": "51644", "cells": "720", "advised": "40", "lines": "40",
         "certified": "0", "reported": "40", "clear": "680", "advised_share": "0.0556", "reported_share": "1.0000",
     }
     assert (rows["c"]["cells"], rows["c"]["clear"], rows["c"]["reported_share"]) == ("3", "3", "0.0000")

@@ -37,21 +37,26 @@ let model_of bytes =
 
 let entry_bytes = 17
 let header_bytes = 60
+let digest_bytes = 32
 
-(* the table that the bytes hold, after what is said beside the entries was compared *)
+(* the table that the bytes hold, after what is said beside the entries was compared; where an entry stands, and the first digest that
+   is wrong, with the layer behind which it stands. In version 1 one digest stands at the end, and is that of all bytes before; in
+   version 2 one stands behind each layer, and is that of the digest before, or the header, and of the layer's entries *)
 let table_of model_bytes model bytes =
   let g = model.Tests.grid in
   let states = int (Tests.states g) and horizon = int g.Tests.grid_horizon in
-  let size = header_bytes + (entry_bytes * states * (horizon + 1)) + 32 in
   let number at = Int32.to_int (String.get_int32_le bytes at) land 0xffffffff in
   if String.length bytes < header_bytes then fail "table: length %d" (String.length bytes);
   if String.sub bytes 0 4 <> "ACXT" then fail "table: magic";
-  if number 4 <> 1 then fail "table: version";
+  let version = number 4 in
+  if version <> 1 && version <> 2 then fail "table: version";
+  let layer_bytes = (entry_bytes * states) + if version = 1 then 0 else digest_bytes in
+  let size = header_bytes + (layer_bytes * (horizon + 1)) + if version = 1 then digest_bytes else 0 in
   if String.sub bytes 8 32 <> Sha256.digest model_bytes then fail "table: other model";
   List.iteri (fun place n -> if number (40 + (4 * place)) <> n then fail "table: shape %d" place)
     [ List.length g.Tests.grid_h; List.length g.Tests.grid_v0; List.length g.Tests.grid_v1; int g.Tests.grid_advisories; horizon ];
   if String.length bytes <> size then fail "table: length %d of %d" (String.length bytes) size;
-  let at n state = header_bytes + (entry_bytes * ((n * states) + state)) in
+  let at n state = header_bytes + (layer_bytes * n) + (entry_bytes * state) in
   let place n p x = at (int n) (int (Tests.state_number g p (Tests.vertex_number g x))) in
   let value offset n p x = Z.of_int64 (String.get_int64_le bytes (place n p x + offset)) in
   let table = {
@@ -59,17 +64,25 @@ let table_of model_bytes model bytes =
     lower = value 8;
     advice = (fun n p x -> Z.of_int (Char.code bytes.[place n p x + 16]));
   } in
-  (table, at, states)
-
-let digest_is_right bytes =
-  let size = String.length bytes - 32 in
-  String.sub bytes size 32 = Sha256.digest (String.sub bytes 0 size)
+  let kept n = String.sub bytes (at n states) digest_bytes in
+  let rec chain before n =
+    if n > horizon then None
+    else if kept n <> Sha256.digest (before ^ String.sub bytes (at n 0) (entry_bytes * states)) then
+      Some (n, Printf.sprintf "layer %d digest" n)
+    else chain (kept n) (n + 1)
+  in
+  let wrong_digest =
+    if version = 2 then chain (String.sub bytes 0 header_bytes) 0
+    else if kept horizon <> Sha256.digest (String.sub bytes 0 (at horizon states)) then Some (horizon, "digest")
+    else None
+  in
+  (table, at, states, wrong_digest)
 
 let check model_name table_name =
   let model_bytes = contents model_name in
   let model, _ = model_of model_bytes in
   let bytes = contents table_name in
-  let table, at, states = table_of model_bytes model bytes in
+  let table, at, states, wrong_digest = table_of model_bytes model bytes in
   let g = model.Tests.grid in
   let test = Tests.vertex_test model table in
   let all = int (Tests.vertices g) in
@@ -83,10 +96,12 @@ let check model_name table_name =
     List.iter (fun (n, p) -> faults := (int n, int (Tests.state_number g p number)) :: !faults) (test x);
     incr done_;
     progress "vertex" !done_ all) (Tests.vertices_of g);
-  (match List.sort compare !faults with
-  | (n, state) :: _ -> fail "table: layer %d state %d is not sound, and %d more" n state (List.length !faults - 1)
-  | [] -> ());
-  if not (digest_is_right bytes) then fail "table: digest";
+  (* what is named is what comes first in the file *)
+  let before n = match wrong_digest with Some (layer, _) -> n <= layer | None -> true in
+  (match (List.sort compare !faults, wrong_digest) with
+  | (n, state) :: more, _ when before n -> fail "table: layer %d state %d is not sound, and %d more" n state (List.length more)
+  | _, Some (_, name) -> fail "table: %s" name
+  | _, None -> ());
   Printf.printf "confirmed layers %d states %d\n" (int g.Tests.grid_horizon + 1) states
 
 (* ---- the report's lines *)
@@ -142,8 +157,8 @@ let audit model_name table_name report_name =
   let model_bytes = contents model_name in
   let model, names = model_of model_bytes in
   let bytes = contents table_name in
-  let _, at, _ = table_of model_bytes model bytes in
-  if not (digest_is_right bytes) then fail "table: digest";
+  let _, at, _, wrong_digest = table_of model_bytes model bytes in
+  (match wrong_digest with Some (_, name) -> fail "table: %s" name | None -> ());
   let advices n state = Z.of_int (Char.code bytes.[at (int n) (int state) + 16]) in
   let text = contents report_name in
   if text = "" || text.[String.length text - 1] <> '\n' then fail "report: the last line does not end";
