@@ -45,7 +45,6 @@ pub fn read_entry<F: Folder>(
 }
 
 // Reads the digest of a group, and the first entry behind it.
-#[inline(never)]
 #[tactic(auto, using(crate::proofs::Standing::start_behind))]
 fn read_behind<F: Folder>(
     source: &mut Source,
@@ -141,7 +140,8 @@ pub fn read_end<F: Folder>(
     source.ends(folder, name)
 }
 
-// Reads the digest of a group.
+// Reads the digest of a group. It is called once for many entries.
+#[inline(never)]
 fn check_digest<F: Folder>(
     source: &mut Source,
     format: Format,
