@@ -10,3 +10,5 @@ pub mod HatLaws
 pub mod CellLaws
 pub mod SizeLaws
 pub mod SameLaws
+pub mod PolicyLaws
+pub mod ChanceLaws

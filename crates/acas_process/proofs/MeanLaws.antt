@@ -1,7 +1,7 @@
 -- The rounded mean of values, against the exact one.
-use Rattle.std.proofs.Common.{◌≡◌, ℕ, ◌+◌, ◌*◌, ◌<◌, ℤ, pos, ◌+ℤ◌, ◌*ℤ◌, ◌≤ℤ◌, length, ap, sym, subst, ◌∙◌, arith}
+use Rattle.std.proofs.Common.{◌≡◌, ℕ, zero, suc, ◌+◌, ◌*◌, ◌^◌, ◌<◌, ℤ, pos, ◌+ℤ◌, ◌*ℤ◌, ◌≤ℤ◌, length, ap, sym, subst, ◌∙◌, arith}
 use Rattle.std.proofs.lemmas.Int.{ints}
-use Rattle.std.proofs.Math.Nat.{mul-pos}
+use Rattle.std.proofs.Math.Nat.{mul-pos, pow-suc, pow-zero}
 use Rattle.acas_spec.specs.Limits.{IsModel, IsGrid}
 use Rattle.acas_spec.specs.Model.{GridData, ModelData, total_weight}
 use Rattle.acas_grid.specs.Grid.{IsVertex}
@@ -141,3 +141,10 @@ transitions_sum m x a v =
     ∙ sum_below-mul (length m.sigmas) (pos (grid_product m.grid)) (λ q. pos (weight q))
     ∙ ap (λ z. pos (grid_product m.grid) *ℤ z) (weights_sum m)
     ∙ mul_comm_ℤ (pos (grid_product m.grid)) (pos (total_weight m))
+
+power_pos : (t n : ℕ) → 0 < t → 0 < t ^ n
+power_pos t zero h = omega (arith, pow-zero t)
+power_pos t (suc n) h = let k = mul-pos (power_pos t n h) h in omega (arith, pow-suc t n)
+
+pub total_power_pos : (m : ModelData) (n : ℕ) → IsModel m → 0 < transition_total m ^ n
+total_power_pos m n v = power_pos (transition_total m) n (mul-pos (total_weight_pos m v) (grid_product_pos m.grid v.grid))

@@ -4,3 +4,5 @@ pub mod Step
 pub mod Cost
 pub mod Bounds
 pub mod Compiled
+pub mod Allowed
+pub mod Policies

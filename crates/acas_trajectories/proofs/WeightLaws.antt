@@ -1,14 +1,13 @@
 -- The weights of trajectories: they are at least 0, and sum to a power of the total.
-use Rattle.std.proofs.Common.{◌≡◌, ℕ, zero, suc, ◌^◌, ◌<◌, ℤ, pos, ◌*ℤ◌, ◌≤ℤ◌, unsigned_abs, List, [], ◌∷◌, length, ap, sym, subst, ◌∙◌, arith}
+use Rattle.std.proofs.Common.{◌≡◌, ℕ, zero, suc, ◌^◌, ℤ, pos, ◌*ℤ◌, ◌≤ℤ◌, unsigned_abs, List, [], ◌∷◌, length, ap, sym, subst, ◌∙◌, arith}
 use Rattle.std.proofs.lemmas.Int.{ints}
-use Rattle.std.proofs.Math.Nat.{mul-pos, pow-suc, pow-zero}
+use Rattle.std.proofs.Math.Nat.{pow-suc, pow-zero}
 use Rattle.acas_spec.specs.Limits.{IsModel}
 use Rattle.acas_spec.specs.Model.{ModelData}
 use Rattle.acas_spec.specs.declared.place.Vertex.{Vertex}
 use Rattle.acas_frac.proofs.SignedProducts.{mul_comm_ℤ, mul-le_ℤ}
 use Rattle.acas_process.specs.Cost.{transition_total, transition_weight}
-use Rattle.acas_process.proofs.MeanLaws.{grid_product_pos, transition_weight-pos, transitions_sum}
-use Rattle.acas_process.proofs.ModelLaws.{total_weight_pos}
+use Rattle.acas_process.proofs.MeanLaws.{transition_weight-pos, transitions_sum}
 use Rattle.acas_process.proofs.VertexLaws.{over_vertices-same, over_vertices-mul}
 use Rattle.acas_trajectories.specs.Memory.{GridState, MemoryPolicy, grid_state}
 use Rattle.acas_trajectories.specs.Trajectories.{Trajectory, Transition, over_trajectories, product_along, transitions_from}
@@ -37,13 +36,6 @@ weights_sum_from m policy v (suc n) earlier s =
     ∙ over_vertices-mul m.grid (pos below) (transition_weight m s.vertex a)
     ∙ ap (λ z. pos below *ℤ z) (transitions_sum m s.vertex a v)
     ∙ ap pos (sym (pow-suc (transition_total m) n))
-
-power_pos : (t n : ℕ) → 0 < t → 0 < t ^ n
-power_pos t zero h = omega (arith, pow-zero t)
-power_pos t (suc n) h = let k = mul-pos (power_pos t n h) h in omega (arith, pow-suc t n)
-
-pub total_power_pos : (m : ModelData) (n : ℕ) → IsModel m → 0 < transition_total m ^ n
-total_power_pos m n v = power_pos (transition_total m) n (mul-pos (total_weight_pos m v) (grid_product_pos m.grid v.grid))
 
 -- a product with a number that is at least 0 keeps the order
 pub mul-le_by_pos : (w a b : ℤ) → pos 0 ≤ℤ w → a ≤ℤ b → (w *ℤ a) ≤ℤ (w *ℤ b)
