@@ -1,4 +1,5 @@
 mod Digits
+mod Fields
 mod Lines
 pub mod Printing
 pub mod Completed

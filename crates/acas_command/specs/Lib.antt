@@ -14,3 +14,4 @@ pub mod InputText
 pub mod RefusalText
 pub mod ErrorLine
 pub mod LineParts
+pub mod Fields

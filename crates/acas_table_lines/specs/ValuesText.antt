@@ -1,10 +1,9 @@
 -- The lines of `values`.
-use Rattle.std.specs.Prelude.{ℕ, nat_lt, ◌+◌, ◌&&◌, if◌then◌else◌, ℤ, pos, int_div, List, [], ◌∷◌, ◌++◌, get_or}
-use Rattle.std.specs.Fmt.{decimal, signed_decimal}
-use Rattle.acas_units.specs.declared.ticks.TheConstants.{TICKS_PER_FOOT}
-use Rattle.acas_spec.specs.Axis.{place_value}
+use Rattle.std.specs.Prelude.{ℕ, nat_lt, ◌+◌, ◌&&◌, if◌then◌else◌, ℤ, List, [], ◌∷◌, ◌++◌, get_or}
+use Rattle.std.specs.Fmt.{decimal}
 use Rattle.acas_spec.specs.Model.{ModelData, advisory_at, states}
 use Rattle.acas_units.specs.Printed.{millionths_text}
+use Rattle.acas_command.specs.Fields.{field, state_fields}
 use Rattle.acas_print.specs.Printing.{below}
 use Rattle.acas_grid.specs.States.{state_present, state_vertex}
 use Rattle.acas_spec.specs.declared.place.Vertex.{Vertex}
@@ -13,27 +12,16 @@ use Rattle.acas_process.specs.Compiled.{compiled}
 use Rattle.acas_step.specs.Layer.{pair_at}
 use Rattle.acas_sweep.specs.Handed.{LayerData}
 
--- ticks in whole feet
-abbrev pub feet : ℤ → ℤ
-feet ticks = int_div ticks (pos TICKS_PER_FOOT)
-
--- a field and the space behind it
-unfoldable pub field : List ℕ → List ℕ
-field text = text ++ 32 ∷ []
-
 -- the advice by name; there is none with no second to go, and where its number is no advisory's
 unfoldable pub advice_text : ModelData → ℕ → ℕ → List ℕ
 advice_text m n advice =
     if nat_lt 0 n && nat_lt advice m.grid.advisories then (advisory_at m advice).name else 45 ∷ []
 
--- the line of an entry: seconds to go, present advisory, altitude in feet, own rate, intruder rate, lower value, upper value, advice
+-- the line of an entry: seconds to go, the fields of its state, lower value, upper value, advice
 unfoldable pub entry_line : ModelData → ℕ → ℕ → Vertex → ℤ → ℤ → ℕ → List ℕ
 entry_line m n p x lower upper advice =
     field (decimal n)
-    ++ field (advisory_at m p).name
-    ++ field (signed_decimal (feet (place_value m.grid.h x.i)))
-    ++ field (signed_decimal (place_value m.grid.v0 x.j))
-    ++ field (signed_decimal (place_value m.grid.v1 x.k))
+    ++ state_fields m p x
     ++ field (millionths_text lower)
     ++ field (millionths_text upper)
     ++ advice_text m n advice

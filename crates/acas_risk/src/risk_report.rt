@@ -1,0 +1,157 @@
+//! The report of `risk`, line by line to a sink.
+ghost use Rattle.std.specs.Prelude.{◌≡◌, ◌<◌, ◌≤◌, ◌++◌, [], length, IfOk, IsErr, IsErrOf, OnErr, OnOk};
+ghost use Rattle.acas_base.specs.Advices.{AreAdvicesOf};
+ghost use Rattle.acas_outside.specs.Bytes.{Appends, AppendsPart};
+ghost use Rattle.acas_outside.specs.Frame.{Emits};
+ghost use Rattle.acas_print.specs.Printing.{Prints, below};
+ghost use Rattle.acas_spec.specs.Model.{states};
+ghost use Rattle.acas_risk.specs.Plans.{advised};
+ghost use Rattle.acas_risk.specs.RiskText.{AreRisks, risk_line, risk_lines, risk_row, risk_text};
+ghost use Rattle.acas_risk.specs.Rows.{AreOfStates, row_at};
+
+use crate::risk_lines::{write_risk_line, write_states_line};
+use crate::risk_values::{RiskValues, risk_values};
+use acas_base::{Advices, Model};
+use acas_outside::{Failed, Sink};
+use acas_print::PrintBuffer;
+use acas_units::{LINE_BYTES, Line};
+use std::alloc::{AllocError, Global};
+use thiserror::Error;
+
+/// Why a report of risks was not written whole.
+#[derive(Clone, Copy, Debug, PartialEq, Eq, Error)]
+pub enum RiskFault {
+    /// The sink failed.
+    #[error("the sink failed")]
+    Sink = 1,
+    /// There was no memory for the values, the line and the buffer.
+    #[error("out of memory")]
+    Memory = 2,
+}
+
+/// A line to build in, and the bytes that wait to be written. Its memory is taken when it is made.
+#[derive(Drop)]
+struct Pen {
+    line: Line,
+    buffer: PrintBuffer,
+}
+
+impl Pen {
+    /// A pen that has written nothing.
+    fn make(alloc: Global) -> Result<Pen, AllocError>
+        ensures { IfOk result (λ pen. pen.buffer ≡ []) }
+    {
+        let line = Line::make(alloc)?;
+        let buffer = PrintBuffer::make(alloc)?;
+        Ok(Pen { line, buffer })
+    }
+
+    /// Prints the line, and writes out all that waits.
+    fn end<S: Sink>(&mut self, sink: &mut S) -> Result<(), Failed>
+        requires { length self.old.line ≤ LINE_BYTES }
+        ensures ok { OnOk result
+            (Appends (S.written sink.old) (S.written sink.new) (self.old.buffer ++ self.old.line)) }
+        ensures err { OnErr result
+            (AppendsPart (S.written sink.old) (S.written sink.new) (self.old.buffer ++ self.old.line)) }
+        ensures frame { Emits S.Sink sink.old sink.new (IsErr result) }
+    {
+        self.buffer.print(sink, self.line.bytes())?;
+        self.buffer.flush(sink)?;
+        Ok(())
+    }
+}
+
+/// Writes for each state at the horizon, in order, bounds of the chance of contact under a table's policy and under the policy that is
+/// always clear of conflict, and of what the table's policy costs; and then how many states there are, which it answers. It takes all its
+/// memory before the first byte goes out.
+pub fn write_risk<S: Sink>(
+    alloc: Global,
+    model: &Model,
+    advices: &Advices,
+    sink: &mut S,
+) -> Result<u32, RiskFault>
+    requires { AreAdvicesOf model.now advices.now }
+    ensures states { IfOk result (λ count. count ≡ states model.now.grid) }
+    ensures text { OnOk result (Appends (S.written sink.old) (S.written sink.new)
+        (risk_text model.now (advised model.now advices.now))) }
+    ensures bounds { OnOk result (AreRisks model.now (advised model.now advices.now)
+        (risk_row model.now (advised model.now advices.now))) }
+    ensures part { IsErrOf result RiskFault.Sink → AppendsPart (S.written sink.old) (S.written sink.new)
+        (risk_text model.now (advised model.now advices.now)) }
+    ensures memory { IsErrOf result RiskFault.Memory → S.written sink.new ≡ S.written sink.old }
+    ensures frame { Emits S.Sink sink.old sink.new (IsErrOf result RiskFault.Sink) }
+{
+    let states = model.grid().states();
+    let Ok(mut pen) = Pen::make(alloc) else {
+        return Err(RiskFault::Memory);
+    };
+    let Ok(values) = risk_values(alloc, model, advices) else {
+        return Err(RiskFault::Memory);
+    };
+    match print_risks(model, &values, &mut pen, sink) {
+        Ok(()) => Ok(states),
+        Err(_) => Err(RiskFault::Sink),
+    }
+}
+
+// Prints the lines of all states, and then how many there are, with a pen that has written nothing.
+fn print_risks<S: Sink>(
+    model: &Model,
+    values: &RiskValues,
+    pen: &mut Pen,
+    sink: &mut S,
+) -> Result<(), Failed>
+    requires values { AreOfStates model.now.grid values.now }
+    requires empty { pen.old.buffer ≡ [] }
+    ensures ok { OnOk result (Appends (S.written sink.old) (S.written sink.new)
+        (risk_lines model.now (row_at values.now))) }
+    ensures err { OnErr result (AppendsPart (S.written sink.old) (S.written sink.new)
+        (risk_lines model.now (row_at values.now))) }
+    ensures frame { Emits S.Sink sink.old sink.new (IsErr result) }
+{
+    print_states(model, values, pen, sink)?;
+    write_states_line(&mut pen.line, model.grid().states());
+    pen.end(sink)?;
+    Ok(())
+}
+
+// Prints the line of each state.
+fn print_states<S: Sink>(
+    model: &Model,
+    values: &RiskValues,
+    pen: &mut Pen,
+    sink: &mut S,
+) -> Result<(), Failed>
+    requires { AreOfStates model.now.grid values.now }
+    ensures ok { OnOk result (Prints (S.written sink.old) (S.written sink.new) pen.old.buffer pen.new.buffer
+        (below (states model.now.grid) (λ s. risk_line model.now s (row_at values.now s)))) }
+    ensures err { OnErr result (AppendsPart (S.written sink.old) (S.written sink.new)
+        (pen.old.buffer ++ below (states model.now.grid) (λ s. risk_line model.now s (row_at values.now s)))) }
+    ensures frame { Emits S.Sink sink.old sink.new (IsErr result) }
+{
+    for state in 0..model.grid().states() {
+        print_state(model, values, state, pen, sink)?;
+    }
+    Ok(())
+}
+
+// Prints the line of a state.
+fn print_state<S: Sink>(
+    model: &Model,
+    values: &RiskValues,
+    state: u32,
+    pen: &mut Pen,
+    sink: &mut S,
+) -> Result<(), Failed>
+    requires values { AreOfStates model.now.grid values.now }
+    requires state { state < states model.now.grid }
+    ensures ok { OnOk result (Prints (S.written sink.old) (S.written sink.new)
+        pen.old.buffer pen.new.buffer (risk_line model.now state (row_at values.now state))) }
+    ensures err { OnErr result (AppendsPart (S.written sink.old) (S.written sink.new)
+        (pen.old.buffer ++ risk_line model.now state (row_at values.now state))) }
+    ensures frame { Emits S.Sink sink.old sink.new (IsErr result) }
+{
+    write_risk_line(&mut pen.line, model, values, state);
+    pen.buffer.print(sink, pen.line.bytes())?;
+    Ok(())
+}

@@ -1,0 +1,3 @@
+mod SameText
+pub mod Files
+pub mod Worth
