@@ -1,0 +1,16 @@
+pub mod Rates
+pub mod Bounds
+pub mod Altitudes
+pub mod Reaches
+pub mod Follow
+pub mod Later
+pub mod Firsts
+pub mod Tests
+pub mod Shown
+pub mod Ordered
+pub mod RateEnds
+pub mod SomeOutlooks
+pub mod Numbering
+pub mod Counting
+pub mod Texts
+pub mod Reports

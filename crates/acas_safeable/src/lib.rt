@@ -1,0 +1,23 @@
+//! Whether some advisory can still be given a second later, where a table advises nothing: the clear cells of a table, each with the
+//! first advisory that is shown to keep the two apart. This is the safeable region of Jeannin et al. (TACAS 2015), for whole cells.
+#![tactic(auto)]
+
+mod cells;
+mod climbs;
+mod counts;
+mod finding;
+mod laws;
+mod lines;
+mod outlook;
+mod pen;
+mod reaching;
+mod report;
+
+pub use counts::{SafeCounts, SafeFault};
+pub use finding::standing;
+pub use laws::{
+    cells_follow_cells, certified_cells_keep_safe, outlooks_are_one, reached_areas_hold,
+};
+pub use outlook::{ClearCell, Outlook};
+pub use reaching::reached;
+pub use report::write_safeable;

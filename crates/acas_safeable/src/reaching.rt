@@ -1,0 +1,128 @@
+//! What is reached from a cell within a second.
+ghost use Rattle.std.specs.Prelude.{◌≡◌, ◌<◌, ◌≤◌, IfSome, None, unsigned_abs};
+ghost use Rattle.acas_cells.specs.Cells.{IsCellOf};
+ghost use Rattle.acas_flight.specs.Response.{demand_of};
+ghost use Rattle.acas_region_curves.specs.Limits.{interval_of};
+ghost use Rattle.acas_region_curves.specs.Sizes.{altitude_size};
+ghost use Rattle.acas_region_curves.specs.View.{area_of, demand_in};
+ghost use Rattle.acas_safeable.specs.Reached.{IsWithinAltitudes, greatest_altitude, greatest_rate, least_altitude, least_rate, reached_area, reached_from};
+ghost use Rattle.acas_safeable.specs.View.{cell_of};
+
+use crate::climbs::{altitude_after, highest, lowest};
+use crate::outlook::ClearCell;
+use acas_base::Model;
+use acas_frac::{Down, Up};
+use acas_region_curves::{Asked, BoxState};
+use acas_rulings::area_of_cell;
+use acas_units::{GREATEST_ALTITUDE, GREATEST_RATE, Span, TICKS_PER_FOOT};
+
+// What clear of conflict asks.
+fn clear_of_conflict(model: &Model) -> Asked
+    ensures { demand_in result ≡ demand_of model.now 0 }
+{
+    // A model within its limits has an advisory, and its numbers are within those of what is asked.
+    let _ = model.grid();
+    let interval = model.advisory(0);
+    Asked {
+        lo: interval.lo,
+        hi: interval.hi,
+        pull: model.pull() as u64,
+        limit: model.limit() as u64,
+        delay: model.delay() as u64,
+    }
+}
+
+// The altitude where it is within the limits.
+fn within(altitude: i128) -> Option<i64>
+    ensures value { IfSome result (λ ticks. ticks ≡ altitude) }
+    ensures size { IfSome result (λ ticks. unsigned_abs ticks ≤ altitude_size) }
+    ensures past { result ≡ None → altitude_size < unsigned_abs altitude }
+{
+    if altitude.unsigned_abs() <= u128::from(TICKS_PER_FOOT) * GREATEST_ALTITUDE as u128 {
+        Some(altitude as i64)
+    } else {
+        None
+    }
+}
+
+// The least altitude that is reached.
+fn least_altitude(asked: &Asked, area: &BoxState) -> i128
+    ensures { result ≡ least_altitude (demand_in asked.now) (interval_of area.now.h) (interval_of area.now.v0)
+        (interval_of area.now.v1) }
+{
+    altitude_after::<Down>(
+        area.h.least,
+        area.v1.least,
+        highest(asked, area.v0.greatest),
+    )
+}
+
+// The greatest altitude that is reached.
+fn greatest_altitude(asked: &Asked, area: &BoxState) -> i128
+    ensures { result ≡ greatest_altitude (demand_in asked.now) (interval_of area.now.h) (interval_of area.now.v0)
+        (interval_of area.now.v1) }
+{
+    altitude_after::<Up>(
+        area.h.greatest,
+        area.v1.greatest,
+        lowest(asked, area.v0.least),
+    )
+}
+
+// The least own rate that is reached.
+#[tactic(auto, using(std::proofs::lemmas::Int::clamps))]
+fn least_rate(asked: &Asked, own: Span) -> i64
+    requires { unsigned_abs own.least ≤ unsigned_abs GREATEST_RATE }
+    ensures value { result ≡ least_rate (demand_in asked.now) (interval_of own) }
+    ensures size { unsigned_abs result ≤ unsigned_abs GREATEST_RATE }
+{
+    if own.least < asked.lo {
+        own.least
+    } else {
+        asked.lo.max(own.least - asked.limit as i64)
+    }
+}
+
+// The greatest own rate that is reached.
+#[tactic(auto, using(std::proofs::lemmas::Int::clamps))]
+fn greatest_rate(asked: &Asked, own: Span) -> i64
+    requires { unsigned_abs own.greatest ≤ unsigned_abs GREATEST_RATE }
+    ensures value { result ≡ greatest_rate (demand_in asked.now) (interval_of own) }
+    ensures size { unsigned_abs result ≤ unsigned_abs GREATEST_RATE }
+{
+    if asked.hi < own.greatest {
+        own.greatest
+    } else {
+        asked.hi.min(own.greatest + asked.limit as i64)
+    }
+}
+
+// The area that is reached from another under what an advisory asks.
+fn reached_from(asked: &Asked, area: &BoxState) -> Option<BoxState>
+    ensures area { IfSome result (λ reached. area_of reached ≡
+        reached_from (demand_in asked.now) (interval_of area.now.h) (interval_of area.now.v0) (interval_of area.now.v1)) }
+    ensures past { result ≡ None → ¬ IsWithinAltitudes
+        (reached_from (demand_in asked.now) (interval_of area.now.h) (interval_of area.now.v0) (interval_of area.now.v1)) }
+{
+    let least = within(least_altitude(asked, area))?;
+    let greatest = within(greatest_altitude(asked, area))?;
+    let slowest = least_rate(asked, area.v0);
+    let fastest = greatest_rate(asked, area.v0);
+    Some(BoxState {
+        h: Span::new(least, greatest),
+        v0: Span::new(slowest, fastest),
+        v1: area.v1,
+    })
+}
+
+/// The area that is reached from a cell within a second, where the pilot is clear of conflict and the intruder keeps its rate. It is None
+/// exactly where an altitude of it is past 1,200,000 ticks, either way. It takes no memory.
+pub fn reached(model: &Model, cell: &ClearCell) -> Option<BoxState>
+    requires { IsCellOf model.now (cell_of cell.now) }
+    ensures area { IfSome result (λ area. area_of area ≡ reached_area model.now cell.now.i cell.now.j cell.now.k) }
+    ensures within { IfSome result (λ area. IsWithinAltitudes (area_of area)) }
+    ensures past { result ≡ None → ¬ IsWithinAltitudes (reached_area model.now cell.now.i cell.now.j cell.now.k) }
+{
+    let area = area_of_cell(model, cell.i, cell.j, cell.k);
+    reached_from(&clear_of_conflict(model), &area)
+}

@@ -1,0 +1,37 @@
+//! The command `safeable`.
+ghost use Rattle.std.specs.Prelude.{◌≤◌, IsErrOf, IsTrue};
+ghost use Rattle.acas_outside.specs.Frame.{ReadsAndWrites};
+ghost use Rattle.acas_outside.specs.Outside.{outside};
+ghost use Rattle.acas_command.specs.Answers.{Answers, report_ended};
+ghost use Rattle.acas_safeable_commands.specs.Calls.{CallsForSafeable};
+
+use acas_command::{Cause, read_model_file};
+use acas_outside::{Folder, Sink};
+use acas_safeable::{SafeFault, write_safeable};
+use acas_table_file::read_table_file;
+use std::alloc::Global;
+
+/// Prints for each clear cell of a table, once the whole table is accepted, the advisory that keeps it safe where it is given a second
+/// later, or that none is shown. It answers how many cells are open. It keeps the table's advices, one byte each, and reads the table once.
+pub fn safeable<F: Folder, O: Sink>(
+    alloc: Global,
+    model: &str,
+    table: &str,
+    folder: &mut F,
+    out: &mut O,
+) -> Result<u64, Cause>
+    requires model { IsTrue (F.serves folder.old model.now) }
+    requires table { IsTrue (F.serves folder.old table.now) }
+    ensures answers { Answers (CallsForSafeable model.now table.now) (report_ended result)
+        (outside F.Folder O.Sink folder.old out.old) (outside F.Folder O.Sink folder.new out.new) }
+    ensures folder { ReadsAndWrites F.Folder folder.old folder.new (IsErrOf result Cause.Folder) }
+    ensures output { O.faults out.old ≤ O.faults out.new }
+{
+    let found = read_model_file(alloc, model, folder)?;
+    let advices = read_table_file(alloc, &found, table, folder)?;
+    match write_safeable(alloc, &found.model, &advices, out) {
+        Ok(counts) => Ok(counts.unshown),
+        Err(SafeFault::Sink) => Err(Cause::Output),
+        Err(SafeFault::Memory) => Err(Cause::Memory),
+    }
+}
