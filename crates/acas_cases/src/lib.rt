@@ -44,8 +44,8 @@
 //!   `seal COUNT`: its digests, made anew: one behind so many entries, those of a layer or, in version 1, all. `whole`: of one
 //!   of version 2, as `compile` stores it, the same entries in version 1.
 //!
-//! The values that cases compare with are from an implementation of the definitions apart from the program, `bench/reference`
-//! and `bench/rows`, or worked out by hand. None is from the program.
+//! The values that cases compare with are from an implementation of the definitions apart from the program, `bench/reference`,
+//! `bench/audits` and `bench/rows`, or worked out by hand. None is from the program.
 #![tactic(auto)]
 
 #[cfg(test)]
@@ -60,6 +60,8 @@ mod boxes;
 mod cases;
 #[cfg(test)]
 mod changed_bits;
+#[cfg(test)]
+mod clear_cells;
 #[cfg(test)]
 mod counts;
 #[cfg(test)]
@@ -90,6 +92,8 @@ mod outside;
 mod replays;
 #[cfg(test)]
 mod report;
+#[cfg(test)]
+mod risks;
 #[cfg(test)]
 mod runner;
 #[cfg(test)]

@@ -9,16 +9,20 @@ use Rattle.acas_command.specs.declared.status.Cause.TheVariants.{Words}
 use Rattle.acas_audit_commands.specs.Calls.{CallsForAudit, CallsForRegions}
 use Rattle.acas_drill.specs.Calls.{CallsForDrill}
 use Rattle.acas_encounter_commands.specs.Calls.{CallsForReplay}
+use Rattle.acas_risk_commands.specs.Calls.{CallsForRisk}
+use Rattle.acas_safeable_commands.specs.Calls.{CallsForSafeable}
 use Rattle.acas_table_commands.specs.Calls.{CallsForCheck, CallsForCompile, CallsForMigrate, CallsForValues}
-use Rattle.acas_cli_words.specs.Words.{Form, Values, Compile, Check, Audit, Regions, Replay, Migrate, Drill}
+use Rattle.acas_cli_words.specs.Words.{Form, Values, Compile, Check, Risk, Audit, Regions, Safeable, Replay, Migrate, Drill}
 
 -- what a form calls for
 abbrev pub CallsFor : Form → Called
 CallsFor (Values model) = CallsForValues model
 CallsFor (Compile model table) = CallsForCompile model table
 CallsFor (Check model table) = CallsForCheck model table
+CallsFor (Risk model table) = CallsForRisk model table
 CallsFor (Audit model table which) = CallsForAudit model table which
 CallsFor (Regions model boxes) = CallsForRegions model boxes
+CallsFor (Safeable model table) = CallsForSafeable model table
 CallsFor (Replay model table encounter) = CallsForReplay model table encounter
 CallsFor (Migrate model table target) = CallsForMigrate model table target
 CallsFor (Drill number) = CallsForDrill number
@@ -33,8 +37,10 @@ abbrev pub AnswersCall : Form → Cause → Outside → Outside → Type 0
 AnswersCall (Values model) cause before after = Answers (CallsForValues model) cause before after
 AnswersCall (Compile model table) cause before after = Answers (CallsForCompile model table) cause before after
 AnswersCall (Check model table) cause before after = Answers (CallsForCheck model table) cause before after
+AnswersCall (Risk model table) cause before after = Answers (CallsForRisk model table) cause before after
 AnswersCall (Audit model table which) cause before after = Answers (CallsForAudit model table which) cause before after
 AnswersCall (Regions model boxes) cause before after = Answers (CallsForRegions model boxes) cause before after
+AnswersCall (Safeable model table) cause before after = Answers (CallsForSafeable model table) cause before after
 AnswersCall (Replay model table encounter) cause before after = Answers (CallsForReplay model table encounter) cause before after
 AnswersCall (Migrate model table target) cause before after = Answers (CallsForMigrate model table target) cause before after
 AnswersCall (Drill number) cause before after = AnswersDrill number cause before after

@@ -4,7 +4,7 @@ use Rattle.acas_outside.specs.Files.{Files}
 use Rattle.acas_command.specs.declared.status.Cause.{Cause}
 use Rattle.acas_audit_commands.specs.Decisions.{CountsAudit}
 use Rattle.acas_table_commands.specs.Work.{CountsSweep}
-use Rattle.acas_cli_words.specs.Words.{Form, Values, Compile, Check, Audit, Regions, Replay, Migrate, Drill}
+use Rattle.acas_cli_words.specs.Words.{Form, Values, Compile, Check, Risk, Audit, Regions, Safeable, Replay, Migrate, Drill}
 use Rattle.acas_cli.specs.declared.work.Work.{Work}
 
 -- there is room for one more run
@@ -35,8 +35,10 @@ abbrev pub CountsFor : Form → Option Files → Cause → Work → Work → Typ
 CountsFor (Values model) holds cause old new = CountsTable model holds cause old new
 CountsFor (Compile model table) holds cause old new = CountsTable model holds cause old new
 CountsFor (Check model table) holds cause old new = new ≡ old
+CountsFor (Risk model table) holds cause old new = new ≡ old
 CountsFor (Audit model table which) holds cause old new = CountsReport model table holds cause old new
 CountsFor (Regions model boxes) holds cause old new = new ≡ old
+CountsFor (Safeable model table) holds cause old new = new ≡ old
 CountsFor (Replay model table encounter) holds cause old new = new ≡ old
 CountsFor (Migrate model table target) holds cause old new = new ≡ old
 CountsFor (Drill number) holds cause old new = new ≡ old

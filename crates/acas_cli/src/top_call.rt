@@ -17,6 +17,8 @@ use acas_cli_words::{Command, command_of};
 use acas_command::{Cause, Status, cause_of, cause_of_report, report, report_memory, report_words};
 use acas_encounter_commands::replay;
 use acas_outside::{Folder, Sink};
+use acas_risk_commands::risk;
+use acas_safeable_commands::safeable;
 use acas_table_commands::{check, compile, migrate, values};
 use acas_units::Line;
 use std::alloc::Global;
@@ -140,6 +142,7 @@ fn answer<F: Folder, O: Sink>(
             alloc, model, table, folder, out, backups, turned,
         )),
         Command::Check { model, table } => cause_of(check(alloc, model, table, folder, out)),
+        Command::Risk { model, table } => cause_of(risk(alloc, model, table, folder, out)),
         Command::Audit {
             model,
             table,
@@ -147,6 +150,9 @@ fn answer<F: Folder, O: Sink>(
         } => cause_of_report(audit(alloc, model, table, *which, folder, out, decisions)),
         Command::Regions { model, boxes } => cause_of_report(regions(
             alloc, model, boxes, folder, out,
+        )),
+        Command::Safeable { model, table } => cause_of_report(safeable(
+            alloc, model, table, folder, out,
         )),
         Command::Replay {
             model,

@@ -10,7 +10,7 @@ use Rattle.acas_units.specs.declared.limits.TheConstants.{GREATEST_DRILL_NUMBER}
 use Rattle.acas_cli_words.specs.Forms.{HasNumber}
 use Rattle.acas_drill_model.specs.Word.{drill_number}
 use Rattle.acas_report_lines.specs.declared.counts.Which.TheVariants.{All as Whole, Reported}
-use Rattle.acas_cli_words.specs.Words.{Form, Values, Compile, Check, Audit, Regions, Replay, Migrate, Drill, are_apart, are_file_names, form_of, is_file_name, names_of}
+use Rattle.acas_cli_words.specs.Words.{Form, Values, Compile, Check, Risk, Audit, Regions, Safeable, Replay, Migrate, Drill, are_apart, are_file_names, form_of, is_file_name, names_of}
 
 -- of each of its names this is so, and its number is within its limit
 pub record IsKnown (P : List ℕ → Type 0) (form : Form) : Type 0 where
@@ -71,15 +71,21 @@ known_form P (verb ∷ word ∷ []) form e h =
 known_form P (verb ∷ model ∷ second ∷ []) form e h =
     let names : All P (model ∷ second ∷ []) = all_tail P verb (model ∷ second ∷ []) h in
     let checks : Bool = bytes_eq verb (codes "check") && are_file_names model second in
+    let risks : Bool = bytes_eq verb (codes "risk") && are_file_names model second in
     let audits : Bool = bytes_eq verb (codes "audit") && are_file_names model second in
     let rules : Bool = bytes_eq verb (codes "regions") && are_file_names model second in
-    let on_boxes : Option Form = cond rules (Some (Regions model second)) None in
+    let outlooks : Bool = bytes_eq verb (codes "safeable") && are_file_names model second in
+    let on_clear : Option Form = cond outlooks (Some (Safeable model second)) None in
+    let on_boxes : Option Form = cond rules (Some (Regions model second)) on_clear in
     let on_cells : Option Form = cond audits (Some (Audit model second Whole)) on_boxes in
-    let on_tables : Option Form = cond checks (Some (Check model second)) on_cells in
+    let on_risk : Option Form = cond risks (Some (Risk model second)) on_cells in
+    let on_tables : Option Form = cond checks (Some (Check model second)) on_risk in
     known_if P (bytes_eq verb (codes "compile") && are_apart model second) (Compile model second) form on_tables e (record { names = names; number = tt })
-    (λ no_compile. known_if P checks (Check model second) form on_cells no_compile (record { names = names; number = tt })
-    (λ no_check. known_if P audits (Audit model second Whole) form on_boxes no_check (record { names = names; number = tt })
-    (λ no_audit. known_if P rules (Regions model second) form None no_audit (record { names = names; number = tt }) (λ none. absurd (cc none)))))
+    (λ no_compile. known_if P checks (Check model second) form on_risk no_compile (record { names = names; number = tt })
+    (λ no_check. known_if P risks (Risk model second) form on_cells no_check (record { names = names; number = tt })
+    (λ no_risk. known_if P audits (Audit model second Whole) form on_boxes no_risk (record { names = names; number = tt })
+    (λ no_audit. known_if P rules (Regions model second) form on_clear no_audit (record { names = names; number = tt })
+    (λ no_regions. known_if P outlooks (Safeable model second) form None no_regions (record { names = names; number = tt }) (λ none. absurd (cc none)))))))
 known_form P (verb ∷ model ∷ table ∷ third ∷ []) form e h =
     let all : All P (model ∷ table ∷ third ∷ []) = all_tail P verb (model ∷ table ∷ third ∷ []) h in
     let replays : Bool = bytes_eq verb (codes "replay") && are_file_names model table && is_file_name third in

@@ -1,17 +1,19 @@
 -- The form of a command.
 use Rattle.std.specs.Prelude.{◌≡◌, ◌≤◌, Option, Some, None, ⊤}
 use Rattle.acas_units.specs.declared.limits.TheConstants.{GREATEST_DRILL_NUMBER}
-use Rattle.acas_cli_words.specs.Words.{Form, Values, Compile, Check, Audit, Regions, Replay, Migrate, Drill}
+use Rattle.acas_cli_words.specs.Words.{Form, Values, Compile, Check, Risk, Audit, Regions, Safeable, Replay, Migrate, Drill}
 use Rattle.acas_cli_words.specs.declared.words.Command.{Command}
-use Rattle.acas_cli_words.specs.declared.words.Command.TheVariants.{Values as ValuesCommand, Compile as CompileCommand, Check as CheckCommand, Audit as AuditCommand, Regions as RegionsCommand, Replay as ReplayCommand, Migrate as MigrateCommand, Drill as DrillCommand}
+use Rattle.acas_cli_words.specs.declared.words.Command.TheVariants.{Values as ValuesCommand, Compile as CompileCommand, Check as CheckCommand, Risk as RiskCommand, Audit as AuditCommand, Regions as RegionsCommand, Safeable as SafeableCommand, Replay as ReplayCommand, Migrate as MigrateCommand, Drill as DrillCommand}
 
 -- a command has the form of its words
 abbrev pub form_of_command : Command → Form
 form_of_command (ValuesCommand model) = Values model.now
 form_of_command (CompileCommand model table) = Compile model.now table.now
 form_of_command (CheckCommand model table) = Check model.now table.now
+form_of_command (RiskCommand model table) = Risk model.now table.now
 form_of_command (AuditCommand model table which) = Audit model.now table.now which
 form_of_command (RegionsCommand model boxes) = Regions model.now boxes.now
+form_of_command (SafeableCommand model table) = Safeable model.now table.now
 form_of_command (ReplayCommand model table encounter) = Replay model.now table.now encounter.now
 form_of_command (MigrateCommand model table target) = Migrate model.now table.now target.now
 form_of_command (DrillCommand number) = Drill number
@@ -26,8 +28,10 @@ abbrev pub HasNumber : Form → Type 0
 HasNumber (Values model) = ⊤
 HasNumber (Compile model table) = ⊤
 HasNumber (Check model table) = ⊤
+HasNumber (Risk model table) = ⊤
 HasNumber (Audit model table which) = ⊤
 HasNumber (Regions model boxes) = ⊤
+HasNumber (Safeable model table) = ⊤
 HasNumber (Replay model table encounter) = ⊤
 HasNumber (Migrate model table target) = ⊤
 HasNumber (Drill number) = number ≤ GREATEST_DRILL_NUMBER

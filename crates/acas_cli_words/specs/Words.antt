@@ -12,8 +12,10 @@ pub data Form : Type 0 where
   Values : (model : List ℕ) → Form
   Compile : (model table : List ℕ) → Form
   Check : (model table : List ℕ) → Form
+  Risk : (model table : List ℕ) → Form
   Audit : (model table : List ℕ) (which : Which) → Form
   Regions : (model boxes : List ℕ) → Form
+  Safeable : (model table : List ℕ) → Form
   Replay : (model table encounter : List ℕ) → Form
   Migrate : (model table target : List ℕ) → Form
   Drill : (number : ℕ) → Form
@@ -39,8 +41,10 @@ form_of (verb ∷ word ∷ []) =
 form_of (verb ∷ model ∷ second ∷ []) =
     if bytes_eq verb (codes "compile") && are_apart model second then Some (Compile model second)
     else if bytes_eq verb (codes "check") && are_file_names model second then Some (Check model second)
+    else if bytes_eq verb (codes "risk") && are_file_names model second then Some (Risk model second)
     else if bytes_eq verb (codes "audit") && are_file_names model second then Some (Audit model second All)
     else if bytes_eq verb (codes "regions") && are_file_names model second then Some (Regions model second)
+    else if bytes_eq verb (codes "safeable") && are_file_names model second then Some (Safeable model second)
     else None
 form_of (verb ∷ model ∷ table ∷ third ∷ []) =
     if bytes_eq verb (codes "audit") && are_file_names model table && bytes_eq third (codes "--reported") then Some (Audit model table Reported)
@@ -54,8 +58,10 @@ abbrev pub names_of : Form → List (List ℕ)
 names_of (Values model) = model ∷ []
 names_of (Compile model table) = model ∷ table ∷ []
 names_of (Check model table) = model ∷ table ∷ []
+names_of (Risk model table) = model ∷ table ∷ []
 names_of (Audit model table which) = model ∷ table ∷ []
 names_of (Regions model boxes) = model ∷ boxes ∷ []
+names_of (Safeable model table) = model ∷ table ∷ []
 names_of (Replay model table encounter) = model ∷ table ∷ encounter ∷ []
 names_of (Migrate model table target) = model ∷ table ∷ target ∷ []
 names_of (Drill number) = []

@@ -24,6 +24,11 @@ pub enum Command<'w> {
         model: &'w str,
         table: &'w str,
     },
+    /// `risk M T`: how likely contact is under the policy of a table, and what that costs.
+    Risk {
+        model: &'w str,
+        table: &'w str,
+    },
     /// `audit M T`, and with `--reported` behind it: rule on each advisory cell of a table.
     Audit {
         model: &'w str,
@@ -34,6 +39,11 @@ pub enum Command<'w> {
     Regions {
         model: &'w str,
         boxes: &'w str,
+    },
+    /// `safeable M T`: whether an advisory keeps each clear cell of a table safe that is given a second later.
+    Safeable {
+        model: &'w str,
+        table: &'w str,
     },
     /// `replay M T E`: fly an encounter under the advice of a table.
     Replay {
@@ -100,6 +110,11 @@ fn of_three_words<'w>(verb: &str, model: &'w str, second: &'w str) -> Option<Com
             model,
             table: second,
         })
+    } else if verb == "risk" && are_file_names(model, second) {
+        Some(Command::Risk {
+            model,
+            table: second,
+        })
     } else if verb == "audit" && are_file_names(model, second) {
         Some(Command::Audit {
             model,
@@ -110,6 +125,11 @@ fn of_three_words<'w>(verb: &str, model: &'w str, second: &'w str) -> Option<Com
         Some(Command::Regions {
             model,
             boxes: second,
+        })
+    } else if verb == "safeable" && are_file_names(model, second) {
+        Some(Command::Safeable {
+            model,
+            table: second,
         })
     } else {
         None

@@ -22,11 +22,14 @@ use Rattle.acas_command.proofs.Completed.{completed}
 use Rattle.acas_drill.specs.Calls.{IsDrillBegun, IsDrillText}
 use Rattle.acas_drill_model.specs.DrilledModel.{drilled_model}
 use Rattle.acas_encounter_commands.specs.Calls.{IsReplayBegun, IsReplayText, replay_looks_at}
+use Rattle.acas_risk_commands.specs.Calls.{risk_of}
+use Rattle.acas_safeable_commands.specs.Calls.{IsSafeableText, IsSafeableTextBegun, safeable_looks_at}
+use Rattle.acas_safeable.specs.SafeableText.{IsSafeableBegun}
 use Rattle.acas_table_commands.specs.Calls.{check_of, compile_of, migrate_of, values_of}
 use Rattle.acas_cli.specs.Calls.{CallsFor}
-use Rattle.acas_cli_words.specs.Words.{Form, Values, Compile, Check, Audit, Regions, Replay, Migrate, Drill}
+use Rattle.acas_cli_words.specs.Words.{Form, Values, Compile, Check, Risk, Audit, Regions, Safeable, Replay, Migrate, Drill}
 use Rattle.acas_run_laws.proofs.OneFiles.{IsOneModel, IsOneTable, one-input, one-model, one-table}
-use Rattle.acas_run_laws.proofs.OneOutcome.{audit-goes_on, one-drilled, one-outcome, one-replayed, printed-cause, regions-goes_on, replay-goes_on, within-file}
+use Rattle.acas_run_laws.proofs.OneOutcome.{audit-goes_on, one-drilled, one-outcome, one-replayed, printed-cause, regions-goes_on, replay-goes_on, safeable-goes_on, within-file}
 use Rattle.acas_run_laws.proofs.OneReport.{ReportsAreOne}
 
 -- what a run has left that ended as an outcome says
@@ -80,6 +83,22 @@ module _ (one : ReportsAreOne) (drilled : (number : ℕ) → IsModel (drilled_mo
           subst (λ (n : ModelData). IsReportBegun n is.advices which old new) (sym tables.models)
           (subst (λ (a : AdvicesData). IsReportBegun b.m a which old new) (sym tables.advices) b.begun)
 
+  part-safeable : (model table : List ℕ) (files : Files) (old new : Option (List ℕ)) (b : IsSafeableTextBegun model table files old new) (r : ℕ) (t : List ℕ) → IsSafeableText model table files r t
+      → AppendsPart old new t
+  part-safeable model table files old new b r t is =
+      one.clear_begun is.m is.advices old new is.counts t within begun is.report
+    where
+      tables : IsOneTable is.m b.m is.advices b.advices
+      tables = one-table model table files is.m b.m is.advices b.advices is.advised b.advised
+
+      within : IsModel is.m
+      within = within-file files model is.advised.digest is.m is.advised.model_file
+
+      begun : IsSafeableBegun is.m is.advices old new
+      begun =
+          subst (λ (n : ModelData). IsSafeableBegun n is.advices old new) (sym tables.models)
+          (subst (λ (a : AdvicesData). IsSafeableBegun b.m a old new) (sym tables.advices) b.begun)
+
   part-regions : (model boxes : List ℕ) (files : Files) (old new : Option (List ℕ)) (b : IsRegionsBegun model boxes files old new) (r : ℕ) (t : List ℕ) → IsRegionsText model boxes files r t
       → AppendsPart old new t
   part-regions model boxes files old new b r t is =
@@ -108,6 +127,7 @@ module _ (one : ReportsAreOne) (drilled : (number : ℕ) → IsModel (drilled_mo
   cut-short (Values model) files before after o a ends = part-one (λ fs. values_of (get fs model)) files before after o a ends
   cut-short (Compile model table) files before after o a ends = part-one (λ fs. compile_of (get fs model) table) files before after o a ends
   cut-short (Check model table) files before after o a ends = part-one (λ fs. check_of (get fs model) (get fs table)) files before after o a ends
+  cut-short (Risk model table) files before after o a ends = part-one (λ fs. risk_of (get fs model) (get fs table)) files before after o a ends
   cut-short (Audit model table which) files before after o a ends =
       part-report (audit_looks_at model table) (IsAuditText model table which) (IsAuditBegun model table which) files before after o ends
       (printed-cause (audit_looks_at model table files) (audit-goes_on model table files a.begun.m a.begun.advices a.begun.advised))
@@ -116,6 +136,10 @@ module _ (one : ReportsAreOne) (drilled : (number : ℕ) → IsModel (drilled_mo
       part-report (regions_looks_at model boxes) (IsRegionsText model boxes) (IsRegionsBegun model boxes) files before after o ends
       (printed-cause (regions_looks_at model boxes files) (regions-goes_on model boxes files a.begun.m a.begun.said a.begun.audited))
       (part-regions model boxes files before.written after.written a.begun)
+  cut-short (Safeable model table) files before after o a ends =
+      part-report (safeable_looks_at model table) (IsSafeableText model table) (IsSafeableTextBegun model table) files before after o ends
+      (printed-cause (safeable_looks_at model table files) (safeable-goes_on model table files a.begun.m a.begun.advices a.begun.advised))
+      (part-safeable model table files before.written after.written a.begun)
   cut-short (Replay model table encounter) files before after o a ends =
       part-report (replay_looks_at model table encounter) (IsReplayText model table encounter) (IsReplayBegun model table encounter) files before after o ends
       (printed-cause (replay_looks_at model table encounter files)

@@ -15,11 +15,14 @@ use Rattle.acas_table_file.proofs.Files.{no_file-table}
 use Rattle.acas_audit_commands.specs.Calls.{IsAuditBegun, IsAuditText, IsRegionsBegun, IsRegionsText, audit_looks_at, regions_looks_at}
 use Rattle.acas_drill.specs.Calls.{IsDrillBegun, IsDrillText}
 use Rattle.acas_encounter_commands.specs.Calls.{IsReplayBegun, IsReplayText, replay_looks_at}
+use Rattle.acas_risk_commands.specs.Calls.{risk_of}
+use Rattle.acas_risk_commands.proofs.Files.{rest_of_risk, text_of_risk}
 use Rattle.acas_table_commands.specs.AcceptedLine.{accepted_line}
+use Rattle.acas_safeable_commands.specs.Calls.{IsSafeableText, IsSafeableTextBegun, safeable_looks_at}
 use Rattle.acas_table_commands.specs.Calls.{check_of, values_of}
 use Rattle.acas_table_lines.specs.ValuesText.{values_text}
 use Rattle.acas_cli.specs.Calls.{CallsFor}
-use Rattle.acas_cli_words.specs.Words.{Form, Values, Compile, Check, Audit, Regions, Replay, Migrate, Drill}
+use Rattle.acas_cli_words.specs.Words.{Form, Values, Compile, Check, Risk, Audit, Regions, Safeable, Replay, Migrate, Drill}
 use Rattle.acas_run_laws.specs.Forms.{written_by}
 
 -- the files of a command that leaves them as they were, with every cause
@@ -92,9 +95,14 @@ kept-form (Check model table) cause files before after none a =
     kept-one (λ fs. check_of (get fs model) (get fs table)) files cause before after
     (no_file-model (get files model) (λ digest m. with_table m digest (get files table) (λ bytes. prints (accepted_line m.grid)))
     (λ digest m. no_file-table m digest (get files table) (λ bytes. prints (accepted_line m.grid)) (λ bytes. refl))) a
+kept-form (Risk model table) cause files before after none a =
+    kept-one (λ fs. risk_of (get fs model) (get fs table)) files cause before after
+    (no_file-model (get files model) (rest_of_risk (get files table)) (λ digest m. no_file-table m digest (get files table) (text_of_risk m) (λ bytes. refl))) a
 kept-form (Audit model table which) cause files before after none a =
     kept-reports (audit_looks_at model table) (IsAuditText model table which) (IsAuditBegun model table which) files cause before after a
 kept-form (Regions model boxes) cause files before after none a = kept-reports (regions_looks_at model boxes) (IsRegionsText model boxes) (IsRegionsBegun model boxes) files cause before after a
+kept-form (Safeable model table) cause files before after none a =
+    kept-reports (safeable_looks_at model table) (IsSafeableText model table) (IsSafeableTextBegun model table) files cause before after a
 kept-form (Replay model table encounter) cause files before after none a =
     kept-reports (replay_looks_at model table encounter) (IsReplayText model table encounter) (IsReplayBegun model table encounter) files cause before after a
 kept-form (Migrate model table target) cause files before after none a = absurd (cc none)

@@ -29,12 +29,14 @@ use Rattle.acas_drill_model.specs.Word.{drill_number}
 use Rattle.acas_encounter_commands.specs.Calls.{IsReplayBegun, IsReplayText, encounter_looked_at, replay_looks_at}
 use Rattle.acas_report_lines.specs.declared.counts.Which.{Which}
 use Rattle.acas_report_lines.specs.declared.counts.Which.TheVariants.{All as Whole, Reported as OnlyReported}
+use Rattle.acas_risk_commands.proofs.Files.{rest_of_risk, text_of_risk}
+use Rattle.acas_safeable_commands.specs.Calls.{IsSafeableText, IsSafeableTextBegun, safeable_looks_at}
 use Rattle.acas_table_commands.specs.AcceptedLine.{accepted_line}
 use Rattle.acas_table_commands.specs.StoredLine.{compiled_line, migrated_line}
 use Rattle.acas_table_rows.specs.TableFile.{compiled_text}
 use Rattle.acas_table_lines.specs.ValuesText.{values_text}
 use Rattle.acas_cli.specs.Calls.{CallsFor}
-use Rattle.acas_cli_words.specs.Words.{Form, Values, Compile, Check, Audit, Regions, Replay, Migrate, Drill, are_apart, are_file_names, form_of, is_file_name}
+use Rattle.acas_cli_words.specs.Words.{Form, Values, Compile, Check, Risk, Audit, Regions, Safeable, Replay, Migrate, Drill, are_apart, are_file_names, form_of, is_file_name}
 use Rattle.acas_run_laws.specs.Refusals.{RefusesBy}
 use Rattle.acas_run_laws.proofs.Refusing.{refused-input, refused-model, refused-printed, refused-table}
 
@@ -84,12 +86,28 @@ module _ (files : Files) (cause : Cause) (after : Outside) where
       (λ bytes h. refused-printed form name files cause (prints (accepted_line m.grid)) r.never tt h) h)
       (ap (λ (o : Outcome). o.cause) (sym r.refuses.may) ∙ r.refuses.refused)
 
+  right-risk : (name : FileRole → List ℕ) → IsRight name (Risk (name ModelFile) (name TableFile))
+  right-risk name r =
+      let form : Form = Risk (name ModelFile) (name TableFile) in
+      refused-model form name files cause (rest_of_risk (get files (name TableFile)))
+      (λ digest m file h. refused-table form name files cause digest m (text_of_risk m) file
+      (λ bytes h. refused-printed form name files cause (text_of_risk m bytes) r.never tt h) h)
+      (ap (λ (o : Outcome). o.cause) (sym r.refuses.may) ∙ r.refuses.refused)
+
   right-audit : (name : FileRole → List ℕ) (which : Which) → IsRight name (Audit (name ModelFile) (name TableFile) which)
   right-audit name which r =
       let form : Form = Audit (name ModelFile) (name TableFile) which in
       refused-model form name files cause (λ digest m. with_table m digest (get files (name TableFile)) (λ bytes. prints []))
       (λ digest m file h. refused-table form name files cause digest m (λ bytes. prints []) file (λ bytes h. refused-printed form name files cause (prints []) r.never tt h) h)
       (report-refused (audit_looks_at (name ModelFile) (name TableFile)) (IsAuditText (name ModelFile) (name TableFile) which) (IsAuditBegun (name ModelFile) (name TableFile) which)
+      files cause after r.never r.refuses)
+
+  right-safeable : (name : FileRole → List ℕ) → IsRight name (Safeable (name ModelFile) (name TableFile))
+  right-safeable name r =
+      let form : Form = Safeable (name ModelFile) (name TableFile) in
+      refused-model form name files cause (λ digest m. with_table m digest (get files (name TableFile)) (λ bytes. prints []))
+      (λ digest m file h. refused-table form name files cause digest m (λ bytes. prints []) file (λ bytes h. refused-printed form name files cause (prints []) r.never tt h) h)
+      (report-refused (safeable_looks_at (name ModelFile) (name TableFile)) (IsSafeableText (name ModelFile) (name TableFile)) (IsSafeableTextBegun (name ModelFile) (name TableFile))
       files cause after r.never r.refuses)
 
   right-regions : (name : FileRole → List ℕ) → IsRight name (Regions (name ModelFile) (name BoxesFile))
@@ -147,15 +165,21 @@ module _ (files : Files) (cause : Cause) (after : Outside) where
   right-words (verb ∷ model ∷ second ∷ []) form e =
       let name : FileRole → List ℕ = λ role. name_of role (verb ∷ model ∷ second ∷ []) in
       let checks : Bool = bytes_eq verb (codes "check") && are_file_names model second in
+      let risks : Bool = bytes_eq verb (codes "risk") && are_file_names model second in
       let audits : Bool = bytes_eq verb (codes "audit") && are_file_names model second in
       let rules : Bool = bytes_eq verb (codes "regions") && are_file_names model second in
-      let on_boxes : Option Form = cond rules (Some (Regions model second)) None in
+      let outlooks : Bool = bytes_eq verb (codes "safeable") && are_file_names model second in
+      let on_clear : Option Form = cond outlooks (Some (Safeable model second)) None in
+      let on_boxes : Option Form = cond rules (Some (Regions model second)) on_clear in
       let on_cells : Option Form = cond audits (Some (Audit model second Whole)) on_boxes in
-      let on_tables : Option Form = cond checks (Some (Check model second)) on_cells in
+      let on_risk : Option Form = cond risks (Some (Risk model second)) on_cells in
+      let on_tables : Option Form = cond checks (Some (Check model second)) on_risk in
       right-if name (bytes_eq verb (codes "compile") && are_apart model second) (Compile model second) form on_tables e (right-compile name second)
-      (λ no_compile. right-if name checks (Check model second) form on_cells no_compile (right-check name)
-      (λ no_check. right-if name audits (Audit model second Whole) form on_boxes no_check (right-audit name Whole)
-      (λ no_audit. right-if name rules (Regions model second) form None no_audit (right-regions name) (λ none. absurd (cc none)))))
+      (λ no_compile. right-if name checks (Check model second) form on_risk no_compile (right-check name)
+      (λ no_check. right-if name risks (Risk model second) form on_cells no_check (right-risk name)
+      (λ no_risk. right-if name audits (Audit model second Whole) form on_boxes no_risk (right-audit name Whole)
+      (λ no_audit. right-if name rules (Regions model second) form on_clear no_audit (right-regions name)
+      (λ no_regions. right-if name outlooks (Safeable model second) form None no_regions (right-safeable name) (λ none. absurd (cc none)))))))
   right-words (verb ∷ model ∷ table ∷ third ∷ []) form e =
       let name : FileRole → List ℕ = λ role. name_of role (verb ∷ model ∷ table ∷ third ∷ []) in
       let replays : Bool = bytes_eq verb (codes "replay") && are_file_names model table && is_file_name third in

@@ -33,8 +33,11 @@ use Rattle.acas_drill.specs.Calls.{IsDrillBegun, IsDrillText}
 use Rattle.acas_drill_model.specs.DrilledModel.{drilled_model}
 use Rattle.acas_drill.specs.Text.{drill_text}
 use Rattle.acas_encounter_commands.specs.Calls.{IsReplayBegun, IsReplayText, IsReplayed, encounter_looked_at, replay_looks_at}
+use Rattle.acas_safeable_commands.specs.Calls.{IsSafeableText, IsSafeableTextBegun, safeable_looks_at}
+use Rattle.acas_safeable.specs.SafeableText.{IsSafeableReport}
+use Rattle.acas_safeable.specs.declared.counts.SafeCounts.{SafeCounts}
 use Rattle.acas_cli.specs.Calls.{CallsFor}
-use Rattle.acas_cli_words.specs.Words.{Form, Values, Compile, Check, Audit, Regions, Replay, Migrate, Drill}
+use Rattle.acas_cli_words.specs.Words.{Form, Values, Compile, Check, Risk, Audit, Regions, Safeable, Replay, Migrate, Drill}
 use Rattle.acas_run_laws.proofs.OneFiles.{IsOneModel, IsOneTable, one-input, one-model, one-table, one-tabled}
 use Rattle.acas_run_laws.proofs.OneReport.{ReportsAreOne}
 
@@ -68,6 +71,9 @@ pub audit-goes_on : (model table : List ℕ) (files : Files) (m : ModelData) (ad
 audit-goes_on model table files m advices a =
     with_model-file (get files model) a.digest m (λ d n. with_table n d (get files table) (λ bytes. prints [])) a.model_file
     ∙ with_table-file m a.digest (get files table) advices (prints []) a.table_file
+
+pub safeable-goes_on : (model table : List ℕ) (files : Files) (m : ModelData) (advices : AdvicesData) → IsTableOf model table files m advices → safeable_looks_at model table files ≡ prints []
+safeable-goes_on model table files m advices a = audit-goes_on model table files m advices a
 
 pub regions-goes_on : (model boxes : List ℕ) (files : Files) (m : ModelData) (said : List AuditedBox) → AreAuditedBoxes model boxes files m said → regions_looks_at model boxes files ≡ prints []
 regions-goes_on model boxes files m said a =
@@ -129,6 +135,20 @@ module _ (one : ReportsAreOne) (drilled : (number : ℕ) → IsModel (drilled_mo
       same : (is.counts ≡ also.counts) × (t ≡ u)
       same = one.audits_one is.m is.advices which is.counts also.counts t u (within-file files model is.advised.digest is.m is.advised.model_file) is.report other
 
+  one-outlook : (model table : List ℕ) (files : Files) → IsOneText (IsSafeableText model table files)
+  one-outlook model table files r s t u is also = (is.count ∙ ap (λ (c : SafeCounts). c.unshown) same.0 ∙ sym also.count, same.1)
+    where
+      tables : IsOneTable is.m also.m is.advices also.advices
+      tables = one-table model table files is.m also.m is.advices also.advices is.advised also.advised
+
+      other : IsSafeableReport is.m is.advices also.counts u
+      other =
+          subst (λ (n : ModelData). IsSafeableReport n is.advices also.counts u) (sym tables.models)
+          (subst (λ (b : AdvicesData). IsSafeableReport also.m b also.counts u) (sym tables.advices) also.report)
+
+      same : (is.counts ≡ also.counts) × (t ≡ u)
+      same = one.clear_one is.m is.advices is.counts also.counts t u (within-file files model is.advised.digest is.m is.advised.model_file) is.report other
+
   one-ruled : (model boxes : List ℕ) (files : Files) → IsOneText (IsRegionsText model boxes files)
   one-ruled model boxes files r s t u is also = (is.count ∙ ap (λ (c : Counts). c.reported) same.0 ∙ sym also.count, same.1)
     where
@@ -175,12 +195,16 @@ module _ (one : ReportsAreOne) (drilled : (number : ℕ) → IsModel (drilled_mo
   one-outcome (Values model) files o p first second = first ∙ sym second
   one-outcome (Compile model table) files o p first second = first ∙ sym second
   one-outcome (Check model table) files o p first second = first ∙ sym second
+  one-outcome (Risk model table) files o p first second = first ∙ sym second
   one-outcome (Audit model table which) files o p first second =
       one-report (audit_looks_at model table) (IsAuditText model table which) (IsAuditBegun model table which) files o p
       (λ r t is. printed-cause (audit_looks_at model table files) (audit-goes_on model table files is.m is.advices is.advised)) (one-audited model table which files) first second
   one-outcome (Regions model boxes) files o p first second =
       one-report (regions_looks_at model boxes) (IsRegionsText model boxes) (IsRegionsBegun model boxes) files o p
       (λ r t is. printed-cause (regions_looks_at model boxes files) (regions-goes_on model boxes files is.m is.said is.audited)) (one-ruled model boxes files) first second
+  one-outcome (Safeable model table) files o p first second =
+      one-report (safeable_looks_at model table) (IsSafeableText model table) (IsSafeableTextBegun model table) files o p
+      (λ r t is. printed-cause (safeable_looks_at model table files) (safeable-goes_on model table files is.m is.advices is.advised)) (one-outlook model table files) first second
   one-outcome (Replay model table encounter) files o p first second =
       one-report (replay_looks_at model table encounter) (IsReplayText model table encounter) (IsReplayBegun model table encounter) files o p
       (λ r t is. printed-cause (replay_looks_at model table encounter files) (replay-goes_on model table encounter files is.m is.advices is.flown is.replayed))

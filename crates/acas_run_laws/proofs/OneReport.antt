@@ -1,4 +1,4 @@
--- The one report of an audit and of boxes.
+-- The one report of an audit, of boxes and of clear cells.
 use Rattle.std.proofs.Common.{◌≡◌, ℕ, ◌<◌, List, length, Option}
 use Rattle.acas_spec.specs.Limits.{IsModel}
 use Rattle.acas_spec.specs.Model.{ModelData}
@@ -12,10 +12,13 @@ use Rattle.acas_report_lines.specs.Report.{IsReport, IsReportBegun}
 use Rattle.acas_report_lines.specs.declared.counts.Counts.{Counts}
 use Rattle.acas_report_lines.specs.declared.counts.Which.{Which}
 use Rattle.acas_report_laws.proofs.Reports.{begun_audit, begun_regions, one_audit, one_regions, some_audit, some_regions}
+use Rattle.acas_safeable.specs.SafeableText.{IsSafeableBegun, IsSafeableReport}
+use Rattle.acas_safeable.specs.declared.counts.SafeCounts.{SafeCounts}
+use Rattle.acas_safeable.proofs.Reports.{begun_report, one_report, some_report}
 use Rattle.acas_ruling_laws.proofs.RulingOnes.{boxes-one, cells-one}
 use Rattle.acas_ruling_laws.proofs.RulingSomes.{boxes-some, cells-some}
 
--- an audit of a model has one report, and so have boxes of it; what is begun of one is a part of it
+-- an audit of a model has one report, and so have boxes and clear cells of it; what is begun of one is a part of it
 pub record ReportsAreOne : Type 0 where
   pub audits_some : (m : ModelData) (a : AdvicesData) (lines : Which) → IsModel m → (counts : Counts) × (text : List ℕ) × IsReport m a lines counts text
   pub audits_one : (m : ModelData) (a : AdvicesData) (lines : Which) (counts c : Counts) (text t : List ℕ) → IsModel m → IsReport m a lines counts text → IsReport m a lines c t
@@ -28,6 +31,10 @@ pub record ReportsAreOne : Type 0 where
       → IsReport m a lines counts text → AppendsPart old new text
   pub boxes_begun : (m : ModelData) (boxes : List AuditedBox) (old new : Option (List ℕ)) (counts : Counts) (text : List ℕ) → IsModel m → AreBoxesOf m boxes
       → IsRegionsReportBegun m boxes old new → IsRegionsReport m boxes counts text → AppendsPart old new text
+  pub clear_some : (m : ModelData) (a : AdvicesData) → IsModel m → (counts : SafeCounts) × (text : List ℕ) × IsSafeableReport m a counts text
+  pub clear_one : (m : ModelData) (a : AdvicesData) (counts c : SafeCounts) (text t : List ℕ) → IsModel m → IsSafeableReport m a counts text → IsSafeableReport m a c t → (counts ≡ c) × (text ≡ t)
+  pub clear_begun : (m : ModelData) (a : AdvicesData) (old new : Option (List ℕ)) (counts : SafeCounts) (text : List ℕ) → IsModel m → IsSafeableBegun m a old new
+      → IsSafeableReport m a counts text → AppendsPart old new text
 
 pub reports-one : ReportsAreOne
 reports-one = record {
@@ -41,4 +48,7 @@ reports-one = record {
       begun_audit m a lines old new counts text (λ name is r q first second. cells-one m name r q within is.advice first second) begun report;
   boxes_begun = λ m boxes old new counts text within fits begun report.
       begun_regions m boxes old new counts text (λ place small r q first second. boxes-one m (box_at boxes place) r q within (fits.each place small) first second) begun report;
+  clear_some = λ m a within. some_report m a within;
+  clear_one = λ m a counts c text t within report other. one_report m a counts c text t within report other;
+  clear_begun = λ m a old new counts text within begun report. begun_report m a old new counts text within begun report;
 }

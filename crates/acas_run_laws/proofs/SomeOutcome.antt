@@ -45,9 +45,11 @@ use Rattle.acas_drill.specs.Calls.{IsDrillBegun, IsDrillText}
 use Rattle.acas_drill_model.specs.DrilledModel.{drilled_model}
 use Rattle.acas_drill.specs.Text.{drill_text}
 use Rattle.acas_encounter_commands.specs.Calls.{IsReplayBegun, IsReplayText, encounter_looked_at, replay_looks_at}
+use Rattle.acas_risk_commands.specs.Calls.{risk_of}
+use Rattle.acas_safeable_commands.specs.Calls.{IsSafeableText, IsSafeableTextBegun, safeable_looks_at}
 use Rattle.acas_table_commands.specs.Calls.{check_of, compile_of, migrate_of, values_of}
 use Rattle.acas_cli.specs.Calls.{CallsFor}
-use Rattle.acas_cli_words.specs.Words.{Form, Values, Compile, Check, Audit, Regions, Replay, Migrate, Drill}
+use Rattle.acas_cli_words.specs.Words.{Form, Values, Compile, Check, Risk, Audit, Regions, Safeable, Replay, Migrate, Drill}
 use Rattle.acas_run_laws.specs.Outcomes.{AreBytes}
 use Rattle.acas_run_laws.proofs.AdvicesMade.{accepted-by, advices_by, fits-by, known-accepted, table_advice, tabled-by}
 use Rattle.acas_run_laws.proofs.WrittenFiles.{prints_or_not}
@@ -173,6 +175,17 @@ module _ (one : ReportsAreOne) (drilled : (number : ℕ) → IsModel (drilled_mo
       let report = one.audits_some m advised.0 which within in
       (report.0.reported, report.1, record { m = m; advices = advised.0; advised = advised.1; counts = report.0; report = report.2; count = refl })
 
+  some-outlooks : (model table : List ℕ) (files : Files) → AreBytes files → MayPrint (safeable_looks_at model table files).cause → HasText (IsSafeableText model table files)
+  some-outlooks model table files bytes may =
+      let rest : List ℕ → ModelData → Outcome = λ digest n. with_table n digest (get files table) (λ bs. prints []) in
+      let b = behind-model (get files model) rest (no_file_cause-may_print _ may) in
+      let m : ModelData = b.m in
+      let file = model-file (get files model) rest b in
+      let within : IsModel m = within-file files model (sha256 b.bytes) m file in
+      let advised = table-file model table files (sha256 b.bytes) m (λ bs. prints []) bytes file (subst (λ (o : Outcome). MayPrint o.cause) b.is may) in
+      let report = one.clear_some m advised.0 within in
+      (report.0.unshown, report.1, record { m = m; advices = advised.0; advised = advised.1; counts = report.0; report = report.2; count = refl })
+
   some-ruled : (model boxes : List ℕ) (files : Files) → MayPrint (regions_looks_at model boxes files).cause → HasText (IsRegionsText model boxes files)
   some-ruled model boxes files may =
       let rest : List ℕ → ModelData → Outcome = λ digest n. with_input_file BoxesFile (boxes_of n) (get files boxes) (λ said. prints []) in
@@ -214,9 +227,12 @@ module _ (one : ReportsAreOne) (drilled : (number : ℕ) → IsModel (drilled_mo
   some-outcome (Values model) files bytes = (values_of (get files model), refl)
   some-outcome (Compile model table) files bytes = (compile_of (get files model) table, refl)
   some-outcome (Check model table) files bytes = (check_of (get files model) (get files table), refl)
+  some-outcome (Risk model table) files bytes = (risk_of (get files model) (get files table), refl)
   some-outcome (Audit model table which) files bytes =
       some-report (audit_looks_at model table) (IsAuditText model table which) (IsAuditBegun model table which) files (some-audited model table which files bytes)
   some-outcome (Regions model boxes) files bytes = some-report (regions_looks_at model boxes) (IsRegionsText model boxes) (IsRegionsBegun model boxes) files (some-ruled model boxes files)
+  some-outcome (Safeable model table) files bytes =
+      some-report (safeable_looks_at model table) (IsSafeableText model table) (IsSafeableTextBegun model table) files (some-outlooks model table files bytes)
   some-outcome (Replay model table encounter) files bytes =
       some-report (replay_looks_at model table encounter) (IsReplayText model table encounter) (IsReplayBegun model table encounter) files (some-replayed model table encounter files bytes)
   some-outcome (Migrate model table target) files bytes = (migrate_of (get files model) (get files table) target, refl)

@@ -1,25 +1,29 @@
 -- What a form reads, writes and may report.
 use Rattle.std.specs.Prelude.{ℕ, List, Option, None, Some, ⊤}
-use Rattle.acas_cli_words.specs.Words.{Form, Values, Compile, Check, Audit, Regions, Replay, Migrate, Drill}
+use Rattle.acas_cli_words.specs.Words.{Form, Values, Compile, Check, Risk, Audit, Regions, Safeable, Replay, Migrate, Drill}
 
 -- the file that it writes, if any
 abbrev pub written_by : Form → Option (List ℕ)
 written_by (Values model) = None
 written_by (Compile model table) = Some table
 written_by (Check model table) = None
+written_by (Risk model table) = None
 written_by (Audit model table which) = None
 written_by (Regions model boxes) = None
+written_by (Safeable model table) = None
 written_by (Replay model table encounter) = None
 written_by (Migrate model table target) = Some target
 written_by (Drill number) = None
 
--- it is an audit, regions or a drill
+-- it is an audit, regions, clear cells or a drill
 abbrev pub MayReport : Form → Type 0
 MayReport (Values model) = ⊥
 MayReport (Compile model table) = ⊥
 MayReport (Check model table) = ⊥
+MayReport (Risk model table) = ⊥
 MayReport (Audit model table which) = ⊤
 MayReport (Regions model boxes) = ⊤
+MayReport (Safeable model table) = ⊤
 MayReport (Replay model table encounter) = ⊥
 MayReport (Migrate model table target) = ⊥
 MayReport (Drill number) = ⊤

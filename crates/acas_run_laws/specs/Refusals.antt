@@ -15,15 +15,17 @@ use Rattle.acas_command.specs.declared.status.Cause.{Cause}
 use Rattle.acas_command.specs.declared.status.Cause.TheVariants.{Done, Reported, Words, Absent, Model, Table, Input, Folder, Output, TooLong, Memory}
 use Rattle.acas_command.specs.declared.status.FileRole.{FileRole}
 use Rattle.acas_command.specs.declared.status.FileRole.TheVariants.{Model as ModelFile, Table as TableFile, Boxes as BoxesFile, Encounter as EncounterFile}
-use Rattle.acas_cli_words.specs.Words.{Form, Values, Compile, Check, Audit, Regions, Replay, Migrate, Drill}
+use Rattle.acas_cli_words.specs.Words.{Form, Values, Compile, Check, Risk, Audit, Regions, Safeable, Replay, Migrate, Drill}
 
 -- the bytes of boxes or of an encounter, beside the model, have this first fault
 abbrev pub InputHasFault : Form → (FileRole → List ℕ) → Files → ModelData → InputFault → Type 0
 InputHasFault (Values model) name files m fault = ⊥
 InputHasFault (Compile model table) name files m fault = ⊥
 InputHasFault (Check model table) name files m fault = ⊥
+InputHasFault (Risk model table) name files m fault = ⊥
 InputHasFault (Audit model table which) name files m fault = ⊥
 InputHasFault (Regions model boxes) name files m fault = IsSomeAnd (get files (name BoxesFile)) (λ bytes. boxes_of m bytes ≡ Err fault)
+InputHasFault (Safeable model table) name files m fault = ⊥
 InputHasFault (Replay model table encounter) name files m fault = IsSomeAnd (get files (name EncounterFile)) (λ bytes. encounter_of m bytes ≡ Err fault)
 InputHasFault (Migrate model table target) name files m fault = ⊥
 InputHasFault (Drill number) name files m fault = ⊥

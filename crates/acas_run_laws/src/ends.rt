@@ -18,7 +18,7 @@ ghost use Rattle.acas_command.specs.Says.{SaysModel};
 ghost use Rattle.acas_command.specs.declared.status.Cause.{Cause};
 ghost use Rattle.acas_cli.specs.Calls.{AnswersForm};
 ghost use Rattle.acas_cli.specs.Headline.{Headline};
-ghost use Rattle.acas_cli_words.specs.Words.{Audit, Check, Compile, Drill, Form, Migrate, Regions, Replay, Values};
+ghost use Rattle.acas_cli_words.specs.Words.{Audit, Check, Compile, Drill, Form, Migrate, Regions, Replay, Risk, Safeable, Values};
 ghost use Rattle.acas_run_laws.specs.Forms.{MayReport};
 ghost use Rattle.acas_run_laws.specs.Ends.{EndsWell, HasNoFault};
 
@@ -38,6 +38,11 @@ pub fn right_files_are_not_refused()
         → before.holds ≡ Some files → SaysModel files model bytes m → get files table ≡ Some given
         → IsAcceptedTable m (sha256 bytes) given t → HasNoFault before after
         → Headline (Some (Check model table)) cause before after → EndsWell cause }
+    ensures risk { (model table bytes given : List ℕ) (m : ModelData) (t : Table)
+        (cause : Cause) (files : Files) (before after : Outside)
+        → before.holds ≡ Some files → SaysModel files model bytes m → get files table ≡ Some given
+        → IsAcceptedTable m (sha256 bytes) given t → HasNoFault before after
+        → Headline (Some (Risk model table)) cause before after → EndsWell cause }
     ensures audit { (model table bytes given : List ℕ) (which : Which) (m : ModelData) (t : Table)
         (cause : Cause) (files : Files) (before after : Outside)
         → before.holds ≡ Some files → SaysModel files model bytes m → get files table ≡ Some given
@@ -48,6 +53,11 @@ pub fn right_files_are_not_refused()
         → before.holds ≡ Some files → SaysModel files model bytes m → get files boxes ≡ Some given
         → length given ≤ TEXT_BYTES → IsBoxesText m given said → HasNoFault before after
         → Headline (Some (Regions model boxes)) cause before after → EndsWell cause }
+    ensures safeable { (model table bytes given : List ℕ) (m : ModelData) (t : Table)
+        (cause : Cause) (files : Files) (before after : Outside)
+        → before.holds ≡ Some files → SaysModel files model bytes m → get files table ≡ Some given
+        → IsAcceptedTable m (sha256 bytes) given t → HasNoFault before after
+        → Headline (Some (Safeable model table)) cause before after → EndsWell cause }
     ensures replay { (model table encounter bytes given flown_bytes : List ℕ)
         (m : ModelData) (t : Table) (flown : EncounterData)
         (cause : Cause) (files : Files) (before after : Outside)
@@ -65,7 +75,7 @@ pub fn right_files_are_not_refused()
         → Headline (Some (Drill number)) cause before after → EndsWell cause }
 {}
 
-/// The exit code 1 is that of an audit, of regions or of a drill, over a folder that tells its files.
+/// The exit code 1 is that of an audit, of regions, of clear cells or of a drill, over a folder that tells its files.
 pub fn only_reports_end_with_1()
     ensures { (form : Form) (cause : Cause) (files : Files) (before after : Outside)
         → before.holds ≡ Some files → AnswersForm (Some form) cause before after → code_of cause ≡ 1

@@ -11,12 +11,12 @@ ghost use Rattle.acas_command.specs.Codes.{code_of};
 ghost use Rattle.acas_command.specs.ModelFile.{IsModelFile};
 ghost use Rattle.acas_command.specs.declared.status.Cause.{Cause};
 ghost use Rattle.acas_table_file.specs.AcceptedFile.{IsTableOf};
-ghost use Rattle.acas_cli_words.specs.Words.{Audit, Check, Compile, Drill, Form, Migrate, Regions, Replay, Values};
+ghost use Rattle.acas_cli_words.specs.Words.{Audit, Check, Compile, Drill, Form, Migrate, Regions, Replay, Risk, Safeable, Values};
 ghost use Rattle.acas_cli.specs.Work.{CountsForm};
 ghost use Rattle.acas_cli.specs.declared.work.Work.{Work};
 
-/// What is not named for a form is not counted, whatever the answer: words of no form, `check`, `regions`, `replay`,
-/// `migrate` and `drill` leave all three counts as they were, an audit those of backups and of turned pairs, and
+/// What is not named for a form is not counted, whatever the answer: words of no form, `check`, `risk`, `regions`,
+/// `safeable`, `replay`, `migrate` and `drill` leave all three counts as they were, an audit those of backups and of turned pairs, and
 /// `values` and `compile` that of decisions.
 pub fn what_is_not_named_is_not_counted()
     ensures no_form { (holds : Option Files) (cause : Cause) (old new : Work) →
@@ -25,8 +25,14 @@ pub fn what_is_not_named_is_not_counted()
     ensures check { (model table : List ℕ) (holds : Option Files) (cause : Cause) (old new : Work)
         → CountsForm (Some (Check model table)) holds cause old new
         → (new.backups ≡ old.backups) × (new.turned ≡ old.turned) × (new.decisions ≡ old.decisions) }
+    ensures risk { (model table : List ℕ) (holds : Option Files) (cause : Cause) (old new : Work)
+        → CountsForm (Some (Risk model table)) holds cause old new
+        → (new.backups ≡ old.backups) × (new.turned ≡ old.turned) × (new.decisions ≡ old.decisions) }
     ensures regions { (model boxes : List ℕ) (holds : Option Files) (cause : Cause) (old new : Work)
         → CountsForm (Some (Regions model boxes)) holds cause old new
+        → (new.backups ≡ old.backups) × (new.turned ≡ old.turned) × (new.decisions ≡ old.decisions) }
+    ensures safeable { (model table : List ℕ) (holds : Option Files) (cause : Cause) (old new : Work)
+        → CountsForm (Some (Safeable model table)) holds cause old new
         → (new.backups ≡ old.backups) × (new.turned ≡ old.turned) × (new.decisions ≡ old.decisions) }
     ensures replay { (model table encounter : List ℕ) (holds : Option Files) (cause : Cause) (old new : Work)
         → CountsForm (Some (Replay model table encounter)) holds cause old new

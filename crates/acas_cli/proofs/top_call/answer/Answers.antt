@@ -3,6 +3,8 @@ use Rattle.acas_outside.specs.Outside.{Outside, outside}
 use Rattle.acas_command.specs.Answers.{ended, report_ended}
 use Rattle.acas_audit_commands.proofs.Worth.{audit-worth, regions-worth}
 use Rattle.acas_encounter_commands.proofs.Worth.{replay-worth}
+use Rattle.acas_risk_commands.proofs.Worth.{risk-worth}
+use Rattle.acas_safeable_commands.proofs.Worth.{safeable-worth}
 use Rattle.acas_table_commands.proofs.MigratedTables.{migrate-worth}
 use Rattle.acas_table_commands.proofs.Worth.{check-worth, compile-worth, values-worth}
 use Rattle.acas_cli.proofs.top_call.answer.Goals as goal
@@ -27,6 +29,13 @@ returns-in-Check-clause-headline g c =
     rw (c.in-Check.is, c.cause_of-in-Check.ensures)
     (check-worth c.in-Check.model.now c.in-Check.table.now (ended c.check.result) before after c.check.ensures.answers c.check.ensures.bytes)
 
+pub returns-in-Risk-clause-headline : goal.returns-in-Risk-clause-headline
+returns-in-Risk-clause-headline g c =
+    let before : Outside = outside g.F.Folder g.O.Sink c.args.folder.now c.args.out.now in
+    let after : Outside = outside g.F.Folder g.O.Sink c.risk.new.folder c.risk.new.out in
+    rw (c.in-Risk.is, c.cause_of-in-Risk.ensures)
+    (risk-worth c.in-Risk.model.now c.in-Risk.table.now (ended c.risk.result) before after c.risk.ensures.answers c.risk.ensures.bytes)
+
 pub returns-in-Audit-clause-headline : goal.returns-in-Audit-clause-headline
 returns-in-Audit-clause-headline g c =
     let before : Outside = outside g.F.Folder g.O.Sink c.args.folder.now c.args.out.now in
@@ -40,6 +49,13 @@ returns-in-Regions-clause-headline g c =
     let after : Outside = outside g.F.Folder g.O.Sink c.regions.new.folder c.regions.new.out in
     rw (c.in-Regions.is, c.cause_of_report-in-Regions.ensures)
     (regions-worth c.in-Regions.model.now c.in-Regions.boxes.now (report_ended c.regions.result) before after c.regions.ensures.answers)
+
+pub returns-in-Safeable-clause-headline : goal.returns-in-Safeable-clause-headline
+returns-in-Safeable-clause-headline g c =
+    let before : Outside = outside g.F.Folder g.O.Sink c.args.folder.now c.args.out.now in
+    let after : Outside = outside g.F.Folder g.O.Sink c.safeable.new.folder c.safeable.new.out in
+    rw (c.in-Safeable.is, c.cause_of_report-in-Safeable.ensures)
+    (safeable-worth c.in-Safeable.model.now c.in-Safeable.table.now (report_ended c.safeable.result) before after c.safeable.ensures.answers)
 
 pub returns-in-Replay-clause-headline : goal.returns-in-Replay-clause-headline
 returns-in-Replay-clause-headline g c =

@@ -1,4 +1,4 @@
-use Rattle.acas_cli_words.specs.Words.{Audit, Check, Compile, Drill, Migrate, Regions, Replay, Values}
+use Rattle.acas_cli_words.specs.Words.{Audit, Check, Compile, Drill, Migrate, Regions, Replay, Risk, Safeable, Values}
 use Rattle.acas_run_laws.proofs.NotRefused.{ends-well, worth-form}
 use Rattle.acas_run_laws.proofs.ends.right_files_are_not_refused.Goals as goal
 
@@ -10,10 +10,14 @@ returns c = record {
       ends-well cause before after none ((worth-form (Compile model table) cause files before after told h).not_refused bytes m says);
   check = λ model table bytes given m t cause files before after told says there accepted none h.
       ends-well cause before after none ((worth-form (Check model table) cause files before after told h).not_refused bytes given m t says there accepted);
+  risk = λ model table bytes given m t cause files before after told says there accepted none h.
+      ends-well cause before after none ((worth-form (Risk model table) cause files before after told h).not_refused bytes given m t says there accepted);
   audit = λ model table bytes given which m t cause files before after told says there accepted none h.
       ends-well cause before after none ((worth-form (Audit model table which) cause files before after told h).not_refused bytes given m t says there accepted);
   regions = λ model boxes bytes given m said cause files before after told says there short text none h.
       ends-well cause before after none ((worth-form (Regions model boxes) cause files before after told h).not_refused bytes given m said says there short text);
+  safeable = λ model table bytes given m t cause files before after told says there accepted none h.
+      ends-well cause before after none ((worth-form (Safeable model table) cause files before after told h).not_refused bytes given m t says there accepted);
   replay = λ model table encounter bytes given flown_bytes m t flown cause files before after told says there accepted flown_there short text none h.
       ends-well cause before after none ((worth-form (Replay model table encounter) cause files before after told h).not_refused bytes given flown_bytes m t flown says there accepted flown_there short text);
   migrate = λ model table target bytes given m t cause files before after told says there accepted none h.
