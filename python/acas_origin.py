@@ -7,7 +7,8 @@ from pathlib import Path
 
 FORMS = {
     "values": ("model",), "check": ("model", "table"), "audit": ("model", "table"), "regions": ("model", "boxes"),
-    "replay": ("model", "table", "encounter"),
+    "replay": ("model", "table", "encounter"), "risk": ("model", "table"),
+    "safeable": ("model", "table"),
 }
 """The commands that print what is kept, and the files that each reads, in the order of the words."""
 FILES = ("model", "table", "boxes", "encounter")

@@ -92,9 +92,15 @@ def fill_cells(axes: Axes, across: np.ndarray, up: np.ndarray, numbers: np.ndarr
     axes.set_facecolor(filled[0].colour)
     for number, paint in enumerate(filled):
         if paint.hatch:
-            rows, columns = np.nonzero(numbers == number)
-            corners = [rectangle(across, up, row, column) for row, column in zip(rows, columns)]
-            axes.add_collection(PolyCollection(corners, facecolors="none", edgecolors=paint.ink, linewidths=0, hatch=paint.hatch))
+            hatch_cells(axes, across, up, numbers == number, paint)
+
+
+def hatch_cells(axes: Axes, across: np.ndarray, up: np.ndarray, chosen: np.ndarray, paint: Paint) -> None:
+    """Draws a hatch over the chosen rectangles of a grid. `chosen` is of bool, shape (rows, columns); the edges are those of
+    `fill_cells`."""
+    rows, columns = np.nonzero(chosen)
+    corners = [rectangle(across, up, row, column) for row, column in zip(rows, columns)]
+    axes.add_collection(PolyCollection(corners, facecolors="none", edgecolors=paint.ink, linewidths=0, hatch=paint.hatch))
 
 
 def smooth_edges(mesh: QuadMesh) -> None:

@@ -25,9 +25,18 @@ HATCHES = ("", "////", "....", "\\\\\\\\", "xxxx", "----", "||||", "++++", "oooo
 CERTIFIED = "#B7DDA6"
 MIXED = "#B48CCB"
 REPORTED = "#4A1A70"
+SAFEABLE = "#F0F0F0"
+OPEN = "#E8A33D"
+NEAR = "#8A8A8A"
+"""Of clear cells: an advisory keeps the cell safe a second later, none is shown to do so, and contact may come within the second."""
 OWN = "#000000"
 INTRUDER = "#C2185B"
 PUCK = "#BDBDBD"
+WITH_TABLE = "#000000"
+UNADVISED = "#C2185B"
+"""Of chances of contact with a table, and without any advice."""
+NO_RATIO = "#E0E0E0"
+"""Of states that have no risk ratio."""
 
 
 @dataclass(frozen=True)

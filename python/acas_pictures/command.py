@@ -10,11 +10,16 @@ from acas_pictures.cost import draw_cost
 from acas_pictures.encounter import draw_replay
 from acas_pictures.policy import draw_policy
 from acas_pictures.progress import Progress
+from acas_pictures.risk import draw_risk
+from acas_pictures.safeable import draw_safeable
 from acas_pictures.slices import name_of, slice_of
 from acas_pictures.verdicts import cell_slice, draw_verdicts
 from acas_pictures.witness import draw_witness, title_of
 from acas_origin import beside
-from acas_table import BoxLine, Fault, Model, Table, check_origin, check_replay, read_line, read_model, read_replay, read_report, read_table
+from acas_table import (
+    BoxLine, Fault, Model, Table, check_origin, check_replay, read_line, read_model, read_replay, read_report, read_risk, read_safeable,
+    read_table,
+)
 from acas_table.flight import check_flight
 from acas_table.report import check_line
 
@@ -38,8 +43,29 @@ def verdicts(words: WORDS) -> Figure:
     model = read_model(words.model)
     part = cell_slice(model, words.present, words.own, words.intruder)
     report = read_report(text_of(words.report), words.report, Progress(words.report))
-    words.note = note_of(words.report, model, read_table(words.table, model) if words.table is not None else None)
+    words.note = note_of(words.report, model, table_of(words, model))
     return draw_verdicts(model, report, part, words.title)
+
+
+def risk(words: WORDS) -> Figure:
+    """The picture of `acas_plot risk`."""
+    model = read_model(words.model)
+    part = slice_of(model, words.present, words.own, words.intruder)
+    found = read_risk(text_of(words.risk), words.risk)
+    words.note = note_of(words.risk, model, table_of(words, model))
+    return draw_risk(model, found, part, words.title)
+
+
+def safeable(words: WORDS) -> Figure:
+    """The picture of `acas_plot safeable`."""
+    model = read_model(words.model)
+    part = cell_slice(model, words.present, words.own, words.intruder)
+    report = read_report(text_of(words.report), words.report, Progress(words.report))
+    found = read_safeable(text_of(words.safeable), words.safeable, Progress(words.safeable))
+    table = table_of(words, model)
+    notes = [note_of(name, model, table) for name in (words.report, words.safeable)]
+    words.note = next(filter(None, notes), "")
+    return draw_safeable(model, report, found, part, words.title)
 
 
 def witness(words: WORDS) -> Figure:
@@ -74,6 +100,11 @@ def replay(words: WORDS) -> Figure:
     return draw_replay(model, found, check_replay(found, model, table), words.title)
 
 
+def table_of(words: WORDS, model: Model) -> Table | None:
+    """The table that a text is to be of, where one is named."""
+    return read_table(words.table, model) if words.table is not None else None
+
+
 def note_of(name: str, model: Model, table: Table | None) -> str:
     """What is to be said of a text that nothing ties to its model; a fault where the file beside it says that it is of another."""
     if name == "-":
@@ -92,7 +123,7 @@ def text_of(name: str) -> str:
         raise Fault(name, "text", "is not UTF-8") from None
 
 
-DRAWN = {"policy": policy, "cost": cost, "verdicts": verdicts, "witness": witness, "replay": replay}
+DRAWN = {"policy": policy, "cost": cost, "verdicts": verdicts, "risk": risk, "safeable": safeable, "witness": witness, "replay": replay}
 
 
 def main(chosen: WORDS) -> int:

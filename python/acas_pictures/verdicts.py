@@ -41,14 +41,15 @@ def draw_verdicts(model: Model, report: Report, part: Slice, title: str | None =
     mark_puck(axes, model)
     axes.xaxis.set_major_locator(MaxNLocator(integer=True))
     axes.set(xlabel=TO_GO, ylabel=ALTITUDE)
-    set_title(axes, _title(model, part) if title is None else title)
+    set_title(axes, title_of_cells(model, part) if title is None else title)
     legend_beside(axes, [patch(paint, label) for paint, label in zip(FILLED, LABELS)], "cells")
     _draw_by_advice(figure.add_subplot(rows[1, 0]), model, cells)
     _draw_by_second(figure.add_subplot(rows[1, 1]), model, cells)
     return figure
 
 
-def _title(model: Model, part: Slice) -> str:
+def title_of_cells(model: Model, part: Slice) -> str:
+    """Of which model, present advisory and rates the cells of a slice are."""
     own, intruder = (
         f"{rates[place]} to {rates[place + 1]}"
         for rates, place in ((model.own_rate, part.own), (model.intruder_rate, part.intruder))

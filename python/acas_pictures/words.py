@@ -9,6 +9,8 @@ COMMANDS = (
     ("policy", ("MODEL", "TABLE"), True, "the advice over seconds to go and relative altitude"),
     ("cost", ("MODEL", "TABLE"), True, "the upper value, and how far it is above the lower value"),
     ("verdicts", ("MODEL", "REPORT"), True, "the verdicts on the cells from two rates to the next ones, and the counts"),
+    ("risk", ("MODEL", "RISK"), True, "the chance of contact with the table and without, and the ratio of the two"),
+    ("safeable", ("MODEL", "REPORT", "SAFEABLE"), True, "the verdicts on those cells, and what safeable says of the clear ones"),
     ("witness", ("MODEL", "LINE"), False, "the vertical profile of a reported flight"),
     ("replay", ("MODEL", "TABLE", "REPLAY"), False, "the profile of an encounter with the advice of each second"),
 )
@@ -17,6 +19,8 @@ HELP = {
     "MODEL": "the file of a model",
     "TABLE": "a table of it",
     "REPORT": "a file with what acas audit has printed; - for the input",
+    "RISK": "a file with what acas risk has printed; - for the input",
+    "SAFEABLE": "a file with what acas safeable has printed; - for the input",
     "LINE": "a line of acas audit or of acas regions; - for the input",
     "REPLAY": "a file with what acas replay has printed; - for the input",
     "PICTURE": "the file to write, which ends in .png, .svg or .pdf",
@@ -42,8 +46,8 @@ def parser() -> Parser:
             command.add_argument("--present", required=True, metavar="NAME", help="the advisory that is present")
             command.add_argument("--own", required=True, type=int, metavar="RATE", help="the own rate in ft/min, a number of the grid")
             command.add_argument("--intruder", required=True, type=int, metavar="RATE", help="the intruder's rate, likewise")
-        if name == "verdicts":
-            command.add_argument("--table", metavar="TABLE", help="the table that the report is to be of")
+        if name in ("verdicts", "risk", "safeable"):
+            command.add_argument("--table", metavar="TABLE", help=f"the table that the {files[-1].lower()} is to be of")
         if name == "witness":
             command.add_argument("--advisory", metavar="NAME", help="of a line of acas regions: the advisory of its box")
         command.add_argument("--title", metavar="TEXT", help="the title, in the place of one that says what is drawn")

@@ -19,7 +19,7 @@ from acas_study.steps import PLAN
 from acas_study.words import TOP
 from acas_texts import Fault
 
-FOLDERS = ("models", "tables", "checks", "reports", "rows", "pictures")
+FOLDERS = ("models", "tables", "checks", "reports", "risks", "safeables", "rows", "pictures")
 PROCESSORS = ("-c", "--cores", "-j", "--jobs", "--profile")
 """Snakemake's words that say how much runs at a time."""
 DRY = frozenset(("-n", "--dry-run", "--dryrun"))
@@ -169,7 +169,7 @@ def is_done(study: Study, results: Path) -> bool:
     for last in ("study.csv", "page.html"):
         chains = [[PLAN, last]]
         for name in (model.name for model in study.models):
-            for report in ("checks", "reports"):
+            for report in ("checks", "reports", "risks", "safeables"):
                 chains.append([f"models/{name}.toml", f"tables/{name}.acxt", f"{report}/{name}.txt", f"rows/{name}.csv", last])
         for chain in chains:
             paths = [results / name for name in chain]

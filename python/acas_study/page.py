@@ -22,11 +22,11 @@ figcaption {{ font-size: 85%; }}
 
 
 def page_of(title: str, header: list[str], rows: list[list[str]], names: list[str]) -> str:
-    """The text of the page: the trade, the table, and the two pictures of each model."""
+    """The text of the page: the trade, the table, and the four pictures of each model."""
     parts = [HEAD.format(title=escape(title)), _figure("pictures/trade.png", "the trade"), _table(header, rows)]
     for name in names:
         parts.append(f'<h2 id="{escape(name)}">{escape(name)}</h2>\n')
-        parts += [_figure(f"pictures/{name}-{kind}.png", f"{kind} of {name}") for kind in ("policy", "verdicts")]
+        parts += [_figure(f"pictures/{name}-{kind}.png", f"{kind} of {name}") for kind in ("policy", "verdicts", "risk", "safeable")]
     return "".join([*parts, "</body>\n</html>\n"])
 
 

@@ -1,9 +1,12 @@
 """The steps of a study that the workflow calls, each in the folder of the results: `study/step STEP NAME`."""
 import json
 from pathlib import Path
+from typing import Callable
 
 from acas_pictures.canvas import save
 from acas_pictures.policy import draw_policy
+from acas_pictures.risk import draw_risk
+from acas_pictures.safeable import draw_safeable
 from acas_pictures.slices import Slice
 from acas_pictures.verdicts import draw_verdicts
 from acas_study.columns import COUNTED
@@ -11,29 +14,37 @@ from acas_study.files import write_whole
 from acas_study.page import page_of
 from acas_study.rows import counts_of, read_row, text_of_rows
 from acas_study.trade import Point, draw_trade
-from acas_table import Fault, Model, Report, Table, check_origin, read_model, read_report, read_table
+from acas_table import Fault, Model, Table, check_origin, read_model, read_report, read_risk, read_safeable, read_table
 from acas_table.replay import nearest
 
 PLAN = Path("plan.json")
 
 
 def row(name: str) -> None:
-    """The numbers of one model, and its two pictures."""
-    model, table, report = _read(name)
+    """The numbers of one model, and its four pictures."""
+    model = read_model(f"models/{name}.toml")
+    table = read_table(f"tables/{name}.acxt", model)
+    report, risk, safeable = (read(_text_of(path, model, table), path) for read, path in _printed(name))
     part = _level(model)
     Path("pictures").mkdir(exist_ok=True)
     save(draw_policy(model, table, part), Path(f"pictures/{name}-policy.png"))
     save(draw_verdicts(model, report, part), Path(f"pictures/{name}-verdicts.png"))
-    numbers = list(counts_of(model, table, report).numbers)
+    save(draw_risk(model, risk, part), Path(f"pictures/{name}-risk.png"))
+    save(draw_safeable(model, report, safeable, part), Path(f"pictures/{name}-safeable.png"))
+    numbers = list(counts_of(model, table, report, risk, safeable).numbers)
     write_whole(Path(f"rows/{name}.csv"), (",".join(numbers) + "\n").encode())
 
 
-def _read(name: str) -> tuple[Model, Table, Report]:
-    model = read_model(f"models/{name}.toml")
-    report, table = f"reports/{name}.txt", read_table(f"tables/{name}.acxt", model)
-    if check_origin(report, model, table) is None:
-        raise Fault(report, "origin", "is missing: nothing says of which model and table it is")
-    return model, table, read_report(Path(report).read_text(encoding="utf-8"), report)
+def _printed(name: str) -> list[tuple[Callable, str]]:
+    """What was printed of a model, each by its reader and its file."""
+    return [(read_report, f"reports/{name}.txt"), (read_risk, f"risks/{name}.txt"), (read_safeable, f"safeables/{name}.txt")]
+
+
+def _text_of(path: str, model: Model, table: Table) -> str:
+    """The text of a file, beside which it has to be said that it is of this model and this table."""
+    if check_origin(path, model, table) is None:
+        raise Fault(path, "origin", "is missing: nothing says of which model and table it is")
+    return Path(path).read_text(encoding="utf-8")
 
 
 def _level(model: Model) -> Slice:

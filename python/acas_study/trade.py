@@ -1,4 +1,5 @@
 """The picture of a trade: one column of a study's table against another."""
+import math
 from dataclasses import dataclass
 
 from matplotlib.figure import Figure
@@ -9,6 +10,9 @@ AXIS_LABELS = {
     "advised": "cells with an advice", "reported": "reported lines", "certified": "certified lines", "lines": "lines of the report",
     "clear": "cells that are clear", "cells": "cells", "advised_share": "share of the cells that have an advice",
     "reported_share": "share of the lines that are reported", "layers": "layers", "states": "states", "bytes": "bytes of the table",
+    "mean_risk": "mean chance of contact with the table, at most", "mean_risk_clear": "mean chance of contact under always clear, at least",
+    "risk_ratio": "ratio of the mean chances, at most", "safeable": "clear cells that are safeable", "open": "clear cells that are open",
+    "near": "clear cells that are near", "open_share": "share of the clear cells that are open",
 }
 LINES = (("#222222", "o", "-"), ("#C2185B", "s", "--"), ("#00695C", "^", "-."), ("#7A6A00", "D", ":"))
 
@@ -24,7 +28,9 @@ class Point:
 
 
 def draw_trade(points: list[Point], across: str, up: str, first: str) -> Figure:
-    """Models that differ in the first varied key alone are joined by a line, and labelled by its value."""
+    """Models that differ in the first varied key alone are joined by a line, and labelled by its value. One that has no number is left
+    out."""
+    points = [point for point in points if math.isfinite(point.across) and math.isfinite(point.up)]
     figure = new_figure(6.6, 4.2)
     axes = figure.add_subplot()
     for place, line in enumerate(dict.fromkeys(point.line for point in points)):

@@ -1,19 +1,23 @@
 """Reads the files of `acas`, and what it prints, for numpy.
 
 `read_model` reads a model, `read_table` a table of it, `read_report` what `acas audit` prints, `read_line` one line of it or of `acas
-regions`, and `read_replay` what `acas replay` prints. `read_report_of` and `read_replay_of` read the file of one, which has to be of a
-model and a table. What is not as it has to be is a `Fault`, which names the field.
+regions`, `read_replay` what `acas replay` prints, `read_risk` what `acas risk` prints, and `read_safeable` what `acas safeable` prints.
+`read_report_of`, `read_replay_of`, `read_risk_of` and `read_safeable_of` read the file of one, which has to be of a model and a table. What is
+not as it has to be is a `Fault`, which names the field.
 """
 from acas_texts import Fault
 from acas_table.flight import Flight, Segment
 from acas_table.model import Advisory, Model, SigmaPoint, read_model
-from acas_table.origin import check_origin, read_replay_of, read_report_of
+from acas_table.origin import check_origin, read_replay_of, read_report_of, read_risk_of, read_safeable_of
 from acas_table.replay import Replay, check_replay, read_replay
 from acas_table.report import BoxLine, CellLine, Report, numbered, read_line, read_report
+from acas_table.risk import RISK, Risk, gridded, ratios, read_risk
+from acas_table.safeable import Safeable, check_audit, clear_cells, read_safeable
 from acas_table.table import ENTRY, Header, Table, read_table
 
 __all__ = [
-    "ENTRY", "Advisory", "BoxLine", "CellLine", "Fault", "Flight", "Header", "Model", "Replay", "Report", "Segment", "SigmaPoint",
-    "Table", "check_origin", "check_replay", "numbered", "read_line", "read_model", "read_replay", "read_replay_of",
-    "read_report", "read_report_of", "read_table",
+    "ENTRY", "RISK", "Advisory", "BoxLine", "CellLine", "Fault", "Flight", "Header", "Model", "Replay", "Report", "Risk", "Safeable",
+    "Segment", "SigmaPoint", "Table", "check_audit", "check_origin", "check_replay", "clear_cells", "gridded", "numbered", "ratios",
+    "read_line", "read_model", "read_replay", "read_replay_of", "read_report", "read_report_of", "read_risk", "read_risk_of",
+    "read_safeable", "read_safeable_of", "read_table",
 ]

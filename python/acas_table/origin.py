@@ -8,11 +8,13 @@ from acas_texts import Fault
 from acas_table.model import Model
 from acas_table.replay import Replay, check_replay, read_replay
 from acas_table.report import Progress, Report, numbered, read_report
+from acas_table.risk import Risk, gridded, read_risk
+from acas_table.safeable import Safeable, clear_cells, read_safeable
 from acas_table.table import Table
 
 
 def check_origin(path: str | os.PathLike[str], model: Model, table: Table | None = None) -> Origin | None:
-    """What the file beside a report or a replay says of it, once that is found to be of this text, this model and this table.
+    """What the file beside a report, a replay or a risk says of it, once that is found to be of this text, this model and this table.
 
     Without a table, that one is not looked at. None where there is no such file: then nothing tells of which model the text is.
     """
@@ -56,6 +58,23 @@ def read_replay_of(path: str | os.PathLike[str], model: Model, table: Table) -> 
     replay = read_replay(Path(path).read_text(encoding="utf-8"), str(path))
     check_replay(replay, model, table)
     return replay
+
+
+def read_risk_of(path: str | os.PathLike[str], model: Model, table: Table | None = None) -> Risk:
+    """The risk of a file, which has to be one of this model, and of this table where one is given, as `read_report_of` reads a report."""
+    _warn(path, check_origin(path, model, table))
+    risk = read_risk(Path(path).read_text(encoding="utf-8"), str(path))
+    gridded(risk, model)
+    return risk
+
+
+def read_safeable_of(path: str | os.PathLike[str], model: Model, table: Table | None = None) -> Safeable:
+    """The report on clear cells of a file, which has to be one of this model, and of this table where one is given, as `read_report_of`
+    reads a report."""
+    _warn(path, check_origin(path, model, table))
+    safeable = read_safeable(Path(path).read_text(encoding="utf-8"), str(path))
+    clear_cells(safeable, model)
+    return safeable
 
 
 def _warn(path: str | os.PathLike[str], origin: Origin | None) -> None:

@@ -7,6 +7,7 @@ from typing import Callable
 import numpy as np
 
 from acas_texts import Fault
+from acas_table.cells import PLACE, cell_shape, numbers_of, refuse_disorder, refuse_first, refuse_outside
 from acas_table.flight import TICKS_PER_FOOT, Flight, check_flight, read_flight
 from acas_table.model import AXES, Advisory, Model
 from acas_table.words import Words, lines_of
@@ -155,11 +156,10 @@ def numbered(report: Report, model: Model) -> np.ndarray:
     for field in ("second", *AXES, "reported"):
         cells[field] = report.cells[field]
     for field in ("present", "advice"):
-        cells[field] = _numbers(report, model, field)
-    for field, count in zip(("second", *AXES), _cell_shape(model)):
-        _refuse(report, cells[field] >= count, field, f"is not from 0 to {count - 1}, as {model.source} has it")
-    _refuse(report, cells["advice"] == 0, "advice", f"is {model.names[0]}, which is clear of conflict")
-    _check_order(report, cells)
+        cells[field] = numbers_of(report.source, report.cells, field, model.names, model)
+    refuse_outside(report.source, report.cells, model)
+    refuse_first(report.source, report.cells, cells["advice"] == 0, "advice", f"is {model.names[0]}, which is clear of conflict")
+    refuse_disorder(report.source, report.cells, cells, (*PLACE, "advice"))
     _check_cells(report, model, cells)
     _check_flights(report, model, cells)
     return cells
@@ -185,7 +185,7 @@ def check_line(model: Model, line: CellLine, source: str) -> Advisory:
     for field in ("present", "advice"):
         if getattr(line, field) not in model.names:
             raise Fault(source, field, f"{getattr(line, field)} is no advisory of {model.source}")
-    for field, count in zip(("second", *AXES), _cell_shape(model)):
+    for field, count in zip(("second", *AXES), cell_shape(model)):
         if getattr(line, field) >= count:
             raise Fault(source, field, f"{getattr(line, field)} is not from 0 to {count - 1}, as {model.source} has it")
     check_cell_flight(model, line.second, [getattr(line, axis) for axis in AXES], line.flight, source)
@@ -207,40 +207,11 @@ def check_cell_flight(model: Model, second: int, places: list[int], flight: Flig
         raise Fault(source, "range", f"is {flight.range}, outside the cell in {model.source}")
 
 
-def _cell_shape(model: Model) -> tuple[int, int, int, int]:
-    """Of the cells under each advisory: seconds, altitudes, own rates, intruder rates."""
-    return (model.horizon, len(model.altitude) - 1, len(model.own_rate) - 1, len(model.intruder_rate) - 1)
-
-
-def _numbers(report: Report, model: Model, field: str) -> np.ndarray:
-    names, places = np.unique(report.cells[field], return_inverse=True)
-    numbers = np.array([model.names.index(name) if name in model.names else 255 for name in names.tolist()], dtype=np.uint8)
-    found = numbers[places] if len(names) else np.empty(0, dtype=np.uint8)
-    _refuse(report, found == 255, field, f"is no advisory of {model.source}")
-    return found
-
-
-def _refuse(report: Report, wrong: np.ndarray, field: str, problem: str) -> None:
-    """Refuses the first line of those that are wrong."""
-    if wrong.any():
-        place = int(np.argmax(wrong))
-        raise Fault(f"{report.source} line {place + 1}", field, f"{report.cells[field][place]} {problem}")
-
-
-def _check_order(report: Report, cells: np.ndarray) -> None:
-    fields = ("advice", *reversed(AXES), "present", "second")
-    order = np.lexsort([cells[field] for field in fields])
-    wrong = order != np.arange(len(order))
-    wrong[1:] |= cells[1:][list(fields)] == cells[:-1][list(fields)]
-    _refuse(report, wrong, "second", "stands in a line that is out of order")
-
-
 def _check_cells(report: Report, model: Model, cells: np.ndarray) -> None:
     """Refuses counts that are not those of the cells: each of them is clear, or has a line."""
     if not report.is_whole:
         return
-    fields = ["second", "present", *AXES]
-    named = len(np.unique(cells[fields]))
-    total = math.prod(_cell_shape(model)) * len(model.advisories)
+    named = len(np.unique(cells[list(PLACE)]))
+    total = math.prod(cell_shape(model)) * len(model.advisories)
     if named + report.clear != total:
         raise Fault(report.source, "counts", f"make {named + report.clear} cells, and {model.source} has {total}")

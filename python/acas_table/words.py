@@ -64,6 +64,16 @@ class Words:
             raise self.fault(field, found, f"from {least} to {greatest}" if greatest is not None else f"at least {least}")
         return number
 
+    def millionths(self, field: str, least: int, greatest: int) -> int:
+        """The next word, a number with six decimals, in millionths, which has a least and a greatest value."""
+        found = self.next(field)
+        number = millionths_of(found)
+        if number is None:
+            raise self.fault(field, found, "a number with six decimals")
+        if not least <= number <= greatest:
+            raise self.fault(field, found, f"from {text_of_millionths(least)} to {text_of_millionths(greatest)}")
+        return number
+
     def fraction(self, field: str) -> Fraction:
         """The next word, as a whole number or a fraction in lowest terms."""
         return self.fraction_of(field, self.next(field))
@@ -92,6 +102,22 @@ def whole_of(word: str) -> int | None:
     if not (digits.isascii() and digits.isdigit()) or (digits[0] == "0" and word != "0"):
         return None
     return int(word)
+
+
+def millionths_of(word: str) -> int | None:
+    """The millionths of a number with six decimals in its one spelling, or None."""
+    whole, point, decimals = word.partition(".")
+    units = whole_of(whole.removeprefix("-"))
+    if units is None or units < 0 or not point or len(decimals) != 6 or not (decimals.isascii() and decimals.isdigit()):
+        return None
+    number = 1_000_000 * units + int(decimals)
+    return None if whole.startswith("-") and number == 0 else -number if whole.startswith("-") else number
+
+
+def text_of_millionths(number: int) -> str:
+    """A number of millionths with six decimals."""
+    units, rest = divmod(abs(number), 1_000_000)
+    return f"{'-' if number < 0 else ''}{units}.{rest:06d}"
 
 
 def fraction_of(word: str) -> Fraction | None:

@@ -9,7 +9,9 @@ from look import colour_at
 from matplotlib.colors import to_rgb
 
 from acas_pictures.canvas import fill_cells, new_figure
-from acas_pictures.colours import ANY, CERTIFIED, CLEAR, DOWN, HATCHES, LEVEL, MIXED, REPORTED, UP, Paint, colour_of, paints
+from acas_pictures.colours import (
+    ANY, CERTIFIED, CLEAR, DOWN, HATCHES, LEVEL, MIXED, NEAR, OPEN, REPORTED, SAFEABLE, UP, Paint, colour_of, paints,
+)
 from acas_table import read_model
 
 # What red, green and blue light become to who lacks one kind of cone, in linear light, by Machado, Oliveira and Fernandes (2009).
@@ -33,7 +35,10 @@ def lab(colour: str, sight: np.ndarray) -> np.ndarray:
 
 
 @pytest.mark.parametrize("sight", SIGHTS)
-@pytest.mark.parametrize("colours", [(CLEAR, *UP, *DOWN, LEVEL, ANY), (CLEAR, CERTIFIED, MIXED, REPORTED)], ids=["advisories", "verdicts"])
+@pytest.mark.parametrize(
+    "colours", [(CLEAR, *UP, *DOWN, LEVEL, ANY), (CLEAR, CERTIFIED, MIXED, REPORTED), (CERTIFIED, MIXED, REPORTED, SAFEABLE, OPEN, NEAR)],
+    ids=["advisories", "verdicts", "cells"],
+)
 def test_colours_are_told_apart(sight, colours):
     for one, other in itertools.combinations(colours, 2):
         assert np.linalg.norm(lab(one, SIGHTS[sight]) - lab(other, SIGHTS[sight])) >= LEAST_DIFFERENCE, (one, other)

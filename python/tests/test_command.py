@@ -11,11 +11,15 @@ from conftest import EXAMPLES, TOP
 from test_replay import TEXT as REPLAY
 from test_report import CERTIFIED, REPORTED
 from test_report import WHOLE as REPORT
+from test_risk import TEXT as RISK
+from test_safeable import FAR, NOTHING_ADVISED, TWO_SECONDS
+from test_safeable import TEXT as SAFEABLE
 
 PLOT = TOP / "python" / "acas_plot"
 LEVEL = ("--present", "clear", "--own", "0", "--intruder", "0")
 CELLS = ("--present", "clear", "--own", "0", "--intruder", "-60")
 MODEL, TABLE = EXAMPLES / "c.toml", EXAMPLES / "c.acxt"
+OF_RISK = EXAMPLES / "b.toml"
 
 
 def plot(*words, given: str = "") -> subprocess.CompletedProcess:
@@ -26,9 +30,14 @@ def plot(*words, given: str = "") -> subprocess.CompletedProcess:
 
 @pytest.fixture
 def files(tmp_path) -> Path:
-    """A folder with the report and the replay of the examples' smallest table, and with an older picture."""
+    """A folder with the report and the replay of the examples' smallest table, the risk of another, a model whose cells are clear with both
+    reports on its table, and with an older picture."""
     (tmp_path / "report.txt").write_text(REPORT)
     (tmp_path / "replay.txt").write_text(REPLAY)
+    (tmp_path / "risk.txt").write_text(RISK)
+    (tmp_path / "far.toml").write_text((EXAMPLES / "c.toml").read_text().replace(*TWO_SECONDS).replace(*FAR))
+    (tmp_path / "clear.txt").write_text(NOTHING_ADVISED)
+    (tmp_path / "safeable.txt").write_text(SAFEABLE)
     (tmp_path / "old.png").write_bytes(b"old")
     return tmp_path
 
@@ -39,14 +48,17 @@ def test_each_picture_by_its_ending(files, ending, begin):
     for words in (
         ("policy", MODEL, TABLE, picture, *LEVEL), ("cost", MODEL, TABLE, picture, *LEVEL),
         ("verdicts", MODEL, files / "report.txt", picture, *CELLS), ("witness", MODEL, REPORTED, picture),
-        ("replay", MODEL, TABLE, files / "replay.txt", picture),
+        ("replay", MODEL, TABLE, files / "replay.txt", picture), ("risk", OF_RISK, files / "risk.txt", picture, *LEVEL),
+        ("safeable", files / "far.toml", files / "clear.txt", files / "safeable.txt", picture, *CELLS),
     ):
         ended = plot(*words)
         assert (ended.returncode, ended.stdout) == (0, "")
-        assert not ended.stderr or re.fullmatch(r"acas_plot: .*/(report|replay).txt: no .* says of which model and table it is.*\n", ended.stderr)
+        said = r"acas_plot: .*/(report|replay|risk|clear|safeable).txt: no .* says of which model and table it is.*\n"
+        assert not ended.stderr or re.fullmatch(said, ended.stderr)
         assert picture.read_bytes().startswith(begin)
         picture.unlink()
-    assert sorted(path.name for path in files.iterdir()) == ["old.png", "replay.txt", "report.txt"]
+    kept = ["clear.txt", "far.toml", "old.png", "replay.txt", "report.txt", "risk.txt", "safeable.txt"]
+    assert sorted(path.name for path in files.iterdir()) == kept
 
 
 def test_svg_has_its_words_as_text(files):
@@ -62,9 +74,10 @@ def test_title_size_and_points(files):
     given = ("--title", "Advice for $5 & more", "--size", "6x4.5", "--dpi", "100")
     for words in (
         ("policy", MODEL, TABLE, *LEVEL), ("cost", MODEL, TABLE, *LEVEL), ("verdicts", MODEL, files / "report.txt", *CELLS),
-        ("witness", MODEL, REPORTED), ("replay", MODEL, TABLE, files / "replay.txt"),
+        ("witness", MODEL, REPORTED), ("replay", MODEL, TABLE, files / "replay.txt"), ("risk", OF_RISK, files / "risk.txt", *LEVEL),
+        ("safeable", files / "far.toml", files / "clear.txt", files / "safeable.txt", *CELLS),
     ):
-        count = 4 if words[0] == "replay" else 3
+        count = 4 if words[0] in ("replay", "safeable") else 3
         for name in ("picture.svg", "picture.png"):
             assert plot(*words[:count], files / name, *words[count:], *given).returncode == 0
         assert ">Advice for $5 &amp; more</text>" in (files / "picture.svg").read_text(encoding="utf-8")
@@ -84,6 +97,7 @@ def test_two_runs_write_the_same(files, name):
     (("witness", MODEL, "-"), (), REPORTED),
     (("verdicts", MODEL, "-"), CELLS, REPORT),
     (("replay", MODEL, TABLE, "-"), (), REPLAY),
+    (("risk", OF_RISK, "-"), LEVEL, RISK),
 ])
 def test_input_in_the_place_of_a_file(files, words, options, given):
     ended = plot(*words, files / "new.svg", *options, given=given)
@@ -109,6 +123,12 @@ BAD = [
     ("rate", ("cost", MODEL, TABLE, "old.png", *LEVEL[:2], "--own", "1", *LEVEL[4:]), f"{MODEL}: grid.own_rate has no 1, but 0, 60"),
     ("last rate", ("verdicts", MODEL, "report.txt", "old.png", *LEVEL), f"{MODEL}: grid.intruder_rate ends at 0, and no cell begins"),
     ("report of another model", ("verdicts", EXAMPLES / "b.toml", "report.txt", "old.png", *LEVEL), "report.txt line 1: advice climb is"),
+    ("risk of another model", ("risk", MODEL, "risk.txt", "old.png", *LEVEL), f"risk.txt: count is 16, and {MODEL} has 24 states"),
+    ("no risk", ("risk", MODEL, "replay.txt", "old.png", *LEVEL), "replay.txt line 1: altitude is 'clear', not a whole number"),
+    ("table of another model beside a risk", ("risk", OF_RISK, "risk.txt", "old.png", *LEVEL, "--table", TABLE), f"{TABLE}: other model "),
+    ("clear cells of another model", ("safeable", MODEL, "report.txt", "safeable.txt", "old.png", *CELLS), "safeable.txt line 1: second 1 is"),
+    ("no clear cells", ("safeable", "far.toml", "clear.txt", "replay.txt", "old.png", *CELLS), "replay.txt line 1: word cell is '0', not cell"),
+    ("certified lines", ("safeable", "far.toml", "few.txt", "safeable.txt", "old.png", *CELLS), "few.txt: cannot be read: No such file"),
     ("no report", ("verdicts", MODEL, "replay.txt", "old.png", *CELLS), "replay.txt line 1: word cell is '0', not cell"),
     ("replay of another model", ("replay", EXAMPLES / "c.toml", TABLE, "report.txt", "old.png"), "report.txt line 1: second is 'cell'"),
     ("certified", ("witness", MODEL, CERTIFIED, "old.png"), "line: verdict is certified, and no flight is printed"),

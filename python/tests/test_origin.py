@@ -11,7 +11,7 @@ import pytest
 from conftest import EXAMPLES, TOP
 
 from acas_origin import digest_of, origin_of
-from acas_table import Fault, check_origin, read_model, read_replay_of, read_report_of, read_table
+from acas_table import Fault, check_origin, read_model, read_replay_of, read_report_of, read_risk_of, read_safeable_of, read_table
 from test_command import CELLS, plot
 
 RUN = TOP / "python" / "acas_run"
@@ -55,7 +55,7 @@ def test_report_and_what_it_is_of(acas, folder):
 
 @pytest.mark.parametrize("words", [
     ("values", "c.toml"), ("check", "c.toml", "c.acxt"), (*WORDS, "--reported"), ("regions", "d.toml", "d-boxes.toml"),
-    ("replay", "c.toml", "c.acxt", "e.toml"),
+    ("replay", "c.toml", "c.acxt", "e.toml"), ("risk", "c.toml", "c.acxt"), ("safeable", "c.toml", "c.acxt"),
 ])
 def test_each_command_that_prints(acas, folder, words):
     for name in ("d.toml", "d-boxes.toml"):
@@ -188,3 +188,35 @@ def test_replay_of_a_file(acas, folder):
     acas.output("compile", folder / "c.toml", folder / "new.acxt")
     with pytest.raises(Fault, match="^out: other table "):
         read_replay_of("out", model, read_table("new.acxt", model))
+
+
+def test_risk_of_a_file(acas, folder):
+    """A risk names neither model nor table: what acas_run writes beside it does."""
+    model = read_model("c.toml")
+    table = read_table("c.acxt", model)
+    assert run(acas, "out", "risk", "c.toml", "c.acxt").returncode == 0
+    assert len(read_risk_of("out", model, table).states) == len(read_risk_of("out", model).states) == 24
+    level = ("--present", "clear", "--own", "0", "--intruder", "0")
+    assert plot("risk", "c.toml", "out", "p.png", *level, "--table", "c.acxt").stderr == ""
+    (folder / "p.png").unlink()
+    ended = plot("risk", dearer(folder), "out", "p.png", *level)
+    assert ended.returncode == 1 and ended.stderr.startswith("acas_plot: out: other model ") and not (folder / "p.png").exists()
+    acas.output("compile", folder / "c.toml", folder / "new.acxt")
+    with pytest.raises(Fault, match="^out: other table "):
+        read_risk_of("out", model, read_table("new.acxt", model))
+
+
+def test_clear_cells_of_a_file(acas, folder):
+    """A report on clear cells names neither model nor table, and is drawn with the audit of the same table alone."""
+    model = read_model("c.toml")
+    table = read_table("c.acxt", model)
+    for out, command in (("report", "audit"), ("out", "safeable")):
+        assert run(acas, out, command, "c.toml", "c.acxt").returncode in (0, 1)
+    assert read_safeable_of("out", model, table).near == read_safeable_of("out", model).near == 2
+    assert plot("safeable", "c.toml", "report", "out", "p.png", *CELLS, "--table", "c.acxt").stderr == ""
+    (folder / "p.png").unlink()
+    ended = plot("safeable", dearer(folder), "report", "out", "p.png", *CELLS)
+    assert ended.returncode == 1 and ended.stderr.startswith("acas_plot: report: other model ") and not (folder / "p.png").exists()
+    acas.output("compile", folder / "c.toml", folder / "new.acxt")
+    with pytest.raises(Fault, match="^out: other table "):
+        read_safeable_of("out", model, read_table("new.acxt", model))

@@ -5,21 +5,27 @@ from fractions import Fraction
 import numpy as np
 import pytest
 from conftest import EXAMPLES
-from look import colour_at, legend_of, line_of
+from look import colour_at, hex_of, legend_of, line_of
 
 from acas_pictures.canvas import edges_between, resize
-from acas_pictures.colours import CERTIFIED, CLEAR, DOWN, MIXED, REPORTED, UP
+from acas_pictures.colours import CERTIFIED, CLEAR, DOWN, MIXED, NEAR, NO_RATIO, OPEN, REPORTED, SAFEABLE, UNADVISED, UP, WITH_TABLE
 from acas_pictures.cost import draw_cost
 from acas_pictures.encounter import draw_replay, profile
 from acas_pictures.policy import draw_policy
+from acas_pictures.risk import draw_risk
+from acas_pictures.safeable import draw_safeable
 from acas_pictures.slices import slice_of
 from acas_pictures.verdicts import cell_slice, draw_verdicts
 from acas_pictures.witness import draw_witness, title_of
-from acas_table import Fault, check_replay, read_line, read_model, read_replay, read_report, read_table
+from acas_table import Fault, check_replay, read_line, read_model, read_replay, read_report, read_risk, read_safeable, read_table
 from test_replay import TEXT as REPLAY
 from test_report import CERTIFIED as CERTIFIED_LINE
 from test_report import REPORTED as REPORTED_LINE
 from test_report import WHOLE as REPORT
+from test_risk import TEXT as RISK
+from test_safeable import FAR, NOTHING_ADVISED, TWO_SECONDS
+from test_safeable import OPEN as OPEN_CELLS
+from test_safeable import TEXT as SAFEABLE_CELLS
 
 COLOURS = {"climb": UP[1], "descend": DOWN[1]}
 TO_GO = "time to loss of horizontal separation [s]"
@@ -159,6 +165,97 @@ def test_verdicts_want_the_certified_lines(model):
     report = read_report(REPORTED_LINE + "certified 1 reported 1 clear 2\n")
     with pytest.raises(Fault, match="give the report without --reported"):
         draw_verdicts(model, report, cell_slice(model, "clear", 0, -60))
+
+
+def test_risk_shows_the_chances():
+    """In examples/b.toml clear alone may be chosen: both lines are the same, at the upper bounds, and each ratio is about 1."""
+    model = read_model(EXAMPLES / "b.toml")
+    figure = draw_risk(model, read_risk(RISK), slice_of(model, "clear", 0, 600))
+    left, right, bar = figure.axes
+    for label in ("with the table", "always clear"):
+        assert line_of(left, label) == ([0.524692, 0.018519], [0, 30])
+    assert legend_of(left) == {"always clear": UNADVISED, "with the table": WITH_TABLE}
+    band = left.collections[1].get_paths()[0].vertices.tolist()
+    assert [0.52469, 0] in band and [0.524692, 0] in band and [0.018518, 30] in band
+    found = np.ma.getdata(right.collections[0].get_array()).reshape(2, 2)
+    assert found[0, 0] == pytest.approx(524692 / 524690) and found[1, 0] == pytest.approx(18519 / 18518)
+    assert (left.get_xlabel(), left.get_ylabel(), right.get_xlabel()) == ("chance of contact", ALTITUDE, "own rate [ft/min]")
+    assert (bar.get_ylabel(), right.get_xlim(), right.get_ylim()) == ("risk ratio, upper bound", (0, 600), (0, 30))
+    assert figure._suptitle.get_text() == "b.toml: clear is present, own rate 0, intruder's rate 600 ft/min"
+    assert left.get_xscale() == "linear" and right.get_legend() is None
+
+
+def test_risk_by_powers_of_ten():
+    """A chance of less than a hundredth has its own power of ten; 0 has a place too."""
+    model = read_model(EXAMPLES / "b.toml")
+    text = RISK.replace("risk 0.018518 0.018519", "risk 0.000000 0.000003").replace("risk 0.185184 0.185186", "risk 0.000000 0.000000")
+    figure = draw_risk(model, read_risk(text), slice_of(model, "clear", 0, 600))
+    left, _, bar = figure.axes
+    figure.canvas.draw()
+    assert left.get_xscale() == "symlog" and left.get_xlim()[0] < 0 < left.get_xlim()[1]
+    assert [label.get_text() for label in left.get_xticklabels()] == ["0", "0.000001", "0.00001", "0.0001", "0.001", "0.01", "0.1", "1"]
+    assert [label.get_text() for label in bar.get_yticklabels()][:2] == ["0", "0.0001"]
+
+
+def test_risk_without_a_ratio_and_above_one():
+    """Where the chance without advice is 0 nothing but grey is drawn; where the table surely makes contact likelier a hatch is."""
+    model = read_model(EXAMPLES / "b.toml")
+    text = RISK.replace("clear 0.018518 0.018519", "clear 0.000000 0.000001").replace("clear 0.524690 0.524692", "clear 0.100000 0.100002")
+    figure = draw_risk(model, read_risk(text), slice_of(model, "clear", 0, 600))
+    right = figure.axes[1]
+    assert colour_at(figure, right, 150, 24) == NO_RATIO
+    assert set(legend_of(right)) == {"no ratio", "surely above 1"}
+    (hatched,) = [one for one in right.collections if one.get_hatch()]
+    assert len(hatched.get_paths()) == 1 and hatched.get_paths()[0].vertices[:2].tolist() == [[0, 0], [300, 0]]
+
+
+def test_risk_with_no_second_to_go(acas):
+    model = read_model(EXAMPLES / "a.toml")
+    text = acas.output("risk", EXAMPLES / "a.toml", acas.table(EXAMPLES / "a.toml"))
+    left, right, _ = draw_risk(model, read_risk(text), slice_of(model, "clear", 0, 0)).axes
+    assert line_of(left, "with the table") == ([1, 0], [0, 200])
+    assert right.collections[0].get_array().mask.reshape(2, 2).tolist() == [[False] * 2, [True] * 2]
+
+
+@pytest.mark.parametrize(("text", "colour", "bars"), [
+    (SAFEABLE_CELLS, SAFEABLE, [[0, 0], [0, 3], [3, 0]]), (OPEN_CELLS, OPEN, [[0, 3], [0, 0], [3, 0]]),
+])
+def test_safeable_shows_clear_cells(changed, text, colour, bars):
+    """The cell of the first second is near, the other one as the text says."""
+    model = read_model(changed("c.toml", TWO_SECONDS, FAR))
+    figure = draw_safeable(model, read_report(NOTHING_ADVISED), read_safeable(text), cell_slice(model, "clear", 0, -60))
+    axes, below = figure.axes
+    cells = np.asarray(axes.collections[0].get_array()).ravel()
+    filled = [axes.collections[0].cmap(axes.collections[0].norm(cell)) for cell in cells]
+    assert [hex_of(one) for one in filled] == [NEAR, colour]
+    assert [[bar.get_height() for bar in container] for container in below.containers] == bars
+    assert (axes.get_xlabel(), axes.get_ylabel(), below.get_xlabel(), below.get_ylabel()) == (TO_GO, ALTITUDE, TO_GO, "clear cells")
+    assert axes.get_title("left") == "c.toml: clear is present, own rate 0 to 60, intruder's rate -60 to 0 ft/min"
+    assert legend_of(axes) == {
+        "advised and certified": CERTIFIED, "some advice reported": MIXED, "advised and reported": REPORTED,
+        "clear and safeable": SAFEABLE, "clear and open": OPEN, "clear and near": NEAR,
+    }
+
+
+def test_safeable_of_an_example(acas):
+    """Five cells of examples/d.toml under clear, by their second and their place among the altitudes, and the bars of all clear cells."""
+    path = EXAMPLES / "d.toml"
+    model, words = read_model(path), (path, acas.table(path))
+    report, safeable = read_report(acas.output("audit", *words)), read_safeable(acas.output("safeable", *words))
+    axes, below = draw_safeable(model, report, safeable, cell_slice(model, "clear", 0, 0)).axes
+    mesh = axes.collections[0]
+    kinds = np.asarray(mesh.get_array()).reshape(3, 30)
+    for second, place, colour in ((0, 0, NEAR), (1, 0, SAFEABLE), (1, 1, OPEN), (29, 0, OPEN), (29, 1, REPORTED)):
+        assert hex_of(mesh.cmap(mesh.norm(kinds[place, second]))) == colour
+    heights = [sum(bar.get_height() for bar in container) for container in below.containers]
+    assert heights == [496, 160, 24]
+
+
+def test_safeable_wants_both_reports_of_one_table(changed):
+    model = read_model(changed("c.toml", TWO_SECONDS, FAR))
+    audit = read_report("cell 1 clear 0 0 0 climb certified\ncertified 1 reported 0 clear 5\n")
+    with pytest.raises(Fault, match="safeable line 1: second 1 is of a cell that has an advice in report"):
+        draw_safeable(model, audit, read_safeable(SAFEABLE_CELLS), cell_slice(model, "clear", 0, -60))
 
 
 def test_last_rate_begins_no_cell(model):

@@ -14,12 +14,16 @@ import pytest
 from conftest import EXAMPLES, TOP
 
 from acas_origin import digest_of, origin_of
-from acas_study.command import lock
+from acas_study.columns import COUNTED
+from acas_study.command import FOLDERS, lock, prepare
 from acas_study.description import check_columns, read_study
+from acas_study.rows import counts_of
 from acas_study.texts import set_key, text_of
-from acas_table import Fault, read_model
+from acas_study.trade import Point, draw_trade
+from acas_table import Fault, read_model, read_report, read_risk, read_safeable, read_table
 from acas_table.model import model_of
 from acas_texts.document import document_of
+from test_risk import TEXT as RISK
 
 RUN = TOP / "study" / "run"
 TRADE = EXAMPLES / "trade"
@@ -33,6 +37,10 @@ from = 1
 to = 3
 by = 1
 """
+# Of examples/d.toml: the means over the 24 states under clear, of its upper bounds with the table and its lower ones without.
+RISK_OF_D = {"mean_risk": "0.192516", "mean_risk_clear": "0.216044", "risk_ratio": "0.891094"}
+# And its clear cells, of which 496 of 680 are open.
+CELLS_OF_D = {"safeable": "160", "open": "496", "near": "24", "open_share": "0.7294"}
 
 
 @pytest.fixture
@@ -63,23 +71,80 @@ def test_three_models_of_a_folder(acas, tmp_path):
     ended = run(acas, models, results)
     assert (ended.returncode, ended.stdout) == (0, f"studied 3 models: {results}/study.csv {results}/page.html\n")
     assert ended.stderr == f"study: 3 models; what Snakemake says goes to {results}/snakemake.log\n"
-    assert "14 of 14 steps (100%) done" in (results / "snakemake.log").read_text()
+    assert "20 of 20 steps (100%) done" in (results / "snakemake.log").read_text()
     rows = {row["model"]: row for row in rows_of(results)}
     assert list(rows) == ["b", "c", "d"]
     assert rows["d"] == {
         "model": "d", "layers": "31", "states": "96", "bytes": "51644", "cells": "720", "advised": "40", "lines": "40",
-        "certified": "0", "reported": "40", "clear": "680", "advised_share": "0.0556", "reported_share": "1.0000",
+        "certified": "0", "reported": "40", "clear": "680", "advised_share": "0.0556", "reported_share": "1.0000", **RISK_OF_D, **CELLS_OF_D,
     }
     assert (rows["c"]["cells"], rows["c"]["clear"], rows["c"]["reported_share"]) == ("3", "3", "0.0000")
     page = (results / "page.html").read_text(encoding="utf-8")
-    pictures = ["trade", *(f"{name}-{kind}" for name in "bcd" for kind in ("policy", "verdicts"))]
+    pictures = ["trade", *(f"{name}-{kind}" for name in "bcd" for kind in ("policy", "verdicts", "risk", "safeable"))]
     for picture in pictures:
         assert f'src="pictures/{picture}.png"' in page
         assert (results / "pictures" / f"{picture}.png").read_bytes().startswith(b"\x89PNG")
     assert (results / "checks" / "d.txt").read_text() == "accepted layers 31 states 96\n"
     origin = origin_of((results / "reports" / "d.txt.from").read_text())
     assert (origin.words, origin.code) == (("audit", "models/d.toml", "tables/d.acxt"), 1)
-    assert origin.files == {"model": digest_of(results / "models" / "d.toml"), "table": digest_of(results / "tables" / "d.acxt")}
+    files = {"model": digest_of(results / "models" / "d.toml"), "table": digest_of(results / "tables" / "d.acxt")}
+    assert origin.files == files
+    assert all(origin_of((results / folder / "d.txt.from").read_text()).files == files for folder in ("risks", "safeables"))
+
+
+def test_steps_of_a_model_and_of_the_study(acas, tmp_path, monkeypatch):
+    """What the workflow calls for each model and at the end, in its order, without Snakemake."""
+    models, results = tmp_path / "models", tmp_path / "results"
+    models.mkdir()
+    for name in ("b.toml", "d.toml"):
+        shutil.copy(EXAMPLES / name, models)
+    study = read_study(models)
+    prepare(study, results)
+    assert {path.name for path in results.iterdir()} == {*FOLDERS, "plan.json"}
+    monkeypatch.chdir(results)
+    step = [sys.executable, "-B", TOP / "study" / "step"]
+    for name in ("b", "d"):
+        files = [f"models/{name}.toml", f"tables/{name}.acxt"]
+        acas.output("compile", *map(Path.absolute, map(Path, files)))
+        for verb, folder in (("audit", "reports"), ("risk", "risks"), ("safeable", "safeables")):
+            kept = [sys.executable, "-S", TOP / "python" / "acas_run", "--acas", acas.program, f"{folder}/{name}.txt", verb, *files]
+            assert subprocess.run(kept, check=False).returncode in (0, 1)
+        subprocess.run([*step, "row", name], check=True)
+    subprocess.run([*step, "gather", "two"], check=True)
+    rows = {row["model"]: row for row in rows_of(results)}
+    assert {key: rows["d"][key] for key in RISK_OF_D | CELLS_OF_D} == RISK_OF_D | CELLS_OF_D and rows["b"]["mean_risk"] == "0.500001"
+    assert [rows["b"][key] for key in CELLS_OF_D] == ["0", "2", "2", "0.5000"]
+    page = (results / "page.html").read_text(encoding="utf-8")
+    assert all(f"<th>{column}</th>" in page for column in COUNTED) and f"<td>{RISK_OF_D['risk_ratio']}</td>" in page
+    pictures = [f"pictures/{name}-{kind}.png" for name in "bd" for kind in ("risk", "safeable")]
+    assert all(f'src="{picture}"' in page and Path(picture).is_file() for picture in pictures)
+    os.remove("risks/d.txt.from")
+    said = subprocess.run([*step, "row", "d"], capture_output=True, text=True, check=False)
+    assert (said.returncode, said.stderr) == (1, "study: risks/d.txt: origin is missing: nothing says of which model and table it is\n")
+
+
+def test_means_of_risks(acas):
+    """Of examples/b.toml the eight chances under clear add up to 4: the bounds to 4.000007 and 3.999993."""
+    model = read_model(EXAMPLES / "b.toml")
+    table = read_table(acas.table(EXAMPLES / "b.toml"), model)
+    report = read_report("certified 0 reported 0 clear 4\n")
+    safeable = read_safeable("cell 1 clear 0 0 0 open\ncell 1 level 0 0 0 open\nsafeable 0 open 2 near 2\n")
+
+    def means(text):
+        counts = counts_of(model, table, report, read_risk(text), safeable)
+        return [counts.numbers[COUNTED.index(name)] for name in ("mean_risk", "mean_risk_clear", "risk_ratio")]
+
+    assert means(RISK) == ["0.500001", "0.499999", "1.000004"]
+    nothing = "".join(
+        " ".join([*line.split(" ")[:4], *(f"{name} 0.000000 0.000000" for name in ("risk", "clear", "cost"))]) + "\n"
+        for line in RISK.splitlines()[:-1]
+    )
+    assert means(nothing + "states 16\n") == ["0.000000", "0.000000", "nan"]
+
+
+def test_trade_leaves_out_what_has_no_number():
+    axes = draw_trade([Point("models", "a", 1, float("nan")), Point("models", "b", 2, 0.5)], "bytes", "risk_ratio", "").axes[0]
+    assert [line.get_xdata().tolist() for line in axes.lines] == [[2]] and axes.get_ylabel() == "ratio of the mean chances, at most"
 
 
 def test_killed_run_goes_on(acas, study, tmp_path):
@@ -127,7 +192,7 @@ def test_dry_run_studies_nothing(acas, study, tmp_path):
     """Nothing is said to be there that is not; and once a model is changed, what is there is not said to be of it."""
     results = tmp_path / "results"
     ended = run(acas, study, results, "--dry-run")
-    said = f"not studied: the further words leave out some of 14 steps that are to be done; {results}/snakemake.log has what Snakemake said\n"
+    said = f"not studied: the further words leave out some of 20 steps that are to be done; {results}/snakemake.log has what Snakemake said\n"
     assert (ended.returncode, ended.stdout) == (0, said)
     assert not (results / "study.csv").exists() and not (results / "page.html").exists()
     assert "reports/contact-2.txt" in (results / "snakemake.log").read_text()
