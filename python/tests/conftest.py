@@ -1,4 +1,5 @@
 """What the tests share: the program, and the tables and reports that it makes of the examples."""
+import hashlib
 import subprocess
 import sys
 from dataclasses import dataclass
@@ -34,7 +35,7 @@ class Acas:
 
     def table(self, model: Path) -> Path:
         """The table of a model, compiled where it is not there yet."""
-        table = self.folder / f"{model.stem}.acxt"
+        table = self.folder / f"{model.stem}-{hashlib.sha256(model.read_bytes()).hexdigest()[:16]}.acxt"
         if not table.exists():
             self.output("compile", model, table)
         return table
