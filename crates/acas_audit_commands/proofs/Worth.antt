@@ -32,7 +32,9 @@ use Rattle.acas_command.proofs.Reports.{IsPrinted, report-may_print, report-prin
 use Rattle.acas_command.proofs.Says.{file-says, read-model, says-model}
 use Rattle.acas_table_file.proofs.Files.{read-table, rejects-table, tells-advices}
 use Rattle.acas_audit_commands.specs.Calls.{CallsForAudit, CallsForRegions, IsAuditBegun, IsAuditText, IsRegionsBegun, IsRegionsText, audit_looks_at, regions_looks_at}
-use Rattle.acas_report.proofs.Verdicts.{report-of, verdict, verdicts}
+use Rattle.acas_report.proofs.Verdicts.{verdict, verdicts}
+use Rattle.acas_report_lines.specs.Text.{is_certified}
+use Rattle.acas_report_lines.proofs.Reports.{report-of}
 use Rattle.acas_audit_commands.specs.Worth.{AuditIsWorth, PrintsAudit, PrintsRegions, RegionsIsWorth, RejectsBoxes}
 use Rattle.acas_report.specs.Verdicts.{IsVerdictOnBox}
 
@@ -95,7 +97,7 @@ prints-regions model boxes files cause before after p =
       boxes_text = said m a.boxes_file.bytes p.report.said says.text.within a.boxes_file.is_read;
       counts = p.report.counts;
       text = p.text;
-      report = report-of (IsRulingAt m p.report.said) (IsVerdictOnBox m p.report.said) (places p.report.said) 0 regions_text p.report.counts p.text
+      report = report-of (IsRulingAt m p.report.said) (IsVerdictOnBox m p.report.said) is_certified (places p.report.said) 0 regions_text p.report.counts p.text
           (λ place ruling. verdict m (box_at p.report.said place).advisory (IsInBox (box_at p.report.said place).states) (IsWitnessOfBox m (box_at p.report.said place)) ruling) p.report.report;
       printed = p.printed;
       kept = p.kept;

@@ -16,6 +16,7 @@ use Rattle.acas_cells.specs.Corners.{advisory_cells}
 use Rattle.acas_boxes.specs.Text.{IsBoxesText}
 use Rattle.acas_report_lines.specs.Regions.{places, regions_text}
 use Rattle.acas_report_lines.specs.Report.{IsReportOn, clear_cells, report_text}
+use Rattle.acas_report_lines.specs.Text.{is_certified}
 use Rattle.acas_report.specs.Verdicts.{IsVerdictOnBox, IsVerdictOnCell}
 use Rattle.acas_report_lines.specs.declared.counts.Counts.{Counts}
 use Rattle.acas_report_lines.specs.declared.counts.Which.{Which}
@@ -36,7 +37,7 @@ pub record PrintsAudit (model table : List ℕ) (which : Which) (files : Files) 
   pub advised : TellsAdvices model table files m advices
   pub counts : Counts
   pub text : List ℕ
-  pub report : IsReportOn (IsVerdictOnCell m) (advisory_cells m advices) (clear_cells m advices) (report_text m advices which) counts text
+  pub report : IsReportOn (IsVerdictOnCell m) is_certified (advisory_cells m advices) (clear_cells m advices) (report_text m advices which) counts text
   pub printed : Appends before.written after.written text
   pub kept : after.holds ≡ Some files
   pub reported : cause ≡ report_cause counts.reported
@@ -54,7 +55,7 @@ pub record PrintsRegions (model boxes : List ℕ) (files : Files) (cause : Cause
   pub boxes_text : IsBoxesText m given said
   pub counts : Counts
   pub text : List ℕ
-  pub report : IsReportOn (IsVerdictOnBox m said) (places said) 0 regions_text counts text
+  pub report : IsReportOn (IsVerdictOnBox m said) is_certified (places said) 0 regions_text counts text
   pub printed : Appends before.written after.written text
   pub kept : after.holds ≡ Some files
   pub reported : cause ≡ report_cause counts.reported

@@ -1,2 +1,4 @@
 pub mod Read
 pub mod Pass
+pub mod Faults
+pub mod Fitting

@@ -8,6 +8,7 @@ use Rattle.acas_doc.specs.Keys.{list_at}
 use Rattle.acas_doc.specs.Known.{only_known}
 use Rattle.acas_rulings.specs.Boxes.{AuditedBox}
 use Rattle.acas_input.specs.declared.fault.InputFault.{InputFault}
+use Rattle.acas_input.specs.declared.fault.InputFault.TheVariants.{NotToml, Doc, UnknownName, Window, Rate, Memory}
 use Rattle.acas_input.specs.Document.{document_of, in_doc, version_of}
 use Rattle.acas_boxes.specs.OneBox.{box_item}
 
@@ -28,3 +29,12 @@ unfoldable pub boxes_of : ModelData → List ℕ → Result (List AuditedBox) In
 boxes_of m bytes = do
   doc ← document_of bytes
   boxes_in m doc
+
+-- a fault that boxes can have beside a model: their intruder's rates are no rule of it
+abbrev pub IsOfBoxes : InputFault → Type 0
+IsOfBoxes NotToml = Unit {0}
+IsOfBoxes (Doc f) = Unit {0}
+IsOfBoxes (UnknownName place) = Unit {0}
+IsOfBoxes (Window place) = Unit {0}
+IsOfBoxes (Rate place) = ⊥
+IsOfBoxes Memory = Unit {0}

@@ -1,5 +1,5 @@
 //! The rules of a text of boxes, in their order.
-ghost use Rattle.std.specs.Prelude.{◌≡◌, ◌≤◌, length, map, IfOk};
+ghost use Rattle.std.specs.Prelude.{◌≡◌, ◌≤◌, length, map, IfErr, IfOk};
 ghost use Rattle.std.specs.List.{AllByRecursion};
 ghost use Rattle.toml.specs.View.{table_view};
 ghost use Rattle.acas_model.specs.View.{data_of};
@@ -47,11 +47,12 @@ fn boxes_in(alloc: Global, model: &Model, document: &Table) -> Result<Boxes, Inp
 /// The boxes that a text says, or the first rule that the text fails. The bytes are those of a TOML document with the keys `version`
 /// and `box`. Each table of the list `box` has the keys `advisory`, the name of one of the model's advisories, and `range` in ft,
 /// `closing` in ft/s, `altitude` in ft, `own` and `intruder` in ft/min, each two whole numbers of which the second is at least the
-/// first.
+/// first. It never answers [`Rate`](InputFault::Rate).
 #[tactic(auto, unfolding(crate::specs::Whole::boxes_of))]
 pub fn read_boxes(alloc: Global, model: &Model, bytes: &[u8]) -> Result<Boxes, InputFault>
     ensures value { Gives (λ b. b) result (rules.boxes_of model.now bytes.now) }
     ensures fits { IfOk result (AreBoxesOf model.now) }
+    ensures fault { IfErr result rules.IsOfBoxes }
 {
     let document = document_of(alloc, bytes)?;
     boxes_in(alloc, model, &document)

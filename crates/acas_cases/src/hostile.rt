@@ -133,7 +133,8 @@ taken = 1503
 name = "boxes that never end are too long"
 files = [["c", "model c"], ["x", "text "]]
 endless = "x"
-runs = ["acas regions c x"]
+rows = [["regions c x"], ["manoeuvre c x 480 1500"]]
+runs = ["acas $1"]
 ends = ["9 too long boxes"]
 error = "acas: too long: x\n"
 taken = 1000595
@@ -159,7 +160,7 @@ files = [
   ["e", "text version = 1\nadvisory = \"clear\"\nrange = 500\nclosing = 500\naltitude = 101\nown = 240\nintruder = 0\nown_accel = [-480, 0]\nintruder_accel = [0, 0]\n"],
 ]
 stuck = "write"
-rows = [["values a"], ["compile c t"], ["check c t"], ["migrate c t u"], ["audit c t"], ["regions d x"], ["replay c t e"], ["drill 0"]]
+rows = [["values a"], ["compile c t"], ["check c t"], ["migrate c t u"], ["audit c t"], ["regions d x"], ["manoeuvre d x 480 1500"], ["replay c t e"], ["drill 0"]]
 runs = ["acas $1"]
 ends = ["8 output"]
 error = "acas: output failed\n"
@@ -168,7 +169,7 @@ error = "acas: output failed\n"
 name = "an error output that takes nothing"
 files = [["b", "model b"], ["t", "text t"]]
 stuck = "error"
-rows = [["values", "2 words"], ["values x", "3 absent model"], ["values t", "4 model"], ["check b t", "5 table"], ["regions b t", "6 input"]]
+rows = [["values", "2 words"], ["values x", "3 absent model"], ["values t", "4 model"], ["check b t", "5 table"], ["regions b t", "6 input"], ["manoeuvre b t 480 1500", "6 input"]]
 runs = ["acas $1"]
 ends = ["$2"]
 "##;

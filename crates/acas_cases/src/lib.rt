@@ -83,6 +83,8 @@ mod hostile;
 #[cfg(test)]
 mod judge;
 #[cfg(test)]
+mod manoeuvres;
+#[cfg(test)]
 mod migrations;
 #[cfg(test)]
 mod numbers;

@@ -16,6 +16,8 @@ rows = [
   ["acas audit --reported c t"],
   ["acas audit c --reported"],
   ["acas drill 07"],
+  ["acas manoeuvre a b 480"],
+  ["acas manoeuvre a b 0480 1500"],
   ["acas compile m.toml m.toml"],
   ["acas --help"],
   ["acas --version"],

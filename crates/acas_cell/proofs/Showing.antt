@@ -3,7 +3,7 @@ use Rattle.std.proofs.Common.{◌≡◌, ℕ, ◌*◌, ◌<◌, List, [], ◌∷
 use Rattle.std.specs.List.{All}
 use Rattle.std.proofs.lemmas.List.Elements.{All-cons}
 use Rattle.acas_spec.specs.Model.{ModelData}
-use Rattle.acas_frac.specs.Fraction.{Fraction, IsReduced}
+use Rattle.acas_frac.specs.Fraction.{IsReduced}
 use Rattle.acas_flight.specs.Response.{Segment, demand_of, lasting}
 use Rattle.acas_flight.specs.State.{Box, IsInBox, IsInCell}
 use Rattle.acas_flight.specs.Parts.{finer}
@@ -14,38 +14,18 @@ use Rattle.acas_flight.specs.Values.{IsOver}
 use Rattle.acas_frac.proofs.IntRing.{at, ◌⊗◌, ring}
 use Rattle.acas_flight_laws.proofs.Finer.{lasting_finer}
 use Rattle.acas_flight_laws.proofs.Endangered.{EndsInVerticalContact-finer}
-use Rattle.acas_rulings.specs.Printed.{AreParts, IsPart, a_part, flight_fractions, fractions_of, no_parts, segments_of}
+use Rattle.acas_rulings.specs.Printed.{AreParts, flight_fractions, fractions_of, segments_of}
 use Rattle.acas_rulings.specs.Ranges.{IsBoxesRange, IsCellsRange, IsContactOfBox, IsContactOfCell}
 use Rattle.acas_rulings.specs.Witness.{IsFlightInContact, IsWitnessOf}
 use Rattle.acas_rulings.specs.declared.flight.Witness.{Witness}
-use Rattle.acas_rulings.specs.declared.flight.Segment as part
 use Rattle.acas_rulings.specs.declared.flight.Flight as printed
-use Rattle.acas_witness_plans.proofs.Portions.{finer as finer_over}
+use Rattle.acas_region_curves.proofs.Climbs.{IsOver-finer, over_left, over_right}
+use Rattle.acas_rulings.proofs.Parts.{AreParts-finer}
 use Rattle.acas_rulings.specs.Boxes.{AuditedBox}
 use Rattle.acas_rulings.specs.Rulings.{IsReported, IsWitnessOfBox, IsWitnessOfCell, ShowsDanger}
 use Rattle.acas_cells.specs.declared.name.CellName.{CellName}
 
--- ---- finer numbers
-
-part_finer : (n m : ℕ) (s : Segment) (f : part.Segment) → IsPart n s f → IsPart (n * m) (record { duration = s.duration * m; acceleration = s.acceleration *ℤ pos m }) f
-part_finer n m s f is = record {
-  duration = finer_over f.duration n m (pos s.duration) is.duration;
-  acceleration = finer_over f.acceleration n m s.acceleration is.acceleration;
-}
-
-parts_finer : (n m : ℕ) (segments : List Segment) (parts : List part.Segment) → AreParts n segments parts → AreParts (n * m) (finer m segments) parts
-parts_finer n m _ _ no_parts = no_parts
-parts_finer n m _ _ (a_part s f rest others is more) =
-    a_part (record { duration = s.duration * m; acceleration = s.acceleration *ℤ pos m }) f (finer m rest) others (part_finer n m s f is) (parts_finer n m rest others more)
-
 -- ---- one denominator for the flight, the range and the speed
-
--- a fraction over a multiple of its denominator
-over_left : (q other : ℕ) (f : Fraction) → IsOver (q * (f.den * other)) (f.num *ℤ pos (q * other)) f
-over_left q other f = ring (f.num ∷ pos q ∷ pos f.den ∷ pos other ∷ []) ((at 0 ⊗ (at 1 ⊗ at 3)) ⊗ at 2) (at 0 ⊗ (at 1 ⊗ (at 2 ⊗ at 3))) refl
-
-over_right : (q other : ℕ) (f : Fraction) → IsOver (q * (other * f.den)) (f.num *ℤ pos (q * other)) f
-over_right q other f = ring (f.num ∷ pos q ∷ pos f.den ∷ pos other ∷ []) ((at 0 ⊗ (at 1 ⊗ at 3)) ⊗ at 2) (at 0 ⊗ (at 1 ⊗ (at 3 ⊗ at 2))) refl
 
 -- the flight over a denominator over which the range and the speed are whole too
 record IsFine (m : ModelData) (advisory : ℕ) (area : Area) (times : Times) (w : Witness) : Type 0 where
@@ -85,10 +65,10 @@ fine_from m advisory area times w range speed f =
       range_over = over_left f.q w.speed.den w.range;
       closing_over = over_right f.q w.range.den w.speed;
       altitude_over = rw f.altitude_over (ring (w.flight.h ∷ pos f.q ∷ pos n ∷ []) ((at 0 ⊗ at 1) ⊗ at 2) (at 0 ⊗ (at 1 ⊗ at 2)) refl);
-      own_over = finer_over w.flight.v0 f.q n f.own f.own_over;
-      intruder_over = finer_over w.flight.v1 f.q n f.intruder f.intruder_over;
-      time_over = rw (lasting_finer n f.response) (finer_over w.flight.time f.q n (pos (lasting f.response)) f.time_over);
-      flown = parts_finer f.q n f.response (segments_of w.flight) f.flown;
+      own_over = IsOver-finer w.flight.v0 f.q n f.own f.own_over;
+      intruder_over = IsOver-finer w.flight.v1 f.q n f.intruder f.intruder_over;
+      time_over = rw (lasting_finer n f.response) (IsOver-finer w.flight.time f.q n (pos (lasting f.response)) f.time_over);
+      flown = AreParts-finer f.q n f.response (segments_of w.flight) f.flown;
       contact = finer_contact;
       reduced = All-cons IsReduced w.range (w.speed ∷ flight_fractions w.flight) range (All-cons IsReduced w.speed (flight_fractions w.flight) speed f.reduced);
     }

@@ -9,10 +9,11 @@ use Rattle.acas_command.specs.declared.status.Cause.TheVariants.{Words}
 use Rattle.acas_audit_commands.specs.Calls.{CallsForAudit, CallsForRegions}
 use Rattle.acas_drill.specs.Calls.{CallsForDrill}
 use Rattle.acas_encounter_commands.specs.Calls.{CallsForReplay}
+use Rattle.acas_manoeuvre_commands.specs.Calls.{CallsForManoeuvre}
 use Rattle.acas_risk_commands.specs.Calls.{CallsForRisk}
 use Rattle.acas_safeable_commands.specs.Calls.{CallsForSafeable}
 use Rattle.acas_table_commands.specs.Calls.{CallsForCheck, CallsForCompile, CallsForMigrate, CallsForValues}
-use Rattle.acas_cli_words.specs.Words.{Form, Values, Compile, Check, Risk, Audit, Regions, Safeable, Replay, Migrate, Drill}
+use Rattle.acas_cli_words.specs.Words.{Form, Values, Compile, Check, Risk, Audit, Regions, Manoeuvre, Safeable, Replay, Migrate, Drill}
 
 -- what a form calls for
 abbrev pub CallsFor : Form → Called
@@ -22,6 +23,7 @@ CallsFor (Check model table) = CallsForCheck model table
 CallsFor (Risk model table) = CallsForRisk model table
 CallsFor (Audit model table which) = CallsForAudit model table which
 CallsFor (Regions model boxes) = CallsForRegions model boxes
+CallsFor (Manoeuvre model boxes accel rate) = CallsForManoeuvre model boxes (record { accel = accel; rate = rate })
 CallsFor (Safeable model table) = CallsForSafeable model table
 CallsFor (Replay model table encounter) = CallsForReplay model table encounter
 CallsFor (Migrate model table target) = CallsForMigrate model table target
@@ -40,6 +42,7 @@ AnswersCall (Check model table) cause before after = Answers (CallsForCheck mode
 AnswersCall (Risk model table) cause before after = Answers (CallsForRisk model table) cause before after
 AnswersCall (Audit model table which) cause before after = Answers (CallsForAudit model table which) cause before after
 AnswersCall (Regions model boxes) cause before after = Answers (CallsForRegions model boxes) cause before after
+AnswersCall (Manoeuvre model boxes accel rate) cause before after = Answers (CallsForManoeuvre model boxes (record { accel = accel; rate = rate })) cause before after
 AnswersCall (Safeable model table) cause before after = Answers (CallsForSafeable model table) cause before after
 AnswersCall (Replay model table encounter) cause before after = Answers (CallsForReplay model table encounter) cause before after
 AnswersCall (Migrate model table target) cause before after = Answers (CallsForMigrate model table target) cause before after

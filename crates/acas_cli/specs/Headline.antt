@@ -7,10 +7,11 @@ use Rattle.acas_command.specs.declared.status.Cause.TheVariants.{Words}
 use Rattle.acas_audit_commands.specs.Worth.{AuditIsWorth, RegionsIsWorth}
 use Rattle.acas_drill.specs.Worth.{DrillIsWorth}
 use Rattle.acas_encounter_commands.specs.Worth.{ReplayIsWorth}
+use Rattle.acas_manoeuvre_commands.specs.Worth.{ManoeuvreIsWorth}
 use Rattle.acas_risk_commands.specs.Worth.{RiskIsWorth}
 use Rattle.acas_safeable_commands.specs.Worth.{SafeableIsWorth}
 use Rattle.acas_table_commands.specs.Worth.{CheckIsWorth, CompileIsWorth, MigrateIsWorth, ValuesIsWorth}
-use Rattle.acas_cli_words.specs.Words.{Form, Values, Compile, Check, Risk, Audit, Regions, Safeable, Replay, Migrate, Drill}
+use Rattle.acas_cli_words.specs.Words.{Form, Values, Compile, Check, Risk, Audit, Regions, Manoeuvre, Safeable, Replay, Migrate, Drill}
 
 -- what each form is worth, by the files that the folder held before
 abbrev pub IsWorth : Form → Files → Cause → Outside → Outside → Type 0
@@ -20,6 +21,7 @@ IsWorth (Check model table) files cause before after = CheckIsWorth model table 
 IsWorth (Risk model table) files cause before after = RiskIsWorth model table files cause before after
 IsWorth (Audit model table which) files cause before after = AuditIsWorth model table which files cause before after
 IsWorth (Regions model boxes) files cause before after = RegionsIsWorth model boxes files cause before after
+IsWorth (Manoeuvre model boxes accel rate) files cause before after = ManoeuvreIsWorth model boxes (record { accel = accel; rate = rate }) files cause before after
 IsWorth (Safeable model table) files cause before after = SafeableIsWorth model table files cause before after
 IsWorth (Replay model table encounter) files cause before after = ReplayIsWorth model table encounter files cause before after
 IsWorth (Migrate model table target) files cause before after = MigrateIsWorth model table target files cause before after

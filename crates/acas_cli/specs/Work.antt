@@ -4,7 +4,7 @@ use Rattle.acas_outside.specs.Files.{Files}
 use Rattle.acas_command.specs.declared.status.Cause.{Cause}
 use Rattle.acas_audit_commands.specs.Decisions.{CountsAudit}
 use Rattle.acas_table_commands.specs.Work.{CountsSweep}
-use Rattle.acas_cli_words.specs.Words.{Form, Values, Compile, Check, Risk, Audit, Regions, Safeable, Replay, Migrate, Drill}
+use Rattle.acas_cli_words.specs.Words.{Form, Values, Compile, Check, Risk, Audit, Regions, Manoeuvre, Safeable, Replay, Migrate, Drill}
 use Rattle.acas_cli.specs.declared.work.Work.{Work}
 
 -- there is room for one more run
@@ -38,6 +38,7 @@ CountsFor (Check model table) holds cause old new = new ≡ old
 CountsFor (Risk model table) holds cause old new = new ≡ old
 CountsFor (Audit model table which) holds cause old new = CountsReport model table holds cause old new
 CountsFor (Regions model boxes) holds cause old new = new ≡ old
+CountsFor (Manoeuvre model boxes accel rate) holds cause old new = new ≡ old
 CountsFor (Safeable model table) holds cause old new = new ≡ old
 CountsFor (Replay model table encounter) holds cause old new = new ≡ old
 CountsFor (Migrate model table target) holds cause old new = new ≡ old

@@ -1,7 +1,9 @@
 //! The top call.
-ghost use Rattle.std.specs.Prelude.{◌≡◌, ◌↔◌, ◌≤◌, IsTrue, IfSome, All, None, map, string_bytes};
+ghost use Rattle.std.specs.Prelude.{◌≡◌, ◌↔◌, ◌≤◌, pos, IsTrue, IfSome, All, None, map, string_bytes};
 ghost use Rattle.acas_outside.specs.Frame.{ReadsAndWrites};
 ghost use Rattle.acas_outside.specs.Outside.{outside};
+ghost use Rattle.acas_manoeuvre.specs.Limits.{IsManoeuvre};
+ghost use Rattle.acas_manoeuvre.specs.View.{may_of};
 ghost use Rattle.acas_command.specs.Codes.{code_of};
 ghost use Rattle.acas_command.specs.ErrorLine.{Reports};
 ghost use Rattle.acas_cli.specs.Calls.{AnswersCall, AnswersForm};
@@ -16,6 +18,8 @@ use acas_audit_commands::{audit, regions};
 use acas_cli_words::{Command, command_of};
 use acas_command::{Cause, Status, cause_of, cause_of_report, report, report_memory, report_words};
 use acas_encounter_commands::replay;
+use acas_manoeuvre::Manoeuvre;
+use acas_manoeuvre_commands::manoeuvre;
 use acas_outside::{Folder, Sink};
 use acas_risk_commands::risk;
 use acas_safeable_commands::safeable;
@@ -151,6 +155,15 @@ fn answer<F: Folder, O: Sink>(
         Command::Regions { model, boxes } => cause_of_report(regions(
             alloc, model, boxes, folder, out,
         )),
+        Command::Manoeuvre {
+            model,
+            boxes,
+            accel,
+            rate,
+        } => {
+            let may = manoeuvre_of(*accel, *rate);
+            cause_of_report(manoeuvre(alloc, model, boxes, &may, folder, out))
+        }
         Command::Safeable { model, table } => cause_of_report(safeable(
             alloc, model, table, folder, out,
         )),
@@ -165,5 +178,16 @@ fn answer<F: Folder, O: Sink>(
             target,
         } => cause_of(migrate(alloc, model, table, target, folder, out)),
         Command::Drill { number } => drill(alloc, *number, out).cause,
+    }
+}
+
+// What an intruder may do that words give an acceleration and a rate.
+fn manoeuvre_of(accel: u32, rate: u32) -> Manoeuvre
+    requires { IsManoeuvre (pos accel) (pos rate) }
+    ensures { may_of result ≡ record { accel = accel; rate = rate } }
+{
+    Manoeuvre {
+        accel: i64::from(accel),
+        rate: i64::from(rate),
     }
 }

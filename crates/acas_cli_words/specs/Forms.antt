@@ -1,9 +1,10 @@
 -- The form of a command.
-use Rattle.std.specs.Prelude.{◌≡◌, ◌≤◌, Option, Some, None, ⊤}
+use Rattle.std.specs.Prelude.{◌≡◌, ◌≤◌, pos, Option, Some, None, ⊤}
 use Rattle.acas_units.specs.declared.limits.TheConstants.{GREATEST_DRILL_NUMBER}
-use Rattle.acas_cli_words.specs.Words.{Form, Values, Compile, Check, Risk, Audit, Regions, Safeable, Replay, Migrate, Drill}
+use Rattle.acas_manoeuvre.specs.Limits.{IsManoeuvre}
+use Rattle.acas_cli_words.specs.Words.{Form, Values, Compile, Check, Risk, Audit, Regions, Manoeuvre, Safeable, Replay, Migrate, Drill}
 use Rattle.acas_cli_words.specs.declared.words.Command.{Command}
-use Rattle.acas_cli_words.specs.declared.words.Command.TheVariants.{Values as ValuesCommand, Compile as CompileCommand, Check as CheckCommand, Risk as RiskCommand, Audit as AuditCommand, Regions as RegionsCommand, Safeable as SafeableCommand, Replay as ReplayCommand, Migrate as MigrateCommand, Drill as DrillCommand}
+use Rattle.acas_cli_words.specs.declared.words.Command.TheVariants.{Values as ValuesCommand, Compile as CompileCommand, Check as CheckCommand, Risk as RiskCommand, Audit as AuditCommand, Regions as RegionsCommand, Manoeuvre as ManoeuvreCommand, Safeable as SafeableCommand, Replay as ReplayCommand, Migrate as MigrateCommand, Drill as DrillCommand}
 
 -- a command has the form of its words
 abbrev pub form_of_command : Command → Form
@@ -13,6 +14,7 @@ form_of_command (CheckCommand model table) = Check model.now table.now
 form_of_command (RiskCommand model table) = Risk model.now table.now
 form_of_command (AuditCommand model table which) = Audit model.now table.now which
 form_of_command (RegionsCommand model boxes) = Regions model.now boxes.now
+form_of_command (ManoeuvreCommand model boxes accel rate) = Manoeuvre model.now boxes.now accel rate
 form_of_command (SafeableCommand model table) = Safeable model.now table.now
 form_of_command (ReplayCommand model table encounter) = Replay model.now table.now encounter.now
 form_of_command (MigrateCommand model table target) = Migrate model.now table.now target.now
@@ -23,7 +25,7 @@ abbrev pub HasForm : Option Command → Option Form → Type 0
 HasForm None form = form ≡ None
 HasForm (Some command) form = form ≡ Some (form_of_command command)
 
--- a drill's number is within its limit
+-- what an intruder may do is within its limits, and so is a drill's number
 abbrev pub HasNumber : Form → Type 0
 HasNumber (Values model) = ⊤
 HasNumber (Compile model table) = ⊤
@@ -31,6 +33,7 @@ HasNumber (Check model table) = ⊤
 HasNumber (Risk model table) = ⊤
 HasNumber (Audit model table which) = ⊤
 HasNumber (Regions model boxes) = ⊤
+HasNumber (Manoeuvre model boxes accel rate) = IsManoeuvre (pos accel) (pos rate)
 HasNumber (Safeable model table) = ⊤
 HasNumber (Replay model table encounter) = ⊤
 HasNumber (Migrate model table target) = ⊤

@@ -1,13 +1,13 @@
 //! The forms of words.
 ghost use Rattle.std.specs.Prelude.{◌≡◌, ◌∷◌, [], map, string_bytes};
 ghost use Rattle.acas_cli_words.specs.Forms.{HasForm};
-ghost use Rattle.acas_cli_words.specs.Words.{are_apart, are_file_names, form_of, is_file_name};
+ghost use Rattle.acas_cli_words.specs.Words.{accel_of, are_apart, are_file_names, form_of, is_file_name, rate_of};
 
-use acas_drill_model::drill_number;
+use acas_drill_model::{drill_number, number_within};
 use acas_report_lines::Which;
-use acas_units::FILE_NAME_BYTES;
+use acas_units::{FILE_NAME_BYTES, GREATEST_LIMIT, GREATEST_RATE};
 
-/// A command, with the names of its files, which lines an audit prints, and the number of a drill.
+/// A command, with the names of its files, which lines an audit prints, what an intruder may do, and the number of a drill.
 #[derive(Clone, Copy, Debug)]
 pub enum Command<'w> {
     /// `values M`: print the table of a model.
@@ -39,6 +39,14 @@ pub enum Command<'w> {
     Regions {
         model: &'w str,
         boxes: &'w str,
+    },
+    /// `manoeuvre M B A C`: rule on each box of a file, against an intruder that may change its rate, with an acceleration of up to A
+    /// ft/min per second, from 1 to 2,000, and up to a rate of C ft/min, from 1 to 10,000.
+    Manoeuvre {
+        model: &'w str,
+        boxes: &'w str,
+        accel: u32,
+        rate: u32,
     },
     /// `safeable M T`: whether an advisory keeps each clear cell of a table safe that is given a second later.
     Safeable {
@@ -76,6 +84,15 @@ pub fn command_of(words: &[String]) -> Option<Command<'_>>
                 model.as_str(),
                 table.as_str(),
                 third.as_str(),
+            )
+        }
+        [verb, model, boxes, accel, rate] => {
+            of_five_words(
+                verb.as_str(),
+                model.as_str(),
+                boxes.as_str(),
+                accel.as_str(),
+                rate.as_str(),
             )
         }
         _ => None,
@@ -165,6 +182,43 @@ fn of_four_words<'w>(
     } else {
         None
     }
+}
+
+fn of_five_words<'w>(
+    verb: &str,
+    model: &'w str,
+    boxes: &'w str,
+    accel: &str,
+    rate: &str,
+) -> Option<Command<'w>>
+    ensures { HasForm result (form_of (verb.now ∷ model.now ∷ boxes.now ∷ accel.now ∷ rate.now ∷ [])) }
+{
+    if verb != "manoeuvre" || !are_file_names(model, boxes) {
+        return None;
+    }
+    match (accel_of(accel), rate_of(rate)) {
+        (Some(accel), Some(rate)) => Some(Command::Manoeuvre {
+            model,
+            boxes,
+            accel,
+            rate,
+        }),
+        _ => None,
+    }
+}
+
+// The greatest acceleration of an intruder, by a word.
+fn accel_of(word: &str) -> Option<u32>
+    ensures { result ≡ accel_of word.now }
+{
+    number_within(word, 1, GREATEST_LIMIT)
+}
+
+// The greatest rate of an intruder, by a word.
+fn rate_of(word: &str) -> Option<u32>
+    ensures { result ≡ rate_of word.now }
+{
+    number_within(word, 1, GREATEST_RATE as u32)
 }
 
 fn is_file_name(word: &str) -> bool

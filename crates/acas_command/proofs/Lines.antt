@@ -29,6 +29,7 @@ refused_line input.NotToml words = refl
 refused_line (input.Doc at) words = refl
 refused_line (input.UnknownName place) words = refl
 refused_line (input.Window place) words = refl
+refused_line (input.Rate place) words = refl
 refused_line input.Memory words = refl
 
 pub line_of_its_parts : (cause : Cause) (words : List (List ℕ)) → line_of_parts (line_head cause) (line_subject cause words) (line_tail cause) ≡ error_line cause words

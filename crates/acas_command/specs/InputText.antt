@@ -11,4 +11,5 @@ input_text input.NotToml = codes "not toml"
 input_text (input.Doc at) = codes "key " ++ at.key ++ kind_text at.kind
 input_text (input.UnknownName place) = codes "unknown advisory at " ++ decimal place
 input_text (input.Window place) = codes "window at " ++ decimal place
+input_text (input.Rate place) = codes "rate at " ++ decimal place
 input_text input.Memory = codes "out of memory"

@@ -58,6 +58,7 @@ fn write_input_tail(line: &mut Line, fault: &InputFault)
         InputFault::Doc(at) => write_kind(line, at.kind),
         InputFault::UnknownName { place } => write_numbered(line, "unknown advisory at ", *place),
         InputFault::Window { place } => write_numbered(line, "window at ", *place),
+        InputFault::Rate { place } => write_numbered(line, "rate at ", *place),
         InputFault::Memory => put_text(line, "out of memory"),
     }
 }

@@ -15,6 +15,7 @@ use Rattle.acas_table_text.specs.declared.format.Format.TheVariants.{Layered}
 use Rattle.acas_accept.specs.Accepted.{IsAcceptedTable}
 use Rattle.acas_cells.specs.Corners.{advisory_cells}
 use Rattle.acas_report_lines.specs.Report.{IsReportOn, clear_cells, report_text}
+use Rattle.acas_report_lines.specs.Text.{is_certified}
 use Rattle.acas_report_lines.specs.declared.counts.Counts.{Counts}
 use Rattle.acas_report_lines.specs.declared.counts.Which.TheVariants.{All}
 use Rattle.acas_command.specs.Called.{MayPrint}
@@ -30,7 +31,7 @@ use Rattle.acas_drill.specs.Text.{drill_text}
 -- these are the counts of a report in which each advisory cell of these advices is ruled on
 pub record AreVerdictCounts (m : ModelData) (advices : AdvicesData) (counts : Counts) : Type 0 where
   pub text : List ℕ
-  pub report : IsReportOn (IsVerdictOnCell m) (advisory_cells m advices) (clear_cells m advices) (report_text m advices All) counts text
+  pub report : IsReportOn (IsVerdictOnCell m) is_certified (advisory_cells m advices) (clear_cells m advices) (report_text m advices All) counts text
 
 -- The model of the number is within its limits. It has a table with two-sided and tight bounds, whose text in version 2, behind the
 -- digest of the number's digits, is accepted; and what was printed are the lines with the counts of a report of that table's advices.

@@ -1,10 +1,10 @@
 //! Laws of drills. The functions do nothing: their clauses are the laws.
-ghost use Rattle.std.specs.Prelude.{◌≡◌, ◌↔◌, ◌≤◌, ℕ, List, Some};
+ghost use Rattle.std.specs.Prelude.{◌≡◌, ◌↔◌, ◌<◌, ◌≤◌, ◌^◌, ℕ, List, Some};
 ghost use Rattle.std.specs.Fmt.{decimal};
 ghost use Rattle.acas_spec.specs.Limits.{IsModel};
 ghost use Rattle.acas_spec.specs.Model.{entries};
 ghost use Rattle.acas_drill_model.specs.DrilledModel.{drilled_model};
-ghost use Rattle.acas_drill_model.specs.Word.{drill_number};
+ghost use Rattle.acas_drill_model.specs.Word.{drill_number, number_within};
 
 use acas_units::GREATEST_DRILL_NUMBER;
 
@@ -18,4 +18,12 @@ pub fn drilled_models_are_within_limits()
 pub fn drill_words_are_decimal()
     ensures { (word : List ℕ) (number : ℕ) →
         (drill_number word ≡ Some number) ↔ ((number ≤ GREATEST_DRILL_NUMBER) × (word ≡ decimal number)) }
+{}
+
+/// A word names a number from a least to a greatest one of 32 bits exactly where the number is within them and the word is its decimal
+/// text.
+pub fn number_words_are_decimal()
+    ensures { (least greatest : ℕ) (word : List ℕ) (number : ℕ) → greatest < 2 ^ 32 →
+        ((number_within least greatest word ≡ Some number)
+        ↔ ((least ≤ number) × (number ≤ greatest) × (word ≡ decimal number))) }
 {}

@@ -11,10 +11,11 @@ use Rattle.acas_doc.specs.Keys.{list_at, text_at, whole_at}
 use Rattle.acas_doc.specs.Known.{only_known}
 use Rattle.acas_input.specs.declared.document.TheConstants.{INPUT_VERSION}
 use Rattle.acas_input.specs.declared.fault.InputFault.{InputFault}
-use Rattle.acas_input.specs.declared.fault.InputFault.TheVariants.{NotToml, Doc, UnknownName, Window, Memory}
+use Rattle.acas_input.specs.declared.fault.InputFault.TheVariants.{NotToml, Doc, UnknownName, Window, Rate, Memory}
 use Rattle.acas_input.specs.Answers.{Gives}
 use Rattle.acas_input.specs.Document.{document_of, in_doc, version_of}
-use Rattle.acas_input.specs.Named.{advisory_at, named, or_unknown}
+use Rattle.acas_input.specs.Named.{advisory_at}
+use Rattle.acas_input.proofs.Faults.{AnyFaultIs, advisory_faults, after_faults, all_faults, document_faults, in_doc_faults, next_faults, version_faults}
 use Rattle.acas_encounter.specs.declared.limits.TheConstants.{LEAST_START_RANGE, GREATEST_START_RANGE}
 use Rattle.acas_encounter.specs.Encounter.{EncounterData}
 use Rattle.acas_encounter.specs.Start.{number_at, start_of}
@@ -23,81 +24,42 @@ use Rattle.acas_encounter.specs.Whole.{IsOfEncounter, encounter_in, encounter_of
 
 -- the fault, if there is one, is one that an encounter can have
 abbrev pub AnyFaultIsOfEncounter : {A : Type 0} → Result A InputFault → Type 0
-AnyFaultIsOfEncounter (Ok x) = Unit {0}
-AnyFaultIsOfEncounter (Err f) = IsOfEncounter f
+AnyFaultIsOfEncounter r = AnyFaultIs IsOfEncounter r
 
--- ---- steps
-
-next_faults : {A B : Type 0} (r : Result A InputFault) (f : A → Result B InputFault) → AnyFaultIsOfEncounter r → ((x : A) → AnyFaultIsOfEncounter (f x)) → AnyFaultIsOfEncounter (r >>= f)
-next_faults (Ok x) f first later = later x
-next_faults (Err e) f first later = first
-
-after_faults : {A B : Type 0} (r : Result A InputFault) (s : Result B InputFault) → AnyFaultIsOfEncounter r → AnyFaultIsOfEncounter s → AnyFaultIsOfEncounter (r >> s)
-after_faults (Ok x) s first later = later
-after_faults (Err e) s first later = first
-
-all_faults : {A B : Type 0} (read : List B → A → Result B InputFault) → ((before : List B) (x : A) → AnyFaultIsOfEncounter (read before x)) → (before : List B) (xs : List A) → AnyFaultIsOfEncounter (each read before xs)
-unfolding each
-all_faults read one before [] = tt
-all_faults {A} {B} read one before (x ∷ xs) = next_faults (read before x) (λ y. each read (before ++ y ∷ []) xs) (one before x) (λ y. all_faults read one (before ++ y ∷ []) xs)
-
-in_doc_faults : {A : Type 0} (r : Result A DocFault) → AnyFaultIsOfEncounter (in_doc r)
-in_doc_faults (Ok x) = tt
-in_doc_faults (Err f) = tt
-
--- ---- the rules
-
-or_not_toml_faults : (o : Option Members) → AnyFaultIsOfEncounter (or_fault NotToml o)
-or_not_toml_faults None = tt
-or_not_toml_faults (Some ms) = tt
-
-document_faults : (bytes : List ℕ) → AnyFaultIsOfEncounter (document_of bytes)
-unfolding document_of
-document_faults bytes = or_not_toml_faults (document_in bytes)
-
-or_unknown_faults : (o : Option ℕ) → AnyFaultIsOfEncounter (or_unknown 0 o)
-or_unknown_faults None = refl
-or_unknown_faults (Some a) = tt
-
-advisory_faults : (m : ModelData) (doc : Members) → AnyFaultIsOfEncounter (advisory_at m doc [] 0)
-unfolding advisory_at
-advisory_faults m doc = next_faults (in_doc (text_at doc [] (codes "advisory"))) _ (in_doc_faults _) (λ name. or_unknown_faults (named m name))
+key_faults : {A : Type 0} (r : Result A DocFault) → AnyFaultIsOfEncounter (in_doc r)
+key_faults r = in_doc_faults IsOfEncounter (λ f. tt) r
 
 number_faults : (doc : Members) (key : List ℕ) (least greatest : ℤ) → AnyFaultIsOfEncounter (number_at doc key least greatest)
 unfolding number_at
-number_faults doc key least greatest = in_doc_faults (whole_at doc [] key least greatest)
+number_faults doc key least greatest = key_faults (whole_at doc [] key least greatest)
 
 start_faults : (m : ModelData) (doc : Members) → AnyFaultIsOfEncounter (start_of m doc)
 unfolding start_of
 start_faults m doc =
-    next_faults (advisory_at m doc [] 0) _ (advisory_faults m doc) (λ advisory.
-    next_faults (number_at doc (codes "range") LEAST_START_RANGE GREATEST_START_RANGE) _ (number_faults doc _ _ _) (λ range.
-    next_faults (number_at doc (codes "closing") (pos LEAST_CLOSING) (pos GREATEST_CLOSING)) _ (number_faults doc _ _ _) (λ closing.
-    next_faults (number_at doc (codes "altitude") LEAST_ALTITUDE GREATEST_ALTITUDE) _ (number_faults doc _ _ _) (λ feet.
-    next_faults (number_at doc (codes "own") LEAST_RATE GREATEST_RATE) _ (number_faults doc _ _ _) (λ own.
-    next_faults (number_at doc (codes "intruder") LEAST_RATE GREATEST_RATE) _ (number_faults doc _ _ _) (λ intruder. tt))))))
+    next_faults IsOfEncounter (advisory_at m doc [] 0) _ (advisory_faults IsOfEncounter (λ f. tt) m doc [] 0 refl) (λ advisory.
+    next_faults IsOfEncounter (number_at doc (codes "range") LEAST_START_RANGE GREATEST_START_RANGE) _ (number_faults doc _ _ _) (λ range.
+    next_faults IsOfEncounter (number_at doc (codes "closing") (pos LEAST_CLOSING) (pos GREATEST_CLOSING)) _ (number_faults doc _ _ _) (λ closing.
+    next_faults IsOfEncounter (number_at doc (codes "altitude") LEAST_ALTITUDE GREATEST_ALTITUDE) _ (number_faults doc _ _ _) (λ feet.
+    next_faults IsOfEncounter (number_at doc (codes "own") LEAST_RATE GREATEST_RATE) _ (number_faults doc _ _ _) (λ own.
+    next_faults IsOfEncounter (number_at doc (codes "intruder") LEAST_RATE GREATEST_RATE) _ (number_faults doc _ _ _) (λ intruder. tt))))))
 
 accelerations_faults : (doc : Members) (key : List ℕ) (least greatest : ℕ) → AnyFaultIsOfEncounter (accelerations_at doc key least greatest)
 unfolding accelerations_at acceleration_items acceleration_item
 accelerations_faults doc key least greatest =
-    next_faults (in_doc (list_at doc [] key least greatest)) _ (in_doc_faults _) (λ items. all_faults _ (λ before d. in_doc_faults _) [] items)
-
-version_faults : (doc : Members) → AnyFaultIsOfEncounter (version_of doc)
-unfolding version_of
-version_faults doc = in_doc_faults (whole_at doc [] (codes "version") INPUT_VERSION INPUT_VERSION)
+    next_faults IsOfEncounter (in_doc (list_at doc [] key least greatest)) _ (key_faults _) (λ items. all_faults IsOfEncounter _ (λ before d. key_faults _) [] items)
 
 in_faults : (m : ModelData) (doc : Members) → AnyFaultIsOfEncounter (encounter_in m doc)
 unfolding encounter_in
 in_faults m doc =
-    after_faults (in_doc (only_known [] (codes "version advisory range closing altitude own intruder own_accel intruder_accel") doc)) _ (in_doc_faults _)
-    (after_faults (version_of doc) _ (version_faults doc) (
-    next_faults (start_of m doc) _ (start_faults m doc) (λ start.
-    next_faults (accelerations_at doc (codes "own_accel") LEAST_SECONDS GREATEST_SECONDS) _ (accelerations_faults doc _ _ _) (λ own.
-    next_faults (accelerations_at doc (codes "intruder_accel") (length own) (length own)) _ (accelerations_faults doc _ _ _) (λ intruder. tt)))))
+    after_faults IsOfEncounter (in_doc (only_known [] (codes "version advisory range closing altitude own intruder own_accel intruder_accel") doc)) _ (key_faults _)
+    (after_faults IsOfEncounter (version_of doc) _ (version_faults IsOfEncounter (λ f. tt) doc) (
+    next_faults IsOfEncounter (start_of m doc) _ (start_faults m doc) (λ start.
+    next_faults IsOfEncounter (accelerations_at doc (codes "own_accel") LEAST_SECONDS GREATEST_SECONDS) _ (accelerations_faults doc _ _ _) (λ own.
+    next_faults IsOfEncounter (accelerations_at doc (codes "intruder_accel") (length own) (length own)) _ (accelerations_faults doc _ _ _) (λ intruder. tt)))))
 
 encounter_faults : (m : ModelData) (bytes : List ℕ) → AnyFaultIsOfEncounter (encounter_of m bytes)
 unfolding encounter_of
-encounter_faults m bytes = next_faults (document_of bytes) (encounter_in m) (document_faults bytes) (in_faults m)
+encounter_faults m bytes = next_faults IsOfEncounter (document_of bytes) (encounter_in m) (document_faults IsOfEncounter tt bytes) (in_faults m)
 
 -- a fault that the rules give is one that an encounter can have, and want of memory is one too
 pub fault_is_of_encounter : (m : ModelData) (bytes : List ℕ) (f : InputFault) → (f ≢ Memory → encounter_of m bytes ≡ Err f) → IsOfEncounter f
@@ -105,6 +67,7 @@ fault_is_of_encounter m bytes NotToml gives = tt
 fault_is_of_encounter m bytes (Doc f) gives = tt
 fault_is_of_encounter m bytes (UnknownName place) gives = subst AnyFaultIsOfEncounter (gives (λ e. cc)) (encounter_faults m bytes)
 fault_is_of_encounter m bytes (Window place) gives = subst AnyFaultIsOfEncounter (gives (λ e. cc)) (encounter_faults m bytes)
+fault_is_of_encounter m bytes (Rate place) gives = subst AnyFaultIsOfEncounter (gives (λ e. cc)) (encounter_faults m bytes)
 fault_is_of_encounter m bytes Memory gives = tt
 
 -- the same of what a reader answers

@@ -7,7 +7,7 @@ use Rattle.acas_spec.specs.Model.{ModelData}
 use Rattle.acas_spec.specs.Steps.{◌>>=◌, ◌>>◌}
 use Rattle.acas_doc.specs.Known.{only_known}
 use Rattle.acas_input.specs.declared.fault.InputFault.{InputFault}
-use Rattle.acas_input.specs.declared.fault.InputFault.TheVariants.{NotToml, Doc, UnknownName, Window, Memory}
+use Rattle.acas_input.specs.declared.fault.InputFault.TheVariants.{NotToml, Doc, UnknownName, Window, Rate, Memory}
 use Rattle.acas_input.specs.Document.{document_of, in_doc, version_of}
 use Rattle.acas_encounter.specs.Encounter.{EncounterData}
 use Rattle.acas_encounter.specs.Start.{start_of}
@@ -29,10 +29,11 @@ encounter_of m bytes = do
   doc ← document_of bytes
   encounter_in m doc
 
--- a fault that an encounter can have: its advisory has place 0, and it has no window
+-- a fault that an encounter can have: its advisory has place 0, and it has no window, and no greatest rate
 abbrev pub IsOfEncounter : InputFault → Type 0
 IsOfEncounter NotToml = Unit {0}
 IsOfEncounter (Doc f) = Unit {0}
 IsOfEncounter (UnknownName place) = place ≡ 0
 IsOfEncounter (Window place) = ⊥
+IsOfEncounter (Rate place) = ⊥
 IsOfEncounter Memory = Unit {0}

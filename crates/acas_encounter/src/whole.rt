@@ -44,7 +44,8 @@ fn encounter_in(alloc: Global, model: &Model, document: &Table) -> Result<Encoun
 /// The encounter that a text says, or the first rule that the text fails. The bytes are those of a TOML document with the keys
 /// `version`, `advisory`, the name of the one of the model's advisories that is present at the start, `range` in ft, `closing` in ft/s,
 /// `altitude` in ft, `own` and `intruder` in ft/min, and `own_accel` and `intruder_accel`, two lists of one length with an acceleration
-/// in ft/min per second for each second. It never answers [`Window`](InputFault::Window), and the place of an unknown name is 0.
+/// in ft/min per second for each second. It never answers [`Window`](InputFault::Window) or
+/// [`Rate`](InputFault::Rate), and the place of an unknown name is 0.
 #[tactic(auto, unfolding(crate::specs::Whole::encounter_of))]
 pub fn read_encounter(alloc: Global, model: &Model, bytes: &[u8]) -> Result<Encounter, InputFault>
     ensures value { Gives (λ e. e) result (rules.encounter_of model.now bytes.now) }

@@ -93,32 +93,40 @@ pub cond_none : (t : Bool) (a q : ℕ) → cond t (a * q) 0 ≡ cond t a 0 * q
 cond_none true a q = refl
 cond_none false a q = omega arith
 
+-- the pull and the hold of a curve from v, over q
+module _ (a : Demand) (v : ℤ) (q : ℕ) (p : 0 < q) where
+  low_test : int_lt (v *ℤ pos (q * q)) (a.lo *ℤ pos (q * q)) ≡ int_lt v a.lo
+  low_test = test_scaled v a.lo (q * q) (mul-pos p p)
+
+  pub low_pull-over : low_pull (scaled q a) (v *ℤ pos (q * q)) ≡ low_pull a v * q
+  low_pull-over = ap (λ t. cond t (a.pull * q) (a.limit * q)) low_test ∙ cond_times (int_lt v a.lo) a.pull a.limit q
+
+  pub low_hold-over : low_hold (scaled q a) (v *ℤ pos (q * q)) ≡ low_hold a v * q
+  low_hold-over = ap (λ t. cond t (a.delay * q) 0) low_test ∙ cond_none (int_lt v a.lo) a.delay q
+
+  high_test : int_lt (a.hi *ℤ pos (q * q)) (v *ℤ pos (q * q)) ≡ int_lt a.hi v
+  high_test = test_scaled a.hi v (q * q) (mul-pos p p)
+
+  pub high_pull-over : high_pull (scaled q a) (v *ℤ pos (q * q)) ≡ high_pull a v * q
+  high_pull-over = ap (λ t. cond t (a.pull * q) (a.limit * q)) high_test ∙ cond_times (int_lt a.hi v) a.pull a.limit q
+
+  pub high_hold-over : high_hold (scaled q a) (v *ℤ pos (q * q)) ≡ high_hold a v * q
+  high_hold-over = ap (λ t. cond t (a.delay * q) 0) high_test ∙ cond_none (int_lt a.hi v) a.delay q
+
 module _ (a : Demand) (box : Area) (q : ℕ) (p : 0 < q) where
-  low_test : int_lt (box.own.least *ℤ pos (q * q)) (a.lo *ℤ pos (q * q)) ≡ int_lt box.own.least a.lo
-  low_test = test_scaled box.own.least a.lo (q * q) (mul-pos p p)
-
   pub low_pull-border : low_pull_of q a box ≡ low_pull a box.own.least * q
-  low_pull-border = ap (λ t. cond t (a.pull * q) (a.limit * q)) low_test ∙ cond_times (int_lt box.own.least a.lo) a.pull a.limit q
-
-  low_hold-border : low_hold (scaled q a) (box.own.least *ℤ pos (q * q)) ≡ low_hold a box.own.least * q
-  low_hold-border = ap (λ t. cond t (a.delay * q) 0) low_test ∙ cond_none (int_lt box.own.least a.lo) a.delay q
+  low_pull-border = low_pull-over a box.own.least q p
 
   pub least_gap-border : (t : ℕ) → least_gap q a box t ≡ border_gap (low_border_of a box) q t
   least_gap-border t =
-      ap₂ (λ (b g : ℕ). held (box.own.least *ℤ pos (q * q)) (a.lo *ℤ pos (q * q)) b g t -ℤ (pos b *ℤ vertical_separation q (box.altitude.greatest *ℤ pos q) (box.intruder.greatest *ℤ pos q) t (pos 0))) low_pull-border low_hold-border
-
-  high_test : int_lt (a.hi *ℤ pos (q * q)) (box.own.greatest *ℤ pos (q * q)) ≡ int_lt a.hi box.own.greatest
-  high_test = test_scaled a.hi box.own.greatest (q * q) (mul-pos p p)
+      ap₂ (λ (b g : ℕ). held (box.own.least *ℤ pos (q * q)) (a.lo *ℤ pos (q * q)) b g t -ℤ (pos b *ℤ vertical_separation q (box.altitude.greatest *ℤ pos q) (box.intruder.greatest *ℤ pos q) t (pos 0))) low_pull-border (low_hold-over a box.own.least q p)
 
   pub high_pull-border : high_pull_of q a box ≡ high_pull a box.own.greatest * q
-  high_pull-border = ap (λ t. cond t (a.pull * q) (a.limit * q)) high_test ∙ cond_times (int_lt a.hi box.own.greatest) a.pull a.limit q
-
-  high_hold-border : high_hold (scaled q a) (box.own.greatest *ℤ pos (q * q)) ≡ high_hold a box.own.greatest * q
-  high_hold-border = ap (λ t. cond t (a.delay * q) 0) high_test ∙ cond_none (int_lt a.hi box.own.greatest) a.delay q
+  high_pull-border = high_pull-over a box.own.greatest q p
 
   pub greatest_gap-border : (t : ℕ) → greatest_gap q a box t ≡ neg_ℤ (border_gap (high_border_of a box) q t)
   greatest_gap-border t =
-      ap₂ (λ (b g : ℕ). held (box.own.greatest *ℤ pos (q * q)) (a.hi *ℤ pos (q * q)) b g t -ℤ (pos b *ℤ vertical_separation q (box.altitude.least *ℤ pos q) (box.intruder.least *ℤ pos q) t (pos 0))) high_pull-border high_hold-border
+      ap₂ (λ (b g : ℕ). held (box.own.greatest *ℤ pos (q * q)) (a.hi *ℤ pos (q * q)) b g t -ℤ (pos b *ℤ vertical_separation q (box.altitude.least *ℤ pos q) (box.intruder.least *ℤ pos q) t (pos 0))) high_pull-border (high_hold-over a box.own.greatest q p)
       ∙ turned (high_pull a box.own.greatest * q) (high_hold a box.own.greatest * q)
     where
       line : (c l c' l' : ℤ) → c' ≡ neg_ℤ c → l' ≡ neg_ℤ l → c -ℤ l ≡ neg_ℤ (c' -ℤ l')

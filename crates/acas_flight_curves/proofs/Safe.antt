@@ -20,12 +20,12 @@ use Rattle.acas_flight.specs.Clear.{Area, EndsInVerticalContact, IsEndangeredDur
 pub low_pull-some : (a : Demand) (v : ℤ) → CanBeMet a → 0 < low_pull a v
 low_pull-some a v f = ⊎_elim (λ h. rw (low_pull-below a v h) f.some_pull) (λ h. rw (low_pull-above a v h) (omega (arith, f.some_pull, f.pull_within))) (cases_lt_ℤ v a.lo)
 
--- the least start rate, over q^2, is at most the start rate
-start : (q : ℕ) (s : ℤ) (v : ℤ) → (s *ℤ pos q) ≤ℤ v → (s *ℤ pos (q * q)) ≤ℤ (v *ℤ pos q)
-start q s v h = rw (mul_pos_mul_ℤ s q q) (scaled_le (s *ℤ pos q) v q h)
+-- the least start rate, over q^2, is at most the start rate, and the greatest is at least
+pub least_start : (q : ℕ) (s : ℤ) (v : ℤ) → (s *ℤ pos q) ≤ℤ v → (s *ℤ pos (q * q)) ≤ℤ (v *ℤ pos q)
+least_start q s v h = rw (mul_pos_mul_ℤ s q q) (scaled_le (s *ℤ pos q) v q h)
 
 -- The low curve from the least start rate is under each flight.
-low_bound : (a : Demand) → CanBeMet a → (s v : ℤ) (r : List Segment) → s ≤ℤ v → Meets a v r → lowest a s (lasting r) ≤ℤ (climb v r *ℤ pos (low_pull a s))
+pub low_bound : (a : Demand) → CanBeMet a → (s v : ℤ) (r : List Segment) → s ≤ℤ v → Meets a v r → lowest a s (lasting r) ≤ℤ (climb v r *ℤ pos (low_pull a s))
 low_bound a f s v r h m =
     let own = scaled_le (lowest a v (lasting r)) (climb v r *ℤ pos (low_pull a v)) (low_pull a s) (meets_above a f v r m) in
     let both = le-trans_ℤ (lowest a s (lasting r) *ℤ pos (low_pull a v)) (lowest a v (lasting r) *ℤ pos (low_pull a s)) ((climb v r *ℤ pos (low_pull a v)) *ℤ pos (low_pull a s)) (lowest_rises a s v (lasting r) h) own in
@@ -33,7 +33,7 @@ low_bound a f s v r h m =
     le-from_mul_ℤ (low_pull a v) (lowest a s (lasting r)) (climb v r *ℤ pos (low_pull a s)) (low_pull-some a v f) turned
 
 -- The same of the high curve, turned upside down.
-highest_rises : (a : Demand) (v w : ℤ) (t : ℕ) → v ≤ℤ w → (highest a v t *ℤ pos (high_pull a w)) ≤ℤ (highest a w t *ℤ pos (high_pull a v))
+pub highest_rises : (a : Demand) (v w : ℤ) (t : ℕ) → v ≤ℤ w → (highest a v t *ℤ pos (high_pull a w)) ≤ℤ (highest a w t *ℤ pos (high_pull a v))
 highest_rises a v w t h =
     let low = lowest_rises (turned_demand a) (neg_ℤ w) (neg_ℤ v) t (omega (arith, ints)) in
     let left : lowest (turned_demand a) (neg_ℤ w) t *ℤ pos (low_pull (turned_demand a) (neg_ℤ v)) ≡ neg_ℤ (highest a w t *ℤ pos (high_pull a v)) =
@@ -45,8 +45,8 @@ highest_rises a v w t h =
     turned_pull : (a : Demand) (v : ℤ) → low_pull (turned_demand a) (neg_ℤ v) ≡ high_pull a v
     turned_pull a v = ap (λ t. cond t a.pull a.limit) (turned_test v a.hi)
 
-end : (q : ℕ) (s : ℤ) (v : ℤ) → v ≤ℤ (s *ℤ pos q) → (v *ℤ pos q) ≤ℤ (s *ℤ pos (q * q))
-end q s v h = rw (mul_pos_mul_ℤ s q q) (scaled_le v (s *ℤ pos q) q h)
+pub greatest_start : (q : ℕ) (s : ℤ) (v : ℤ) → v ≤ℤ (s *ℤ pos q) → (v *ℤ pos q) ≤ℤ (s *ℤ pos (q * q))
+greatest_start q s v h = rw (mul_pos_mul_ℤ s q q) (scaled_le v (s *ℤ pos q) q h)
 
 pub high_pull-some : (a : Demand) (v : ℤ) → CanBeMet a → 0 < high_pull a v
 high_pull-some a v f = by (int_lt a.hi v)
@@ -55,7 +55,7 @@ high_pull-some a v f = by (int_lt a.hi v)
     by true = f.some_pull
     by false = omega (arith, f.some_pull, f.pull_within)
 
-high_bound : (a : Demand) → CanBeMet a → (s v : ℤ) (r : List Segment) → v ≤ℤ s → Meets a v r → (climb v r *ℤ pos (high_pull a s)) ≤ℤ highest a s (lasting r)
+pub high_bound : (a : Demand) → CanBeMet a → (s v : ℤ) (r : List Segment) → v ≤ℤ s → Meets a v r → (climb v r *ℤ pos (high_pull a s)) ≤ℤ highest a s (lasting r)
 high_bound a f s v r h m =
     let own = scaled_le (climb v r *ℤ pos (high_pull a v)) (highest a v (lasting r)) (high_pull a s) (meets_under a f v r m) in
     let both = le-trans_ℤ ((climb v r *ℤ pos (high_pull a v)) *ℤ pos (high_pull a s)) (highest a v (lasting r) *ℤ pos (high_pull a s)) (highest a s (lasting r) *ℤ pos (high_pull a v)) own (highest_rises a v s (lasting r) h) in
@@ -105,7 +105,7 @@ module _ (half : ℕ) (a : Demand) (area : Area) (w : Times) (fine : CanBeMet a)
   over : (q : ℕ) (h v x : ℤ) (r : List Segment) → EndsInVerticalContact half a area w q h v x r →
       (pos (low_pull_of q a area) *ℤ pos (half * (q * q * q))) <ℤ least_gap q a area (lasting r) → ⊥
   over q h v x r touch clear =
-      let bound = low_bound (scaled q a) (scaled_can_be_met q a touch.some fine) (area.own.least *ℤ pos (q * q)) (v *ℤ pos q) r (start q area.own.least v touch.own.0) touch.meets in
+      let bound = low_bound (scaled q a) (scaled_can_be_met q a touch.some fine) (area.own.least *ℤ pos (q * q)) (v *ℤ pos q) r (least_start q area.own.least v touch.own.0) touch.meets in
       let top = highest_intruder q h x (lasting r) touch.altitude.1 touch.intruder.1 in
       no_room (low_pull_of q a area) (half * (q * q * q)) (lowest (scaled q a) (area.own.least *ℤ pos (q * q)) (lasting r)) (climb (v *ℤ pos q) r)
       (vertical_separation q (area.altitude.greatest *ℤ pos q) (area.intruder.greatest *ℤ pos q) (lasting r) (pos 0))
@@ -122,7 +122,7 @@ module _ (half : ℕ) (a : Demand) (area : Area) (w : Times) (fine : CanBeMet a)
   under : (q : ℕ) (h v x : ℤ) (r : List Segment) → EndsInVerticalContact half a area w q h v x r →
       greatest_gap q a area (lasting r) <ℤ (pos (high_pull_of q a area) *ℤ neg_ℤ (pos (half * (q * q * q)))) → ⊥
   under q h v x r touch clear =
-      let bound = high_bound (scaled q a) (scaled_can_be_met q a touch.some fine) (area.own.greatest *ℤ pos (q * q)) (v *ℤ pos q) r (end q area.own.greatest v touch.own.1) touch.meets in
+      let bound = high_bound (scaled q a) (scaled_can_be_met q a touch.some fine) (area.own.greatest *ℤ pos (q * q)) (v *ℤ pos q) r (greatest_start q area.own.greatest v touch.own.1) touch.meets in
       let bottom = lowest_intruder q h x (lasting r) touch.altitude.0 touch.intruder.0 in
       no_room_under (high_pull_of q a area) (half * (q * q * q)) (highest (scaled q a) (area.own.greatest *ℤ pos (q * q)) (lasting r)) (climb (v *ℤ pos q) r)
       (vertical_separation q (area.altitude.least *ℤ pos q) (area.intruder.least *ℤ pos q) (lasting r) (pos 0))

@@ -23,10 +23,10 @@ abbrev pub lasting_for : ℕ → Flight
 lasting_for time = flight time (pos 0) (pos 0) (pos 0) (pos 0) 1 0
 
 -- from 500 ticks below the intruder to 300, and from there to its altitude, by 100 ticks a step
-abbrev pub far_below : Pass
+abbrev pub far_below : Pass Flight
 far_below = moving_down at_start (pos 500) (pos 300) 100
 
-abbrev pub up_to_it : Pass
+abbrev pub up_to_it : Pass Flight
 up_to_it = moving_down at_start (pos 300) (pos 0) 100
 
 -- the points 0 and 2 alone are below
@@ -34,7 +34,7 @@ abbrev pub first_or_third : ℕ → Bool
 first_or_third i = nat_eq i 0 || nat_eq i 2
 
 -- a pass of a way and a step
-abbrev pub stepping : ℕ → ℕ → Pass
+abbrev pub stepping : ℕ → ℕ → Pass Flight
 stepping way step = record { point = lasting_for; way = way; step = step }
 
 -- the area is searched from 1/2 s to 7/3 s

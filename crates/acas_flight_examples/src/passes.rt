@@ -77,7 +77,7 @@ pub fn passes_have_last_flights()
 /// Flights of no time from 300 ticks below to none, by 100, of which those of 300 and 200 are below the puck: the search ends at 100.
 /// A pass from 500 to 300, whose last flight is below, is passed over.
 pub fn passes_end_at_the_first_flight()
-    ensures one { EndsAt 120 1 (up_to_it ∷ []) (at_start (pos 100)) }
-    ensures two { EndsAt 120 1 (far_below ∷ up_to_it ∷ []) (at_start (pos 100)) }
-    ensures below { (c : Flight) → EndsAt 120 1 (far_below ∷ []) c → ⊥ }
+    ensures one { EndsAt (value 1) 120 (up_to_it ∷ []) (at_start (pos 100)) }
+    ensures two { EndsAt (value 1) 120 (far_below ∷ up_to_it ∷ []) (at_start (pos 100)) }
+    ensures below { (c : Flight) → EndsAt (value 1) 120 (far_below ∷ []) c → ⊥ }
 {}

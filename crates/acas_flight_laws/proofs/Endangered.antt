@@ -14,7 +14,7 @@ use Rattle.acas_flight.specs.Clear.{Area, area_of_cell, area_of_box, EndsInVerti
 
 -- ---- a flight in finer numbers ends where it ends
 
-IsInside-finer : (q m : ℕ) (s : Interval) (n : ℤ) → IsInside q s n → IsInside (q * m) s (n *ℤ pos m)
+pub IsInside-finer : (q m : ℕ) (s : Interval) (n : ℤ) → IsInside q s n → IsInside (q * m) s (n *ℤ pos m)
 IsInside-finer q m s n i = (
   rw (mul_pos_mul_ℤ s.least q m) (scaled_le (s.least *ℤ pos q) n m i.0),
   rw (mul_pos_mul_ℤ s.greatest q m) (scaled_le n (s.greatest *ℤ pos q) m i.1),
@@ -29,7 +29,7 @@ IsDuring-finer q m w t d = (
     moved : (t d m : ℕ) → pos ((t * m) * d) ≡ pos (t * d) *ℤ pos m
     moved t d m = ring (pos t ∷ pos d ∷ pos m ∷ []) ((at 0 ⊗ at 2) ⊗ at 1) ((at 0 ⊗ at 1) ⊗ at 2) refl
 
-scaled-finer : (q m : ℕ) (a : Demand) → scaled m (scaled q a) ≡ scaled (q * m) a
+pub scaled-finer : (q m : ℕ) (a : Demand) → scaled m (scaled q a) ≡ scaled (q * m) a
 scaled-finer q m a = same (rate a.lo) (rate a.hi) (natural a.pull) (natural a.limit) (natural a.delay)
   where
     rate : (z : ℤ) → (z *ℤ pos (q * q)) *ℤ pos (m * m) ≡ z *ℤ pos ((q * m) * (q * m))
@@ -57,6 +57,10 @@ IsVerticalContact-finer half q m h x t z c =
         ((((at 0 ⊗ (at 3 ⊗ at 3)) ⊕ (((num (pos 2) ⊗ at 1) ⊗ at 5) ⊗ at 3)) ⊖ at 2) ⊗ ((at 4 ⊗ at 4) ⊗ at 4))
         refl
 
+-- a start rate in finer numbers
+pub start-finer : (q m : ℕ) (v : ℤ) → (v *ℤ pos m) *ℤ pos (q * m) ≡ (v *ℤ pos q) *ℤ pos (m * m)
+start-finer q m v = ring (v ∷ pos q ∷ pos m ∷ []) ((at 0 ⊗ at 2) ⊗ (at 1 ⊗ at 2)) ((at 0 ⊗ at 1) ⊗ (at 2 ⊗ at 2)) refl
+
 pub EndsInVerticalContact-finer : (half : ℕ) (a : Demand) (area : Area) (w : Times) (q m : ℕ) (h v x : ℤ) (r : List Segment) → 0 < m →
     EndsInVerticalContact half a area w q h v x r → EndsInVerticalContact half a area w (q * m) (h *ℤ pos m) (v *ℤ pos m) (x *ℤ pos m) (finer m r)
 EndsInVerticalContact-finer half a area w q m h v x r p f = record {
@@ -65,12 +69,9 @@ EndsInVerticalContact-finer half a area w q m h v x r p f = record {
   own = IsInside-finer q m area.own v f.own;
   intruder = IsInside-finer q m area.intruder x f.intruder;
   time = rw (lasting_finer m r) (IsDuring-finer q m w (lasting r) f.time);
-  meets = rw (start, ← scaled-finer q m a) (finer_meet m (scaled q a) (v *ℤ pos q) r p f.meets);
-  contact = rw (lasting_finer m r, start, climb_finer m (v *ℤ pos q) r) (IsVerticalContact-finer half q m h x (lasting r) (climb (v *ℤ pos q) r) f.contact);
+  meets = rw (start-finer q m v, ← scaled-finer q m a) (finer_meet m (scaled q a) (v *ℤ pos q) r p f.meets);
+  contact = rw (lasting_finer m r, start-finer q m v, climb_finer m (v *ℤ pos q) r) (IsVerticalContact-finer half q m h x (lasting r) (climb (v *ℤ pos q) r) f.contact);
 }
-  where
-    start : (v *ℤ pos m) *ℤ pos (q * m) ≡ (v *ℤ pos q) *ℤ pos (m * m)
-    start = ring (v ∷ pos q ∷ pos m ∷ []) ((at 0 ⊗ at 2) ⊗ (at 1 ⊗ at 2)) ((at 0 ⊗ at 1) ⊗ (at 2 ⊗ at 2)) refl
 
 -- ---- cells
 

@@ -15,7 +15,7 @@ use Rattle.acas_flight_curves.proofs.Gaps.{neg-le_ℤ}
 use Rattle.acas_flight_laws.proofs.Endangered.{IsDuring-finer}
 
 -- the first of the window's times at which a number is least
-record IsFirstLeast (gap : ℕ → ℕ → ℤ) (w : Times) (time : Fraction) : Type 0 where
+pub record IsFirstLeast (gap : ℕ → ℕ → ℤ) (w : Times) (time : Fraction) : Type 0 where
   pub reduced : IsReduced time
   pub ahead : pos 0 ≤ℤ time.num
   pub after : IsAtMost w.from time
@@ -38,17 +38,17 @@ high_first a area w time l = record {
 
 -- ---- a time over a multiple of its denominator
 
-natural : {P : Type 0} (z : ℤ) → pos 0 ≤ℤ z → ((n : ℕ) → z ≡ pos n → P) → P
+pub natural : {P : Type 0} (z : ℤ) → pos 0 ≤ℤ z → ((n : ℕ) → z ≡ pos n → P) → P
 natural z h f = by_above (pos 0) z h (λ n e. f n (e ∙ plain n))
   where
     plain : (n : ℕ) → pos 0 +ℤ pos n ≡ pos n
     plain n = omega (arith, ints)
 
-over_times : (k n : ℕ) (time : Fraction) → time.num ≡ pos n → IsOver (time.den * k) (pos (n * k)) time
+pub over_times : (k n : ℕ) (time : Fraction) → time.num ≡ pos n → IsOver (time.den * k) (pos (n * k)) time
 over_times k n time e = rw e (ring (pos k ∷ pos n ∷ pos time.den ∷ []) ((at 1 ⊗ at 0) ⊗ at 2) (at 1 ⊗ (at 2 ⊗ at 0)) refl)
 
 -- a time from the window's start to its end is during it
-during_ends : (n : ℕ) (time : Fraction) (w : Times) → time.num ≡ pos n → IsAtMost w.from time → IsAtMost time w.to → IsDuring time.den w n
+pub during_ends : (n : ℕ) (time : Fraction) (w : Times) → time.num ≡ pos n → IsAtMost w.from time → IsAtMost time w.to → IsDuring time.den w n
 during_ends n time w e after before = (rw e at after, rw e at before)
 
 -- ---- two of them are one
@@ -68,7 +68,7 @@ same_place gap w s t q m n p f g es et ds dt =
     no : (a b : ℤ) → a ≤ℤ b → b <ℤ a → ⊥
     no a b h k = omega (arith, ints)
 
-first_least-same : (gap : ℕ → ℕ → ℤ) (w : Times) (s t : Fraction) → IsFirstLeast gap w s → IsFirstLeast gap w t → s ≡ t
+pub first_least-same : (gap : ℕ → ℕ → ℤ) (w : Times) (s t : Fraction) → IsFirstLeast gap w s → IsFirstLeast gap w t → s ≡ t
 first_least-same gap w s t f g = natural s.num f.ahead (λ m em. natural t.num g.ahead (λ n en. by m n em en))
   where
     by : (m n : ℕ) → s.num ≡ pos m → t.num ≡ pos n → s ≡ t

@@ -13,10 +13,10 @@ up_lt a b n h = lt-from_mul_ℤ n a b (rw (*ℤ_comm (pos n) a, *ℤ_comm (pos n
 up_le : (a b : ℤ) (n : ℕ) → 0 < n → (a *ℤ pos n) ≤ℤ (b *ℤ pos n) → a ≤ℤ b
 up_le a b n p h = le-from_mul_ℤ n a b p (rw (*ℤ_comm (pos n) a, *ℤ_comm (pos n) b) h)
 
-abbrev finer_segment : ℕ → Segment → Segment
+abbrev pub finer_segment : ℕ → Segment → Segment
 finer_segment m s = record { duration = s.duration * m; acceleration = s.acceleration *ℤ pos m }
 
-rate_finer : (m : ℕ) (v : ℤ) (s : Segment) → rate_after (v *ℤ pos (m * m)) (finer_segment m s) ≡ rate_after v s *ℤ pos (m * m)
+pub rate_finer : (m : ℕ) (v : ℤ) (s : Segment) → rate_after (v *ℤ pos (m * m)) (finer_segment m s) ≡ rate_after v s *ℤ pos (m * m)
 rate_finer m v s =
     ring (v ∷ s.acceleration ∷ pos s.duration ∷ pos m ∷ []) ((at 0 ⊗ (at 3 ⊗ at 3)) ⊕ ((at 1 ⊗ at 3) ⊗ (at 2 ⊗ at 3))) ((at 0 ⊕ (at 1 ⊗ at 2)) ⊗ (at 3 ⊗ at 3)) refl
 

@@ -18,6 +18,8 @@ pub enum InputFault {
     UnknownName { place: u32 },
     /// The greatest range and the radius take more than `WINDOW_SECONDS` at the least closing speed.
     Window { place: u32 },
+    /// The intruder's rates are more than it may have.
+    Rate { place: u32 },
     /// There is no memory left.
     Memory,
 }

@@ -1,69 +1,46 @@
--- Each search that can meet finds a flight, and each flight has a response.
-use Rattle.std.proofs.Common.{◌≡◌, ℕ, zero, suc, ◌+◌, ◌-◌, ◌*◌, ◌/◌, ◌<◌, ◌≤◌, inl, inr, ◌⊎◌, refl, ap, ◌∙◌, arith, Bool, false, List, [], ◌∷◌, ◌++◌, ℤ, pos, neg_ℤ, ◌-ℤ◌, ◌*ℤ◌, unsigned_abs, min, mul-pos}
+-- Each search that can meet finds a flight, which is from the area and ends in contact; and each flight has a response.
+use Rattle.std.proofs.Common.{◌≡◌, ℕ, zero, suc, ◌-◌, ◌*◌, ◌<◌, ◌≤◌, inl, inr, refl, ap, ◌∙◌, arith, false, List, [], ◌∷◌, ◌++◌, ℤ, pos, neg_ℤ, ◌-ℤ◌, ◌*ℤ◌, ◌≤ℤ◌, unsigned_abs, min, mul-pos}
 use Rattle.std.proofs.lemmas.Int.{ints}
-use Rattle.std.proofs.lemmas.Bool.{cases_lt, cases_Bool}
-use Rattle.std.proofs.Math.Nat.{div-mul-le_self, lt-div-mul-add}
-use Rattle.acas_frac.specs.Fraction.{Fraction}
+use Rattle.std.proofs.lemmas.Bool.{cases_lt}
 use Rattle.acas_flight.proofs.Between.{test_ge}
-use Rattle.acas_frac.proofs.Orders.{cases_lt_ℤ}
+use Rattle.acas_flight_curves.proofs.Rising.{scaled_le}
 use Rattle.acas_flight.specs.Response.{Segment}
 use Rattle.acas_flight.specs.Window.{Times}
-use Rattle.acas_flight.specs.Clear.{IsEndangeredDuring}
+use Rattle.acas_flight.specs.Clear.{EndsInVerticalContact, IsEndangeredDuring}
 use Rattle.acas_passes.specs.Value.{is_below, IsWithinHalf, thinnest}
-use Rattle.acas_passes.specs.Halving.{HalvesTo, ends, raises, lowers}
 use Rattle.acas_passes.specs.Flights.{Flight, value}
-use Rattle.acas_passes.specs.Passes.{Pass, IsLast, EndsAt, here, later, below_at, Each}
-use Rattle.acas_passes.specs.Search.{Search, IsSearch, IsTimed, CanMeet, IsFound, at_low, at_high, between, grain, unit, passes, own_pass, low_flight, high_flight}
-use Rattle.acas_passes.specs.Responses.{segment, IsHoldFor, not_held, held_for, IsApproachFor, at_once, at_aim, before, past, IsResponse, scale, fine, acceleration}
-use Rattle.acas_pass_laws.proofs.Joins.{own-end}
-use Rattle.acas_pass_laws.proofs.Ends.{found-contact}
+use Rattle.acas_passes.specs.Passes.{IsLast, below_at, Each}
+use Rattle.acas_passes.specs.Search.{Search, IsSearch, IsTimed, CanMeet, IsFound, grain, unit, over_square, passes, own_pass, low_flight, high_flight}
+use Rattle.acas_passes.specs.Responses.{segment, IsHoldFor, not_held, held_for, IsApproachFor, at_once, at_aim, before, past, IsFlightFrom, IsResponse, scale, fine, acceleration}
+use Rattle.acas_pass_laws.proofs.Neighbours.{unit_some}
+use Rattle.acas_pass_laws.proofs.Gentle.{each_gentle}
+use Rattle.acas_pass_laws.proofs.Joins.{joined, own-end, time-start}
+use Rattle.acas_pass_laws.proofs.Within.{each_from, of_low, of_from}
+use Rattle.acas_pass_laws.proofs.Somes.{some_of, each_some}
+use Rattle.acas_pass_laws.proofs.Touching.{touches}
+use Rattle.acas_pass_laws.proofs.Ends.{below_or_not, found, found_of}
 
--- ---- the last point of a pass, and the end of a halving
+-- ---- the flight that is found is from the area and in contact
 
-reached : (way step n : ℕ) → 0 < step → n * step ≤ way + (step - 1) → way + (step - 1) < n * step + step → (way ≤ n * step) × (n * step < way + step)
-reached way step n s h k = (omega arith, omega arith)
+module _ (half : ℕ) (s : Search) (w : Times) (thick : thinnest ≤ 2 * half) (is : IsSearch s) (timed : IsTimed s w) (can : CanMeet half s) where
+  own_top : (over_square s s.area.own.least ≤ℤ over_square s s.area.own.greatest) × (over_square s s.area.own.greatest ≤ℤ over_square s s.area.own.greatest)
+  own_top = (scaled_le s.area.own.least s.area.own.greatest (unit s * unit s) is.own.ordered, omega (arith, ints))
 
-last_of : (p : Pass) → 0 < p.step → (last : ℕ) × IsLast p last
-last_of p s =
-    let n = (p.way + (p.step - 1)) / p.step in
-    let both = reached p.way p.step n s (div-mul-le_self (p.way + (p.step - 1)) p.step) (lt-div-mul-add {a = p.way + (p.step - 1)} {b = p.step} s) in
-    (n, record { reaches = both.0; first = both.1 })
+  pub found_flight : (c : Flight) → IsFound half s c → IsFlightFrom s.demand s.area w (unit s) c × IsWithinHalf half (value (unit s) c)
+  found_flight = found_of (value (unit s)) (IsFlightFrom s.demand s.area w (unit s)) half (low_flight s) (high_flight s) (passes s) thick
+      (of_low s is w timed) (of_from s is w timed (over_square s s.area.own.greatest) own_top) (each_from s is w timed)
+      (each_gentle s is) (each_some s is) (joined s is)
+      (λ n. ap (λ x. is_below half (value (unit s) x)) (time-start s) ∙ below_or_not half (value (unit s) (low_flight s)) can.low n)
 
--- it ends after at most so many steps as there is room
-halving : (below : ℕ → Bool) (room low high : ℕ) → high ≤ low + 1 + room → (end : ℕ) × HalvesTo below low high end
-halving below zero low high h = (high, ends low high (omega arith))
-halving below (suc room) low high h = elim (cases_lt (low + 1) high) [
-  | inl far ↦ elim (cases_Bool (below ((low + high) / 2))) [
-    | inl t ↦ let e = halving below room ((low + high) / 2) high (omega arith) in (e.0, raises low high e.0 far t e.1)
-    | inr t ↦ let e = halving below room low ((low + high) / 2) (omega arith) in (e.0, lowers low high e.0 far t e.1)
-  ]
-  | inr near ↦ (high, ends low high near)
-]
+pub found-contact : (half : ℕ) (s : Search) (w : Times) (c : Flight) (hold rest : List Segment) → thinnest ≤ 2 * half → IsSearch s → IsTimed s w → CanMeet half s → IsFound half s c → IsResponse (unit s) c hold rest →
+    EndsInVerticalContact half s.demand s.area w (fine (unit s) c) (c.altitude *ℤ pos (fine (unit s) c)) (c.own *ℤ pos c.pull) (c.intruder *ℤ pos c.pull) (hold ++ rest)
+found-contact half s w c h r thick is timed can f i =
+    let of = found_flight half s w thick is timed can c f in
+    touches half s.demand s.area w (unit s) c (unit_some s is) (some_of s is w c of.0).0 of.0 h r i of.1
 
--- ---- the first pass whose last flight is not below
+-- ---- there is one
 
--- the last flight of the last pass is not
-abbrev EndsNotBelow : ℕ → ℕ → List Pass → Type 0
-EndsNotBelow half q [] = ⊥
-EndsNotBelow half q (p ∷ []) = (last : ℕ) → IsLast p last → below_at half q p last ≡ false
-EndsNotBelow half q (p ∷ p' ∷ rest) = EndsNotBelow half q (p' ∷ rest)
-
-end_here : (half q : ℕ) (p : Pass) (rest : List Pass) (last : ℕ) → IsLast p last → below_at half q p last ≡ false → (c : Flight) × EndsAt half q (p ∷ rest) c
-end_here half q p rest last l t =
-    let end = halving (below_at half q p) last 0 last (omega arith) in
-    (p.point end.0, here p rest last end.0 l t end.1)
-
-end_of : (half q : ℕ) (ps : List Pass) → Each (λ p. 0 < p.step) ps → EndsNotBelow half q ps → (c : Flight) × EndsAt half q ps c
-end_of half q [] steps e = absurd e
-end_of half q (p ∷ []) steps e = let last = last_of p steps.0 in end_here half q p [] last.0 last.1 (e last.0 last.1)
-end_of half q (p ∷ p' ∷ rest) steps e =
-    let last = last_of p steps.0 in
-    elim (cases_Bool (below_at half q p last.0)) [
-      | inl t ↦ let more = end_of half q (p' ∷ rest) steps.1 e in (more.0, later p (p' ∷ rest) last.0 more.0 last.1 t more.1)
-      | inr t ↦ end_here half q p (p' ∷ rest) last.0 last.1 t
-    ]
-
-steps_some : (s : Search) → IsSearch s → Each (λ p. 0 < p.step) (passes s)
+pub steps_some : (s : Search) → IsSearch s → Each (λ p. 0 < p.step) (passes s)
 steps_some s is = (time, (omega arith, (rate, (rate, (grains, (time, (rate, tt)))))))
   where
     grains : 0 < grain s
@@ -75,27 +52,10 @@ steps_some s is = (time, (omega arith, (rate, (rate, (grains, (time, (rate, tt))
     rate : 0 < 524288 * (grain s * grain s)
     rate = mul-pos (omega arith) (mul-pos grains grains)
 
--- ---- the flight
-
-within_or_not : (half : ℕ) (f : Fraction) → IsWithinHalf half f ⊎ (IsWithinHalf half f → ⊥)
-within_or_not half f = elim (cases_lt_ℤ f.num (neg_ℤ (pos (half * f.den)))) [
-  | inl under ↦ inr (λ w. omega (arith, ints, under, w.not_below))
-  | inr low ↦ elim (cases_lt_ℤ (pos (half * f.den)) f.num) [
-    | inl over ↦ inr (λ w. omega (arith, ints, over, w.not_above))
-    | inr high ↦ inl (record { not_below = low; not_above = high })
-  ]
-]
-
-pub found : (half : ℕ) (s : Search) → IsSearch s → CanMeet half s → (c : Flight) × IsFound half s c
-found half s is can = elim (within_or_not half (value (unit s) (low_flight s))) [
-  | inl at ↦ (low_flight s, at_low at)
-  | inr not_low ↦ elim (within_or_not half (value (unit s) (high_flight s))) [
-    | inl at ↦ (high_flight s, at_high not_low at)
-    | inr not_high ↦ let end = end_of half (unit s) (passes s) (steps_some s is) at_end in (end.0, between end.0 not_low not_high end.1)
-  ]
-]
+pub finds : (half : ℕ) (s : Search) → IsSearch s → CanMeet half s → (c : Flight) × IsFound half s c
+finds half s is can = found (value (unit s)) half (low_flight s) (high_flight s) (passes s) (steps_some s is) at_end
   where
-    at_end : (last : ℕ) → IsLast (own_pass s) last → below_at half (unit s) (own_pass s) last ≡ false
+    at_end : (last : ℕ) → IsLast (own_pass s) last → below_at (value (unit s)) half (own_pass s) last ≡ false
     at_end last l = ap (λ c. is_below half (value (unit s) c)) (own-end s is last l)
         ∙ test_ge (value (unit s) (high_flight s)).num (neg_ℤ (pos (half * (value (unit s) (high_flight s)).den))) can.high
 
@@ -123,7 +83,7 @@ response q c =
 
 pub endangers : (half : ℕ) (s : Search) (w : Times) → thinnest ≤ 2 * half → IsSearch s → IsTimed s w → CanMeet half s → IsEndangeredDuring half s.demand s.area w
 endangers half s w thick is timed can =
-    let f = found half s is can in
+    let f = finds half s is can in
     let c = f.0 in
     let r = response (unit s) c in (
       fine (unit s) c,

@@ -21,7 +21,7 @@ module _ (s : Search) (is : IsSearch s) where
   high_pull_some : (v : ℤ) → 0 < pull_at_high s v
   high_pull_some v = (high_pull_within (scaled (unit s) s.demand) v (pull_some s is) (pull_most s is)).2
 
-  pub time_gentle : IsGentle (unit s) (time_pass s)
+  pub time_gentle : IsGentle (value (unit s)) (time_pass s)
   time_gentle i = rw (next i (time_step s)) (⊎_elim
       (λ l. toward_up (low_time s) (high_time s) (i * (time_step s)) (time_step s) (omega arith) (λ d h e. rw e
       (later (unit s) s.area.altitude.greatest (over_square s s.area.own.least) (over_square s s.area.intruder.greatest) (over_square s s.demand.lo) (pull_at_low s) (hold_at_low s) (toward (low_time s) (high_time s) (i * (time_step s))) d
@@ -31,11 +31,11 @@ module _ (s : Search) (is : IsSearch s) where
       (unit_some s is) low_pull_some (room_of_time s is d h) (slowest_size s is) (least_size s is) (size_over s.area.intruder.greatest fastest (unit s * unit s) is.intruder.greatest))))
       (cases_lt (low_time s) (high_time s)))
 
-  pub altitude_gentle : IsGentle (unit s) (altitude_pass s)
+  pub altitude_gentle : IsGentle (value (unit s)) (altitude_pass s)
   altitude_gentle i = rw (next i 1) (falling_next s.area.altitude.greatest s.area.altitude.least (i * 1) 1 (λ d h e. rw e
       (lower (unit s) (falling s.area.altitude.greatest s.area.altitude.least (i * 1)) (over_square s s.area.own.least) (over_square s s.area.intruder.greatest) (over_square s s.demand.lo) (pull_at_low s) (hold_at_low s) (high_time s) d (unit_some s is) low_pull_some h)))
 
-  pub intruder_gentle : IsGentle (unit s) (intruder_pass s)
+  pub intruder_gentle : IsGentle (value (unit s)) (intruder_pass s)
   intruder_gentle i = rw (next i (rate_step s)) (falling_next (over_square s s.area.intruder.greatest) (over_square s s.area.intruder.least) (i * rate_step s) (rate_step s) (λ d h e. rw e
       (slower_intruder (unit s) s.area.altitude.least (over_square s s.area.own.least) (falling (over_square s s.area.intruder.greatest) (over_square s s.area.intruder.least) (i * rate_step s)) (over_square s s.demand.lo) (pull_at_low s) (hold_at_low s) (high_time s) d
       (unit_some s is) low_pull_some (room_of_rate s is d h) (high_time_most s is))))
@@ -47,7 +47,7 @@ module _ (s : Search) (is : IsSearch s) where
       (λ l. inr (low_hold-above (scaled (unit s) s.demand) (over_square s s.area.own.least) l))
       (cases_lt_ℤ (over_square s s.area.own.least) (over_square s s.demand.lo))
 
-  pub aim_gentle : IsGentle (unit s) (aim_pass s)
+  pub aim_gentle : IsGentle (value (unit s)) (aim_pass s)
   aim_gentle i = rw (next i (rate_step s)) (rising_next (over_square s s.demand.lo) (over_square s s.demand.hi) (i * rate_step s) (rate_step s) (λ d h e. rw e
       (higher_aim (unit s) s.area.altitude.least (over_square s s.area.own.least) (over_square s s.area.intruder.least) (rising (over_square s s.demand.lo) (over_square s s.demand.hi) (i * rate_step s)) (pull_at_low s) (hold_at_low s) (high_time s) d
       (unit_some s is) low_pull_some (room_of_rate s is d h) (high_time_most s is) (at_or_above _ (rising_least (over_square s s.demand.lo) (over_square s s.demand.hi) (i * rate_step s))))))
@@ -59,7 +59,7 @@ module _ (s : Search) (is : IsSearch s) where
   pulls_fall : over_square s s.demand.hi <ℤ over_square s s.area.own.least → pull_at_high s (over_square s s.area.own.least) ≤ pull_at_low s
   pulls_fall h = let o = aims_ordered s is in rw (low_pull-above (scaled (unit s) s.demand) (over_square s s.area.own.least) (omega (arith, ints))) (high_pull_within (scaled (unit s) s.demand) (over_square s s.area.own.least) (pull_some s is) (pull_most s is)).1
 
-  pub pull_gentle : IsGentle (unit s) (pull_pass s)
+  pub pull_gentle : IsGentle (value (unit s)) (pull_pass s)
   pull_gentle i = rw (next i (grain s)) (⊎_elim
       (λ l. toward_down (pull_at_low s) (pull_at_high s (over_square s s.area.own.least)) (i * grain s) (grain s) (pulls_fall l) (λ d h e. rw e
       (weaker (unit s) s.area.altitude.least (over_square s s.area.own.least) (over_square s s.area.intruder.least) (over_square s s.demand.hi) (toward (pull_at_low s) (pull_at_high s (over_square s s.area.own.least)) (i * grain s + grain s)) (hold_at_low s) (high_time s) d
@@ -75,7 +75,7 @@ module _ (s : Search) (is : IsSearch s) where
   holds_rise : over_square s s.demand.hi <ℤ over_square s s.area.own.least → hold_at_low s ≤ hold_at_high s (over_square s s.area.own.least)
   holds_rise h = let o = aims_ordered s is in rw (low_hold-above (scaled (unit s) s.demand) (over_square s s.area.own.least) (omega (arith, ints))) (omega arith)
 
-  pub hold_gentle : IsGentle (unit s) (hold_pass s)
+  pub hold_gentle : IsGentle (value (unit s)) (hold_pass s)
   hold_gentle i = rw (next i (time_step s)) (⊎_elim
       (λ l. toward_up (hold_at_low s) (hold_at_high s (over_square s s.area.own.least)) (i * (time_step s)) (time_step s) (holds_rise l) (λ d h e. rw e
       (longer_hold (unit s) s.area.altitude.least (over_square s s.area.own.least) (over_square s s.area.intruder.least) (over_square s s.demand.hi) (pull_at_high s (over_square s s.area.own.least)) (toward (hold_at_low s) (hold_at_high s (over_square s s.area.own.least)) (i * (time_step s))) (high_time s) d
@@ -111,9 +111,9 @@ module _ (s : Search) (is : IsSearch s) where
       (cases_lt_ℤ (over_square s s.demand.hi) (r +ℤ pos d)))
       (cases_lt_ℤ (over_square s s.demand.hi) r)
 
-  pub own_gentle : IsGentle (unit s) (own_pass s)
+  pub own_gentle : IsGentle (value (unit s)) (own_pass s)
   own_gentle i = rw (next i (rate_step s)) (rising_next (over_square s s.area.own.least) (over_square s s.area.own.greatest) (i * rate_step s) (rate_step s) (λ d h e. rw e
       (own_step (rising (over_square s s.area.own.least) (over_square s s.area.own.greatest) (i * rate_step s)) d h)))
 
-  pub each_gentle : Each (IsGentle (unit s)) (passes s)
+  pub each_gentle : Each (IsGentle (value (unit s))) (passes s)
   each_gentle = (time_gentle, (altitude_gentle, (intruder_gentle, (aim_gentle, (pull_gentle, (hold_gentle, (own_gentle, tt)))))))

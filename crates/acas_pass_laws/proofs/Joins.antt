@@ -6,22 +6,22 @@ use Rattle.acas_passes.specs.Flights.{flight}
 use Rattle.acas_passes.specs.Passes.{IsLast, AreJoined, toward, rising, falling}
 use Rattle.acas_passes.specs.Search.{Search, IsSearch, grain, unit, time_step, rate_step, over_square, low_time, high_time, pull_at_low, hold_at_low, pull_at_high, hold_at_high, low_flight, high_flight, high_flight_from, time_pass, altitude_pass, intruder_pass, aim_pass, pull_pass, hold_pass, own_pass, passes}
 
-toward-end : (from to n : ℕ) → (to - from) + (from - to) ≤ n → toward from to n ≡ to
+pub toward-end : (from to n : ℕ) → (to - from) + (from - to) ≤ n → toward from to n ≡ to
 toward-end from to n h = omega arith
 
-toward-start : (from to s : ℕ) → toward from to (0 * s) ≡ from
+pub toward-start : (from to s : ℕ) → toward from to (0 * s) ≡ from
 toward-start from to s = omega arith
 
-rising-end : (from to : ℤ) (n : ℕ) → from ≤ℤ to → unsigned_abs (to -ℤ from) ≤ n → rising from to n ≡ to
+pub rising-end : (from to : ℤ) (n : ℕ) → from ≤ℤ to → unsigned_abs (to -ℤ from) ≤ n → rising from to n ≡ to
 rising-end from to n h k = omega (arith, ints)
 
-rising-start : (from to : ℤ) (s : ℕ) → rising from to (0 * s) ≡ from
+pub rising-start : (from to : ℤ) (s : ℕ) → rising from to (0 * s) ≡ from
 rising-start from to s = omega (arith, ints)
 
-falling-end : (from to : ℤ) (n : ℕ) → to ≤ℤ from → unsigned_abs (from -ℤ to) ≤ n → falling from to n ≡ to
+pub falling-end : (from to : ℤ) (n : ℕ) → to ≤ℤ from → unsigned_abs (from -ℤ to) ≤ n → falling from to n ≡ to
 falling-end from to n h k = omega (arith, ints)
 
-falling-start : (from to : ℤ) (s : ℕ) → falling from to (0 * s) ≡ from
+pub falling-start : (from to : ℤ) (s : ℕ) → falling from to (0 * s) ≡ from
 falling-start from to s = omega (arith, ints)
 
 pub time-start : (s : Search) → (time_pass s).point 0 ≡ low_flight s

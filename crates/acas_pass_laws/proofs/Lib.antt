@@ -8,7 +8,6 @@ pub mod Neighbours
 pub mod Deficits
 pub mod Ends
 pub mod Joins
-pub mod Ones
 pub mod Touching
 pub mod Founds
 pub mod Changes

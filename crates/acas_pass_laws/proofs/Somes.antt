@@ -1,23 +1,17 @@
 -- Each flight of each pass has some pull, so that its value is a fraction, and responds to the demand.
-use Rattle.std.proofs.Common.{ℕ, ◌*◌, ◌<◌, arith, List, [], ◌∷◌, pos, mul-pos}
+use Rattle.std.proofs.Common.{ℕ, ◌*◌, ◌<◌, arith, pos, mul-pos}
 use Rattle.std.proofs.lemmas.Int.{ints}
 use Rattle.acas_flight.specs.Window.{Times}
 use Rattle.acas_passes.specs.Flights.{Flight, value}
-use Rattle.acas_passes.specs.Passes.{Pass, Each}
+use Rattle.acas_passes.specs.Passes.{Each}
 use Rattle.acas_passes.specs.Search.{Search, IsSearch, IsTimed, unit, over_square, low_flight, high_flight, passes}
 use Rattle.acas_passes.specs.Responses.{IsFlightFrom, RespondsTo}
 use Rattle.acas_pass_laws.proofs.Neighbours.{unit_some, pull_some}
+use Rattle.acas_pass_laws.proofs.Ends.{AllSome, map_each}
 use Rattle.acas_pass_laws.proofs.Touching.{meets, lasts}
 use Rattle.acas_pass_laws.proofs.Within.{AllFrom, each_from, of_low, of_from}
 use Rattle.acas_flight_curves.proofs.Rising.{scaled_le}
 use Rattle.acas_units.specs.declared.limits.TheConstants.{WINDOW_SECONDS}
-
-pub map_each : (P Q : Pass → Type 0) (ps : List Pass) → ((p : Pass) → P p → Q p) → Each P ps → Each Q ps
-map_each P Q [] f a = tt
-map_each P Q (p ∷ rest) f a = (f p a.0, map_each P Q rest f a.1)
-
-abbrev pub AllSome : ℕ → Pass → Type 0
-AllSome q p = (i : ℕ) → 0 < (value q (p.point i)).den
 
 pub some_of : (s : Search) (is : IsSearch s) (w : Times) (c : Flight) → IsFlightFrom s.demand s.area w (unit s) c → (0 < c.pull) × (0 < (value (unit s) c).den)
 some_of s is w c of =
@@ -35,8 +29,8 @@ timed_wide s is = record {
   high_before = omega (arith, ints, is.high.most);
 }
 
-pub each_some : (s : Search) → IsSearch s → Each (AllSome (unit s)) (passes s)
-each_some s is = map_each (AllFrom s is wide (timed_wide s is)) (AllSome (unit s)) (passes s) (λ p a i. (some_of s is wide (p.point i) (a i)).1) (each_from s is wide (timed_wide s is))
+pub each_some : (s : Search) → IsSearch s → Each (AllSome (value (unit s))) (passes s)
+each_some s is = map_each (AllFrom s is wide (timed_wide s is)) (AllSome (value (unit s))) (passes s) (λ p a i. (some_of s is wide (p.point i) (a i)).1) (each_from s is wide (timed_wide s is))
 
 pub low_some : (s : Search) → IsSearch s → 0 < (value (unit s) (low_flight s)).den
 low_some s is = (some_of s is wide (low_flight s) (of_low s is wide (timed_wide s is))).1

@@ -17,7 +17,8 @@ use Rattle.acas_passes.specs.Flights.{Flight, value}
 use Rattle.acas_passes.specs.Responses.{IsToward, up, down, IsResponse, IsFlightFrom, scale, fine, acceleration}
 use Rattle.acas_pass_laws.proofs.Flown.{approach-lasting, approach-climb, approach-follows, response-meets, response-lasting, response-climb}
 
-toward_aim : (v k : ℤ) (b q m : ℕ) → q * b ≡ m → IsToward (v *ℤ pos (m * m)) (k *ℤ pos (m * m)) (b * m) (unsigned_abs (k -ℤ v) * q) (cond (int_le v k) (pos (b * m)) (neg_ℤ (pos (b * m))))
+-- the way from one rate to another over q*b, whose bend is whole
+pub toward_aim : (v k : ℤ) (b q m : ℕ) → q * b ≡ m → IsToward (v *ℤ pos (m * m)) (k *ℤ pos (m * m)) (b * m) (unsigned_abs (k -ℤ v) * q) (cond (int_le v k) (pos (b * m)) (neg_ℤ (pos (b * m))))
 toward_aim v k b q m e = ⊎_elim
     (λ h. let t : false ≡ int_le v k = omega (arith, ints) in let f = falls (omega (arith, ints)) in rw (← t) (down f))
     (λ h. let t : true ≡ int_le v k = omega (arith, ints) in let f = rises h in rw (← t) (up f))
@@ -45,21 +46,13 @@ toward_aim v k b q m e = ⊎_elim
     rises h = by_below k v h (λ x f. under x f (way_under x f))
 
 -- the separation, times the pull, is the value over the finer denominator, turned upside down
-separation-value : (q b : ℕ) (h x n z y : ℤ) (t : ℕ) → z *ℤ pos (b * (q * b)) ≡ n *ℤ pos (((q * b) * (q * b)) * ((q * b) * (q * b))) → 0 < q → 0 < b →
+separation-value : (q b : ℕ) (h x n z y : ℤ) (t : ℕ) → z *ℤ pos b ≡ n *ℤ pos ((q * b) * (q * b) * (q * b)) →
     y ≡ n -ℤ (pos b *ℤ ((h *ℤ pos (q * q * q)) +ℤ ((pos 2 *ℤ x) *ℤ pos t))) →
     pos b *ℤ vertical_separation (q * (q * b)) (h *ℤ pos (q * (q * b))) (x *ℤ pos b) (t * (q * b)) z ≡ neg_ℤ (y *ℤ pos ((q * b) * (q * b) * (q * b)))
-separation-value q b h x n z y t e p s f =
-    let one : z *ℤ pos b ≡ n *ℤ pos ((q * b) * (q * b) * (q * b)) =
-    cancel_left (q * b) (z *ℤ pos b) (n *ℤ pos ((q * b) * (q * b) * (q * b))) (mul-pos p s) (left z q b ∙ e ∙ right n q b) in
-    spread q b h x z t ∙ ap (λ i. (pos b *ℤ (((h *ℤ pos (q * (q * b))) *ℤ pos ((q * (q * b)) * (q * (q * b)))) +ℤ (((pos 2 *ℤ (x *ℤ pos b)) *ℤ pos (t * (q * b))) *ℤ pos (q * (q * b))))) -ℤ i) one
+separation-value q b h x n z y t e f =
+    spread q b h x z t ∙ ap (λ i. (pos b *ℤ (((h *ℤ pos (q * (q * b))) *ℤ pos ((q * (q * b)) * (q * (q * b)))) +ℤ (((pos 2 *ℤ (x *ℤ pos b)) *ℤ pos (t * (q * b))) *ℤ pos (q * (q * b))))) -ℤ i) e
     ∙ rw f (gather q b h x n t)
   where
-    left : (z : ℤ) (q b : ℕ) → pos (q * b) *ℤ (z *ℤ pos b) ≡ z *ℤ pos (b * (q * b))
-    left z q b = ring (z ∷ pos q ∷ pos b ∷ []) ((at 1 ⊗ at 2) ⊗ (at 0 ⊗ at 2)) (at 0 ⊗ (at 2 ⊗ (at 1 ⊗ at 2))) refl
-
-    right : (n : ℤ) (q b : ℕ) → n *ℤ pos (((q * b) * (q * b)) * ((q * b) * (q * b))) ≡ pos (q * b) *ℤ (n *ℤ pos ((q * b) * (q * b) * (q * b)))
-    right n q b = ring (n ∷ pos (q * b) ∷ []) (at 0 ⊗ ((at 1 ⊗ at 1) ⊗ (at 1 ⊗ at 1))) (at 1 ⊗ (at 0 ⊗ ((at 1 ⊗ at 1) ⊗ at 1))) refl
-
     spread : (q b : ℕ) (h x z : ℤ) (t : ℕ) → pos b *ℤ vertical_separation (q * (q * b)) (h *ℤ pos (q * (q * b))) (x *ℤ pos b) (t * (q * b)) z
         ≡ (pos b *ℤ (((h *ℤ pos (q * (q * b))) *ℤ pos ((q * (q * b)) * (q * (q * b)))) +ℤ (((pos 2 *ℤ (x *ℤ pos b)) *ℤ pos (t * (q * b))) *ℤ pos (q * (q * b))))) -ℤ (z *ℤ pos b)
     spread q b h x z t = ring (pos q ∷ pos b ∷ h ∷ x ∷ z ∷ pos t ∷ [])
@@ -81,13 +74,13 @@ separation-value q b h x n z y t e p s f =
 band : (q b half : ℕ) → b * (half * ((q * (q * b)) * (q * (q * b)) * (q * (q * b)))) ≡ (half * (q * q * q * b)) * ((q * b) * (q * b) * (q * b))
 band q b half = omega arith
 
-square_of : (v : ℤ) (q b : ℕ) → (v *ℤ pos b) *ℤ pos (q * (q * b)) ≡ v *ℤ pos ((q * b) * (q * b))
+pub square_of : (v : ℤ) (q b : ℕ) → (v *ℤ pos b) *ℤ pos (q * (q * b)) ≡ v *ℤ pos ((q * b) * (q * b))
 square_of v q b = ring (v ∷ pos q ∷ pos b ∷ []) ((at 0 ⊗ at 2) ⊗ (at 1 ⊗ (at 1 ⊗ at 2))) (at 0 ⊗ ((at 1 ⊗ at 2) ⊗ (at 1 ⊗ at 2))) refl
 
-scaled_rate : (v : ℤ) (q b : ℕ) → v *ℤ pos ((q * (q * b)) * (q * (q * b))) ≡ (v *ℤ pos (q * q)) *ℤ pos ((q * b) * (q * b))
+pub scaled_rate : (v : ℤ) (q b : ℕ) → v *ℤ pos ((q * (q * b)) * (q * (q * b))) ≡ (v *ℤ pos (q * q)) *ℤ pos ((q * b) * (q * b))
 scaled_rate v q b = ring (v ∷ pos q ∷ pos b ∷ []) (at 0 ⊗ ((at 1 ⊗ (at 1 ⊗ at 2)) ⊗ (at 1 ⊗ (at 1 ⊗ at 2)))) ((at 0 ⊗ (at 1 ⊗ at 1)) ⊗ ((at 1 ⊗ at 2) ⊗ (at 1 ⊗ at 2))) refl
 
-scaled_span : (v : ℤ) (q b : ℕ) → v *ℤ pos (q * (q * b)) ≡ (v *ℤ pos (q * q)) *ℤ pos b
+pub scaled_span : (v : ℤ) (q b : ℕ) → v *ℤ pos (q * (q * b)) ≡ (v *ℤ pos (q * q)) *ℤ pos b
 scaled_span v q b = ring (v ∷ pos q ∷ pos b ∷ []) (at 0 ⊗ (at 1 ⊗ (at 1 ⊗ at 2))) ((at 0 ⊗ (at 1 ⊗ at 1)) ⊗ at 2) refl
 
 pub lasts : (q : ℕ) (c : Flight) (h r : List Segment) → IsResponse q c h r → lasting (h ++ r) ≡ c.time * scale q c
@@ -97,6 +90,27 @@ lasts q c h r is =
   where
     sums : (i j t m : ℕ) → t ≡ i + j → i * m + j * m ≡ t * m
     sums i j t m e = rw e (omega arith)
+
+-- the climb of a flight's response, times the pull, over the finer denominator
+pub climb-response : (q : ℕ) (c : Flight) (hold rest : List Segment) → 0 < q → 0 < c.pull → IsResponse q c hold rest →
+    climb ((c.own *ℤ pos c.pull) *ℤ pos (fine q c)) (hold ++ rest) *ℤ pos c.pull ≡ held c.own c.aim c.pull c.hold c.time *ℤ pos (scale q c * scale q c * scale q c)
+climb-response q c h r p s is = cancel_left (scale q c) _ _ (mul-pos p s) (left _ (scale q c) c.pull ∙ whole ∙ right (held c.own c.aim c.pull c.hold c.time) (scale q c))
+  where
+    left : (z : ℤ) (m b : ℕ) → pos m *ℤ (z *ℤ pos b) ≡ z *ℤ pos (b * m)
+    left z m b = ring (z ∷ pos m ∷ pos b ∷ []) (at 1 ⊗ (at 0 ⊗ at 2)) (at 0 ⊗ (at 2 ⊗ at 1)) refl
+
+    right : (n : ℤ) (m : ℕ) → n *ℤ pos ((m * m) * (m * m)) ≡ pos m *ℤ (n *ℤ pos (m * m * m))
+    right n m = ring (n ∷ pos m ∷ []) (at 0 ⊗ ((at 1 ⊗ at 1) ⊗ (at 1 ⊗ at 1))) (at 1 ⊗ (at 0 ⊗ ((at 1 ⊗ at 1) ⊗ at 1))) refl
+
+    whole : climb ((c.own *ℤ pos c.pull) *ℤ pos (fine q c)) (h ++ r) *ℤ pos (c.pull * scale q c) ≡ held c.own c.aim c.pull c.hold c.time *ℤ pos ((scale q c * scale q c) * (scale q c * scale q c))
+    whole =
+        rw (square_of c.own q c.pull) (
+        response-climb (c.own *ℤ pos (scale q c * scale q c)) (c.pull * scale q c) (min c.time c.hold * scale q c) h r _ is.held
+        (approach-climb (c.own *ℤ pos (scale q c * scale q c)) (c.aim *ℤ pos (scale q c * scale q c)) (c.pull * scale q c) (unsigned_abs (c.aim -ℤ c.own) * q) (acceleration q c) ((c.time - c.hold) * scale q c) r
+        (toward_aim c.own c.aim c.pull q (scale q c) refl) is.approached)
+        ∙ ap₂ (λ (i j : ℕ). (((pos 2 *ℤ (c.own *ℤ pos (scale q c * scale q c))) *ℤ pos i) *ℤ pos (c.pull * scale q c)) +ℤ approach (c.own *ℤ pos (scale q c * scale q c)) (c.aim *ℤ pos (scale q c * scale q c)) (c.pull * scale q c) j)
+        (sym (min_scaled c.time c.hold (scale q c))) (sym (sub_scaled c.time c.hold (scale q c)))
+        ∙ held-scaled c.own c.aim c.pull c.hold c.time (scale q c) (scale q c))
 
 module _ (half : ℕ) (a : Demand) (area : Area) (w : Times) (q : ℕ) (c : Flight) (p : 0 < q) (s : 0 < c.pull) (of : IsFlightFrom a area w q c) (h r : List Segment) (is : IsResponse q c h r) where
   follows : FollowsThroughout (scaled (fine q c) a) (c.own *ℤ pos (scale q c * scale q c)) r
@@ -114,19 +128,9 @@ module _ (half : ℕ) (a : Demand) (area : Area) (w : Times) (q : ℕ) (c : Flig
       (let m = mul-le-mul_right (scale q c) of.hold in let n : min c.time c.hold * scale q c ≤ c.hold * scale q c = mul-le-mul_right (scale q c) (omega arith) in omega arith)
       is.held follows)
 
-  climbs : climb ((c.own *ℤ pos c.pull) *ℤ pos (fine q c)) (h ++ r) *ℤ pos (c.pull * scale q c) ≡ held c.own c.aim c.pull c.hold c.time *ℤ pos ((scale q c * scale q c) * (scale q c * scale q c))
-  climbs =
-      rw (square_of c.own q c.pull) (
-      response-climb (c.own *ℤ pos (scale q c * scale q c)) (c.pull * scale q c) (min c.time c.hold * scale q c) h r _ is.held
-      (approach-climb (c.own *ℤ pos (scale q c * scale q c)) (c.aim *ℤ pos (scale q c * scale q c)) (c.pull * scale q c) (unsigned_abs (c.aim -ℤ c.own) * q) (acceleration q c) ((c.time - c.hold) * scale q c) r
-      (toward_aim c.own c.aim c.pull q (scale q c) refl) is.approached)
-      ∙ ap₂ (λ (i j : ℕ). (((pos 2 *ℤ (c.own *ℤ pos (scale q c * scale q c))) *ℤ pos i) *ℤ pos (c.pull * scale q c)) +ℤ approach (c.own *ℤ pos (scale q c * scale q c)) (c.aim *ℤ pos (scale q c * scale q c)) (c.pull * scale q c) j)
-      (sym (min_scaled c.time c.hold (scale q c))) (sym (sub_scaled c.time c.hold (scale q c)))
-      ∙ held-scaled c.own c.aim c.pull c.hold c.time (scale q c) (scale q c))
-
   apart : pos c.pull *ℤ vertical_separation (fine q c) (c.altitude *ℤ pos (fine q c)) (c.intruder *ℤ pos c.pull) (lasting (h ++ r)) (climb ((c.own *ℤ pos c.pull) *ℤ pos (fine q c)) (h ++ r))
       ≡ neg_ℤ ((value q c).num *ℤ pos (scale q c * scale q c * scale q c))
-  apart = rw (lasts q c h r is) (separation-value q c.pull c.altitude c.intruder (held c.own c.aim c.pull c.hold c.time) (climb ((c.own *ℤ pos c.pull) *ℤ pos (fine q c)) (h ++ r)) (value q c).num c.time climbs p s refl)
+  apart = rw (lasts q c h r is) (separation-value q c.pull c.altitude c.intruder (held c.own c.aim c.pull c.hold c.time) (climb ((c.own *ℤ pos c.pull) *ℤ pos (fine q c)) (h ++ r)) (value q c).num c.time (climb-response q c h r p s is) refl)
 
   in_time : IsDuring (fine q c) w (lasting (h ++ r))
   in_time = rw (lasts q c h r is) (

@@ -9,20 +9,20 @@ use Rattle.acas_flight.specs.Values.{IsAtMost}
 use Rattle.acas_flight.specs.Response.{scaled}
 use Rattle.acas_flight.specs.Window.{Times, IsDuring}
 use Rattle.acas_flight.specs.State.{IsInside}
-use Rattle.acas_passes.specs.Flights.{flight}
+use Rattle.acas_passes.specs.Flights.{Flight, flight}
 use Rattle.acas_passes.specs.Passes.{Pass, toward, rising, falling, Each}
 use Rattle.acas_passes.specs.Search.{Search, IsSearch, IsTimed, grain, unit, time_step, rate_step, over_square, low_time, high_time, pull_at_low, hold_at_low, pull_at_high, hold_at_high, low_flight, high_flight_from, passes}
 use Rattle.acas_passes.specs.Responses.{IsFlightFrom}
 use Rattle.acas_pass_laws.proofs.Neighbours.{low_pull_within, high_pull_within, low_hold_within, high_hold_within, pull_some, pull_most}
 use Rattle.acas_passes.specs.declared.steps.TheConstants.{PULL_STEPS}
 
-between : (from to n i j : ℕ) → i ≤ from → i ≤ to → from ≤ j → to ≤ j → (i ≤ toward from to n) × (toward from to n ≤ j)
+pub between : (from to n i j : ℕ) → i ≤ from → i ≤ to → from ≤ j → to ≤ j → (i ≤ toward from to n) × (toward from to n ≤ j)
 between from to n i j a b c d = (omega arith, omega arith)
 
-between_up : (from to : ℤ) (n : ℕ) → from ≤ℤ to → (from ≤ℤ rising from to n) × (rising from to n ≤ℤ to)
+pub between_up : (from to : ℤ) (n : ℕ) → from ≤ℤ to → (from ≤ℤ rising from to n) × (rising from to n ≤ℤ to)
 between_up from to n h = (omega (arith, ints), omega (arith, ints))
 
-between_down : (from to : ℤ) (n : ℕ) → to ≤ℤ from → (to ≤ℤ falling from to n) × (falling from to n ≤ℤ from)
+pub between_down : (from to : ℤ) (n : ℕ) → to ≤ℤ from → (to ≤ℤ falling from to n) × (falling from to n ≤ℤ from)
 between_down from to n h = (omega (arith, ints), omega (arith, ints))
 
 -- a time of the window over the common denominator of two
@@ -145,7 +145,7 @@ module _ (s : Search) (is : IsSearch s) (w : Times) (timed : IsTimed s w) where
     hold = high_hold_in v;
   }
 
-  abbrev pub AllFrom : Pass → Type 0
+  abbrev pub AllFrom : Pass Flight → Type 0
   AllFrom p = (i : ℕ) → IsFlightFrom s.demand s.area w (unit s) (p.point i)
 
   pub each_from : Each AllFrom (passes s)

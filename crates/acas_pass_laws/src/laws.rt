@@ -5,7 +5,7 @@ ghost use Rattle.acas_flight.specs.Window.{Times};
 ghost use Rattle.acas_flight.specs.Clear.{EndsInVerticalContact, IsEndangeredDuring};
 ghost use Rattle.acas_passes.specs.declared.steps.TheConstants.{TIME_STEPS, PULL_STEPS, RATE_STEPS};
 ghost use Rattle.acas_passes.specs.Value.{thinnest};
-ghost use Rattle.acas_passes.specs.Flights.{Flight};
+ghost use Rattle.acas_passes.specs.Flights.{Flight, value};
 ghost use Rattle.acas_passes.specs.Passes.{AreJoined, Each, IsGentle, IsLast, Pass};
 ghost use Rattle.acas_passes.specs.Search.{CanMeet, IsFound, IsSearch, IsTimed, Search, high_flight, low_flight, own_pass, passes, pull_step, rate_step, time_pass, time_step, unit};
 ghost use Rattle.acas_passes.specs.Responses.{IsFlightFrom, IsResponse, RespondsTo, fine};
@@ -27,7 +27,7 @@ pub fn passes_hold_flights_that_meet()
 
 /// One step of each pass raises the value of the flight by less than the thinnest puck is thick.
 pub fn passes_are_gentle()
-    ensures { (s : Search) → IsSearch s → Each (IsGentle (unit s)) (passes s) }
+    ensures { (s : Search) → IsSearch s → Each (IsGentle (value (unit s))) (passes s) }
 {}
 
 /// The first pass begins at the low flight, the last point of each pass is the first of the next, and the last pass ends at the

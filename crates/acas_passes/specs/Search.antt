@@ -10,9 +10,9 @@ use Rattle.acas_flight.specs.Clear.{Area}
 use Rattle.acas_flight.specs.Values.{IsAtMost}
 use Rattle.acas_flight.specs.Window.{Times}
 use Rattle.acas_passes.specs.declared.steps.TheConstants.{TIME_STEPS, PULL_STEPS, RATE_STEPS}
-use Rattle.acas_passes.specs.Value.{IsWithinHalf}
 use Rattle.acas_passes.specs.Flights.{Flight, value}
-use Rattle.acas_passes.specs.Passes.{Pass, moving, moving_up, moving_down, EndsAt}
+use Rattle.acas_passes.specs.Passes as search
+use Rattle.acas_passes.specs.Passes.{Pass, moving, moving_up, moving_down}
 
 -- what is searched: an area under a demand, from the time of the low flight to that of the high flight
 pub record Search : Type 0 where
@@ -94,34 +94,34 @@ high_flight s = high_flight_from s (over_square s s.area.own.greatest)
 
 -- ---- the passes: each moves one quantity of the flight at which the pass before it ends
 
-abbrev pub time_pass : Search → Pass
+abbrev pub time_pass : Search → Pass Flight
 time_pass s = moving (λ t. record (low_flight s) { time = t }) (low_time s) (high_time s) (time_step s)
 
 abbrev pub after_time : Search → Flight
 after_time s = record (low_flight s) { time = high_time s }
 
 -- one tick a step
-abbrev pub altitude_pass : Search → Pass
+abbrev pub altitude_pass : Search → Pass Flight
 altitude_pass s = moving_down (λ h. record (after_time s) { altitude = h }) s.area.altitude.greatest s.area.altitude.least 1
 
 abbrev pub after_altitude : Search → Flight
 after_altitude s = record (after_time s) { altitude = s.area.altitude.least }
 
-abbrev pub intruder_pass : Search → Pass
+abbrev pub intruder_pass : Search → Pass Flight
 intruder_pass s = moving_down (λ w. record (after_altitude s) { intruder = w })
     (over_square s s.area.intruder.greatest) (over_square s s.area.intruder.least) (rate_step s)
 
 abbrev pub after_intruder : Search → Flight
 after_intruder s = record (after_altitude s) { intruder = over_square s s.area.intruder.least }
 
-abbrev pub aim_pass : Search → Pass
+abbrev pub aim_pass : Search → Pass Flight
 aim_pass s = moving_up (λ k. record (after_intruder s) { aim = k }) (over_square s s.demand.lo) (over_square s s.demand.hi) (rate_step s)
 
 abbrev pub after_aim : Search → Flight
 after_aim s = record (after_intruder s) { aim = over_square s s.demand.hi }
 
 -- to the pull of the highest climb from the least own rate
-abbrev pub pull_pass : Search → Pass
+abbrev pub pull_pass : Search → Pass Flight
 pull_pass s = moving (λ b. record (after_aim s) { pull = b })
     (pull_at_low s) (pull_at_high s (over_square s s.area.own.least)) (pull_step s)
 
@@ -129,24 +129,21 @@ abbrev pub after_pull : Search → Flight
 after_pull s = record (after_aim s) { pull = pull_at_high s (over_square s s.area.own.least) }
 
 -- to its hold
-abbrev pub hold_pass : Search → Pass
+abbrev pub hold_pass : Search → Pass Flight
 hold_pass s = moving (λ g. record (after_pull s) { hold = g })
     (hold_at_low s) (hold_at_high s (over_square s s.area.own.least)) (time_step s)
 
 -- each flight of the pass over the own rate is the high flight from its rate
-abbrev pub own_pass : Search → Pass
+abbrev pub own_pass : Search → Pass Flight
 own_pass s = moving_up (high_flight_from s) (over_square s s.area.own.least) (over_square s s.area.own.greatest) (rate_step s)
 
 -- the passes, in the order in which they are tried
-abbrev pub passes : Search → List Pass
+abbrev pub passes : Search → List (Pass Flight)
 passes s = time_pass s ∷ altitude_pass s ∷ intruder_pass s ∷ aim_pass s ∷ pull_pass s ∷ hold_pass s ∷ own_pass s ∷ []
 
--- The flight that the search finds: the low flight if it is in contact, otherwise the high flight if it is, and otherwise the one
--- at which the passes end.
-pub data IsFound (half : ℕ) (s : Search) : Flight → Type 0 where
-  at_low : IsWithinHalf half (value (unit s) (low_flight s)) → IsFound half s (low_flight s)
-  at_high : ¬ IsWithinHalf half (value (unit s) (low_flight s)) → IsWithinHalf half (value (unit s) (high_flight s)) → IsFound half s (high_flight s)
-  between : (c : Flight) → ¬ IsWithinHalf half (value (unit s) (low_flight s)) → ¬ IsWithinHalf half (value (unit s) (high_flight s)) → EndsAt half (unit s) (passes s) c → IsFound half s c
+-- the flight that the search finds
+abbrev pub IsFound : ℕ → Search → Flight → Type 0
+IsFound half s c = search.IsFound (value (unit s)) half (low_flight s) (high_flight s) (passes s) c
 
 -- ---- what may be searched
 

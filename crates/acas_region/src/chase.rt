@@ -9,10 +9,10 @@ ghost use Rattle.acas_region_curves.specs.View.{border_in};
 
 use acas_frac::Frac;
 use acas_region_curves::{Chase, Moment, numerator};
-use acas_units::{GREATEST_CLOSING, GREATEST_LIMIT, GREATEST_RATE, WINDOW_SECONDS};
+use acas_units::{GREATEST_CLOSING, GREATEST_DELAY, GREATEST_LIMIT, GREATEST_RATE, WINDOW_SECONDS};
 
 /// The numbers of a window's end, or of another time over as little, which are in lowest terms.
-pub(crate) fn moment_of(time: &Frac) -> Moment
+pub fn moment_of(time: &Frac) -> Moment
     requires { IsEnd time.now }
     ensures num { Fraction.num time.now ≡ pos result.num }
     ensures den { Fraction.den time.now ≡ result.den }
@@ -24,8 +24,8 @@ pub(crate) fn moment_of(time: &Frac) -> Moment
     }
 }
 
-// A whole number over a denominator.
-fn over(value: i64, den: u64) -> i64
+/// A whole number, of the size of an altitude in ticks at most, over a denominator of at most 5000: how many of its parts it is.
+pub fn over(value: i64, den: u64) -> i64
     requires value { unsigned_abs value ≤ altitude_size }
     requires den { den ≤ GREATEST_CLOSING }
     ensures value { result ≡ value *ℤ pos den }
@@ -58,20 +58,24 @@ fn line(height: i64, rate: i64, pull: u64, num: u64, den: u64) -> i64
     (over(height, den) + flown(rate, num)) * (den * pull) as i64
 }
 
-// The climb at a time, times the pull.
-fn climb_of(chase: &Chase, num: u64, den: u64) -> i128
-    requires num { num ≤ WINDOW_SECONDS * GREATEST_CLOSING }
-    requires den { den ≤ GREATEST_CLOSING }
-    ensures value { result ≡ held (chase.now.start *ℤ pos den) (chase.now.aim *ℤ pos den) chase.now.pull
-        (chase.now.hold * den) num }
+/// The climb at a time, over the square of the time's denominator and the pull, of a flight that holds its start rate, then goes to
+/// the aim with the pull. Rates are in ft/min, of at most 10,000 in size, the pull in ft/min per second, of at most 2000, and the hold
+/// in seconds, of at most 10.
+pub fn climb_at(start: i64, aim: i64, pull: u64, hold: u64, at: &Moment) -> i128
+    requires start { unsigned_abs start ≤ unsigned_abs GREATEST_RATE }
+    requires aim { unsigned_abs aim ≤ unsigned_abs GREATEST_RATE }
+    requires pull { pull ≤ GREATEST_LIMIT }
+    requires hold { hold ≤ GREATEST_DELAY }
+    ensures value { result ≡ held (start *ℤ pos at.now.den) (aim *ℤ pos at.now.den) pull (hold * at.now.den)
+        at.now.num }
     ensures size { unsigned_abs result ≤ 10 ^ 20 }
 {
     numerator(
-        over(chase.start, den),
-        over(chase.aim, den),
-        chase.pull,
-        chase.hold * den,
-        num,
+        over(start, at.den),
+        over(aim, at.den),
+        pull,
+        hold * at.den,
+        at.num,
     )
 }
 
@@ -90,7 +94,7 @@ pub(crate) fn gap_number(chase: &Chase, at: &Moment) -> i128
     ensures value { result ≡ gap_number (border_in chase.now) at.now.den at.now.num }
     ensures size { unsigned_abs result ≤ 2 * 10 ^ 20 }
 {
-    let climb = climb_of(chase, at.num, at.den);
+    let climb = climb_at(chase.start, chase.aim, chase.pull, chase.hold, at);
     let altitude = line(chase.height, chase.rate, chase.pull, at.num, at.den);
     less(climb, altitude)
 }

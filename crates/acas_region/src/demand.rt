@@ -12,7 +12,7 @@ use acas_region_curves::{Asked, held, rate_parts};
 use acas_units::{GREATEST_DELAY, GREATEST_LIMIT, GREATEST_RATE};
 
 /// What the advisory of a number asks.
-pub(crate) fn asked_by(model: &Model, advisory: u8) -> Asked
+pub fn asked_by(model: &Model, advisory: u8) -> Asked
     requires { advisory < model.now.grid.advisories }
     ensures { demand_in result ≡ demand_of model.now advisory }
 {

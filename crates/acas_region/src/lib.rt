@@ -12,7 +12,9 @@ mod nearest;
 mod numbers;
 mod window;
 
+pub use chase::{climb_at, moment_of, over};
 pub use clear::is_clear;
-pub use demand::{highest, lowest};
+pub use demand::{asked_by, highest, lowest};
 pub use extreme::{high_extreme, low_extreme};
-pub use window::{window_of_box, window_of_cell};
+pub use numbers::{minus, natural};
+pub use window::{time_of, window_of_box, window_of_cell};

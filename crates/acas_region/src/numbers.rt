@@ -5,7 +5,7 @@ ghost use Rattle.acas_frac.specs.Fraction.{Fraction, IsFrac};
 use acas_frac::Frac;
 
 /// The number, which is not negative.
-pub(crate) fn natural(value: i64) -> u64
+pub fn natural(value: i64) -> u64
     requires { pos 0 ≤ℤ value }
     ensures { value ≡ pos result }
 {
@@ -13,7 +13,7 @@ pub(crate) fn natural(value: i64) -> u64
 }
 
 /// The number of the other sign.
-pub(crate) fn minus(value: i64) -> i64
+pub fn minus(value: i64) -> i64
     requires { unsigned_abs value ≤ 10 ^ 18 }
     ensures value { result ≡ neg_ℤ value }
     ensures size { unsigned_abs result ≡ unsigned_abs value }

@@ -14,7 +14,7 @@ use acas_units::{GREATEST_CLOSING, GREATEST_HORIZON, GREATEST_RADIUS, Span, WIND
 
 /// A time as a fraction: from 0 to 600 seconds, over a closing speed at most.
 #[tactic(auto, using(acas_region_curves::proofs::Ends::quotient_reduces))]
-pub(crate) fn time_of(num: u64, den: u64) -> Frac
+pub fn time_of(num: u64, den: u64) -> Frac
     requires some { 0 < den }
     requires den { den ≤ GREATEST_CLOSING }
     requires num { num ≤ WINDOW_SECONDS * den }

@@ -4,3 +4,4 @@ pub mod Sizes
 pub mod Products
 pub mod Ends
 pub mod Climbs
+pub mod EachWindow

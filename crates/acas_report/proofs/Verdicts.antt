@@ -8,7 +8,9 @@ use Rattle.acas_cells.specs.Corners.{advisory_cells}
 use Rattle.acas_rulings.specs.Rulings.{IsRuling, IsRulingOfCell, IsWitnessOfCell}
 use Rattle.acas_rulings.specs.declared.ruling.Ruling.{Ruling}
 use Rattle.acas_rulings.specs.declared.ruling.Ruling.TheVariants.{Certified, Reported}
-use Rattle.acas_report_lines.specs.Report.{IsReport, IsReportOn, Ruled, clear_cells, report_text}
+use Rattle.acas_report_lines.specs.Report.{IsReport, IsReportOn, clear_cells, report_text}
+use Rattle.acas_report_lines.specs.Text.{is_certified}
+use Rattle.acas_report_lines.proofs.Reports.{report-of}
 use Rattle.acas_report_lines.specs.declared.counts.Counts.{Counts}
 use Rattle.acas_report_lines.specs.declared.counts.Which.{Which}
 use Rattle.acas_report.specs.Verdicts.{IsVerdict, IsVerdictOnCell}
@@ -17,18 +19,9 @@ pub verdict : (m : ModelData) (advisory : ℕ) (IsIn : ℕ → State → Type 0)
 verdict m advisory IsIn IsRule Certified h = h
 verdict m advisory IsIn IsRule (Reported w) h = h.shown
 
-pub report-of : {N : Type 0} (R S : N → Ruling → Type 0) (names : List N) (clear : ℕ) (text_of : List (Ruled N) → List ℕ) (counts : Counts) (text : List ℕ) → ((name : N) (ruling : Ruling) → R name ruling → S name ruling)
-    → IsReportOn R names clear text_of counts text → IsReportOn S names clear text_of counts text
-report-of R S names clear text_of counts text to report = record {
-  ruled = report.ruled;
-  rulings = record { all = report.rulings.all; each = λ k d within. to _ _ (report.rulings.each k d within) };
-  counted = report.counted;
-  printed = report.printed;
-}
-
 -- the report of an audit
 pub verdicts : (m : ModelData) (advices : AdvicesData) (which : Which) (counts : Counts) (text : List ℕ) → IsReport m advices which counts text
-    → IsReportOn (IsVerdictOnCell m) (advisory_cells m advices) (clear_cells m advices) (report_text m advices which) counts text
+    → IsReportOn (IsVerdictOnCell m) is_certified (advisory_cells m advices) (clear_cells m advices) (report_text m advices which) counts text
 verdicts m advices which counts text report =
-    report-of (IsRulingOfCell m) (IsVerdictOnCell m) (advisory_cells m advices) (clear_cells m advices) (report_text m advices which) counts text
+    report-of (IsRulingOfCell m) (IsVerdictOnCell m) is_certified (advisory_cells m advices) (clear_cells m advices) (report_text m advices which) counts text
     (λ name ruling. verdict m name.advice (IsInCell m name.n name.i name.j name.k) (IsWitnessOfCell m name) ruling) report

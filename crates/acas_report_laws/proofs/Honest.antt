@@ -1,5 +1,5 @@
 -- What is read of a report is so.
-use Rattle.std.proofs.Common.{◌≡◌, ℕ, ◌<◌, ◌^◌, List, [], ◌∷◌, ◌++◌, codes, All, refl, ap, sym, subst, ◌∙◌, append_assoc}
+use Rattle.std.proofs.Common.{◌≡◌, ℕ, ◌<◌, ◌^◌, Bool, List, [], ◌∷◌, ◌++◌, codes, All, refl, ap, sym, subst, ◌∙◌, append_assoc}
 use Rattle.std.proofs.lemmas.List.{append_cancel_left}
 use Rattle.std.proofs.lemmas.List.Elements.{All-head, All-tail, All-cons, All-nil}
 use Rattle.std.specs.Fmt.{decimal}
@@ -23,32 +23,39 @@ use Rattle.acas_rulings.specs.declared.ruling.Ruling.{Ruling}
 use Rattle.acas_rulings.specs.declared.ruling.Ruling.TheVariants.{Certified, Reported}
 use Rattle.acas_cells.proofs.Lists.{all_members, of_flat_map}
 use Rattle.acas_cells.proofs.Order.{of_cells, of_names, sorted_advisory_cells}
-use Rattle.acas_report_lines.specs.Text.{field, cell_line, counts_text, box_line, box_text, box_counts_text, ruling_text}
+use Rattle.acas_report_lines.specs.Text.{field, cell_line, counts_text, box_text, box_counts_text, is_certified, line_of_box, ruling_text}
 use Rattle.acas_report_lines.specs.Report.{Ruled, IsReport, report_text, lines_of, counts_of, clear_cells}
-use Rattle.acas_report_lines.specs.Regions.{IsRegionsReport, IsRulingAt, places, regions_text}
+use Rattle.acas_manoeuvre.specs.Intruder.{Manoeuvre}
+use Rattle.acas_meetings.specs.Verdicts.{IsMeetVerdict}
+use Rattle.acas_meetings.specs.declared.verdict.MeetVerdict.{MeetVerdict}
+use Rattle.acas_meetings.specs.declared.verdict.MeetVerdict.TheVariants as met
+use Rattle.acas_report_lines.specs.Meetings.{IsMeetVerdictAt, IsMeetingsReport, is_safe, meet_text, meetings_text}
+use Rattle.acas_report_lines.specs.Regions.{IsRegionsReport, IsRulingAt, boxes_text, places, regions_text}
+use Rattle.acas_report_lines.specs.declared.meet_counts.MeetCounts.{MeetCounts}
 use Rattle.acas_report_lines.specs.declared.counts.Counts.{Counts}
 use Rattle.acas_report_lines.specs.declared.counts.Which.{Which}
 use Rattle.acas_report_lines.specs.declared.counts.Which.TheVariants as which
 use Rattle.acas_report_laws.specs.Told.{IsNameOf, names_of}
-use Rattle.acas_report_laws.specs.Holds.{Holds, HoldsOfBox, HoldsOfCell}
-use Rattle.acas_report_laws.proofs.Fields.{Same, read_ruling}
+use Rattle.acas_report_laws.specs.Holds.{Holds, HoldsOfBox, HoldsOfCell, HoldsOfMeeting, HoldsOfVerdict}
+use Rattle.acas_report_laws.proofs.Fields.{AreTexts, Same, ruling_texts}
+use Rattle.acas_report_laws.proofs.MeetingFields.{SameVerdict, verdict_texts}
 use Rattle.acas_report_laws.proofs.Names.{read_cell, cell_is_not_last, read_box, box_is_not_last}
 use Rattle.acas_report_laws.proofs.Lines.{AllMay, AreLines, SaysSame, StandOnce, read_alike, read_all, read_reported}
-use Rattle.acas_report_laws.proofs.Told.{same_witness}
-use Rattle.acas_report_laws.proofs.Danger.{shows_as_printed}
+use Rattle.acas_report_laws.proofs.Told.{same_meeting, same_witness}
+use Rattle.acas_report_laws.proofs.Danger.{meets_as_printed, shows_as_printed}
 
 -- ---- the lines of a text
 
-cell_lines : (m : ModelData) → IsModel m → AreLines (IsNameOf m) (cell_line m)
+cell_lines : (m : ModelData) → IsModel m → AreLines Same (IsNameOf m) (cell_line m)
 cell_lines m model = record {
   read = λ x y r q s t nx ny e. read_cell m x y r q s t model nx ny e;
   not_last = λ x r s t e. cell_is_not_last m x r s t e;
 }
 
-box_lines : AreLines (λ x. x < 10 ^ 63) box_line
-box_lines = record {
-  read = λ x y r q s t small also e. read_box x y r q s t small e;
-  not_last = λ x r s t e. box_is_not_last x r s t e;
+box_lines : {R : Type 0} (SameAs : R → R → Type 0) (text : R → List ℕ) → AreTexts SameAs text → AreLines SameAs (λ (x : ℕ). x < 10 ^ 63) (line_of_box text)
+box_lines SameAs text texts = record {
+  read = λ x y r q s t small also e. read_box SameAs text texts x y r q s t small e;
+  not_last = λ x r s t e. box_is_not_last text x r s t e;
 }
 
 -- the last line, behind its first word
@@ -58,40 +65,43 @@ last counts = field (decimal counts.certified) ++ codes " reported" ++ field (de
 boxes_last : Counts → List ℕ
 boxes_last counts = field (decimal counts.certified) ++ codes " reported" ++ field (decimal counts.reported) ++ codes "\n"
 
-report_is : (m : ModelData) (a : AdvicesData) (which : Which) (ruled : List (Ruled CellName)) →
-    report_text m a which ruled ≡ lines_of (cell_line m) which ruled ++ (codes "certified" ++ last (counts_of ruled (clear_cells m a)))
+report_is : (m : ModelData) (a : AdvicesData) (which : Which) (ruled : List (Ruled CellName Ruling)) →
+    report_text m a which ruled ≡ lines_of is_certified (cell_line m) which ruled ++ (codes "certified" ++ last (counts_of is_certified ruled (clear_cells m a)))
 unfolding report_text counts_text last
 report_is m a which ruled = refl
 
-regions_is : (ruled : List (Ruled ℕ)) → regions_text ruled ≡ lines_of box_line which.All ruled ++ (codes "certified" ++ boxes_last (counts_of ruled 0))
-unfolding regions_text box_counts_text boxes_last
-regions_is ruled = refl
+boxes_are : {R : Type 0} (certified : R → Bool) (text : R → List ℕ) (ruled : List (Ruled ℕ R)) →
+    boxes_text certified text ruled ≡ lines_of certified (line_of_box text) which.All ruled ++ (codes "certified" ++ boxes_last (counts_of certified ruled 0))
+unfolding boxes_text box_counts_text boxes_last
+boxes_are certified text ruled = refl
 
-pub same_lines : (m : ModelData) (a : AdvicesData) (ruled other : List (Ruled CellName)) → IsModel m → AllMay (IsNameOf m) ruled → AllMay (IsNameOf m) other →
-    report_text m a which.All ruled ≡ report_text m a which.All other → AllZip SaysSame ruled other
+pub same_lines : (m : ModelData) (a : AdvicesData) (ruled other : List (Ruled CellName Ruling)) → IsModel m → AllMay (IsNameOf m) ruled → AllMay (IsNameOf m) other →
+    report_text m a which.All ruled ≡ report_text m a which.All other → AllZip (SaysSame Same) ruled other
 same_lines m a ruled other model mr mo e =
-    read_all (IsNameOf m) (cell_line m) ruled other (last (counts_of ruled (clear_cells m a))) (last (counts_of other (clear_cells m a))) (cell_lines m model) mr mo
+    read_all Same is_certified (IsNameOf m) (cell_line m) ruled other (last (counts_of is_certified ruled (clear_cells m a))) (last (counts_of is_certified other (clear_cells m a))) (cell_lines m model) mr mo
     (sym (report_is m a which.All ruled) ∙ e ∙ report_is m a which.All other)
 
-pub same_reported : (m : ModelData) (a : AdvicesData) (ruled other : List (Ruled CellName)) → IsModel m → AllMay (IsNameOf m) ruled → AllMay (IsNameOf m) other →
-    StandOnce (names_of ruled) → names_of ruled ≡ names_of other → report_text m a which.Reported ruled ≡ report_text m a which.Reported other → AllZip SaysSame ruled other
+pub same_reported : (m : ModelData) (a : AdvicesData) (ruled other : List (Ruled CellName Ruling)) → IsModel m → AllMay (IsNameOf m) ruled → AllMay (IsNameOf m) other →
+    StandOnce (names_of ruled) → names_of ruled ≡ names_of other → report_text m a which.Reported ruled ≡ report_text m a which.Reported other → AllZip (SaysSame Same) ruled other
 same_reported m a ruled other model mr mo once names e =
-    read_reported (IsNameOf m) (cell_line m) ruled other (last (counts_of ruled (clear_cells m a))) (last (counts_of other (clear_cells m a))) (cell_lines m model) mr mo once names
+    read_reported (IsNameOf m) (cell_line m) ruled other (last (counts_of is_certified ruled (clear_cells m a))) (last (counts_of is_certified other (clear_cells m a))) (cell_lines m model) mr mo once names
     (sym (report_is m a which.Reported ruled) ∙ e ∙ report_is m a which.Reported other)
 
-pub same_boxes : (ruled other : List (Ruled ℕ)) → AllMay (λ x. x < 10 ^ 63) ruled → AllMay (λ x. x < 10 ^ 63) other → regions_text ruled ≡ regions_text other → AllZip SaysSame ruled other
-same_boxes ruled other mr mo e =
-    read_all (λ x. x < 10 ^ 63) box_line ruled other (boxes_last (counts_of ruled 0)) (boxes_last (counts_of other 0)) box_lines mr mo
-    (sym (regions_is ruled) ∙ e ∙ regions_is other)
+pub same_boxes : {R : Type 0} (SameAs : R → R → Type 0) (certified : R → Bool) (text : R → List ℕ) → AreTexts SameAs text → (ruled other : List (Ruled ℕ R)) → AllMay (λ x. x < 10 ^ 63) ruled → AllMay (λ x. x < 10 ^ 63) other →
+    boxes_text certified text ruled ≡ boxes_text certified text other → AllZip (SaysSame SameAs) ruled other
+same_boxes SameAs certified text texts ruled other mr mo e =
+    read_all SameAs certified (λ x. x < 10 ^ 63) (line_of_box text) ruled other (boxes_last (counts_of certified ruled 0)) (boxes_last (counts_of certified other 0)) (box_lines SameAs text texts) mr mo
+    (sym (boxes_are certified text ruled) ∙ e ∙ boxes_are certified text other)
 
 -- boxes of the same places
-same_places : (ruled other : List (Ruled ℕ)) → names_of ruled ≡ names_of other → regions_text ruled ≡ regions_text other → AllZip SaysSame ruled other
-same_places ruled other names e =
-    read_alike box_line ruled other (codes "certified" ++ boxes_last (counts_of ruled 0)) (codes "certified" ++ boxes_last (counts_of other 0)) again names
-    (sym (regions_is ruled) ∙ e ∙ regions_is other)
+same_places : {R : Type 0} (SameAs : R → R → Type 0) (certified : R → Bool) (text : R → List ℕ) → AreTexts SameAs text → (ruled other : List (Ruled ℕ R)) → names_of ruled ≡ names_of other →
+    boxes_text certified text ruled ≡ boxes_text certified text other → AllZip (SaysSame SameAs) ruled other
+same_places {R} SameAs certified text texts ruled other names e =
+    read_alike SameAs certified (line_of_box text) ruled other (codes "certified" ++ boxes_last (counts_of certified ruled 0)) (codes "certified" ++ boxes_last (counts_of certified other 0)) again names
+    (sym (boxes_are certified text ruled) ∙ e ∙ boxes_are certified text other)
   where
-    again : (x : ℕ) (r q : Ruling) (s t : List ℕ) → box_line x r ++ s ≡ box_line x q ++ t → Same r q × (s ≡ t)
-    again x r q s t e = read_ruling r q s t (append_cancel_left (box_text x) _ _ (sym (append_assoc (box_text x) (ruling_text r) s) ∙ e ∙ append_assoc (box_text x) (ruling_text q) t))
+    again : (x : ℕ) (r q : R) (s t : List ℕ) → line_of_box text x r ++ s ≡ line_of_box text x q ++ t → SameAs r q × (s ≡ t)
+    again x r q s t e = texts.read r q s t (append_cancel_left (box_text x) _ _ (sym (append_assoc (box_text x) (text r) s) ∙ e ∙ append_assoc (box_text x) (text q) t))
 
 -- ---- the names of an audit
 
@@ -127,36 +137,50 @@ holds m advisory IsIn IsRule (Reported w) Certified same is = absurd same
 holds m advisory IsIn IsRule (Reported w) (Reported v) same is =
     (is.endangered, λ short. shows_as_printed m advisory IsIn w v (same_witness w v short same) is.shown)
 
--- what is said of the same as in true rulings holds
-all_hold : {N : Type 0} (IsRulingOf : N → Ruling → Type 0) (HoldsOf : N → Ruling → Type 0) → ((x : N) (r q : Ruling) → Same r q → IsRulingOf x q → HoldsOf x r) →
-    (ruled other : List (Ruled N)) → AllZip SaysSame ruled other → All (λ r. IsRulingOf r.name r.ruling) other → All (λ r. HoldsOf r.name r.ruling) ruled
-all_hold {N} IsRulingOf HoldsOf by [] [] same are = All-nil (λ (r : Ruled N). HoldsOf r.name r.ruling)
-all_hold IsRulingOf HoldsOf by [] (o ∷ os) same are = absurd same
-all_hold IsRulingOf HoldsOf by (r ∷ rs) [] same are = absurd same
-all_hold {N} IsRulingOf HoldsOf by (r ∷ rs) (o ∷ os) same are =
-    All-cons (λ (r : Ruled N). HoldsOf r.name r.ruling) r rs
-    (subst (λ x. HoldsOf x r.ruling) (sym same.0.name) (by o.name r.ruling o.ruling same.0.ruling (All-head (λ (r : Ruled N). IsRulingOf r.name r.ruling) o os are)))
-    (all_hold IsRulingOf HoldsOf by rs os same.1 (All-tail (λ (r : Ruled N). IsRulingOf r.name r.ruling) o os are))
+holds_of_verdict : (m : ModelData) (may : Manoeuvre) (b : AuditedBox) (r q : MeetVerdict) → SameVerdict r q → IsMeetVerdict m may b q → HoldsOfVerdict m may b r
+holds_of_verdict m may b met.Certified met.Certified same is = is
+holds_of_verdict m may b met.Certified (met.Reported v) same is = absurd same
+holds_of_verdict m may b (met.Reported w) met.Certified same is = absurd same
+holds_of_verdict m may b (met.Reported w) (met.Reported v) same is =
+    (is.endangered, λ short. meets_as_printed m may b w v (same_meeting w v short same) is.shown)
 
-pub cells_hold : (m : ModelData) (a : AdvicesData) (lines : Which) (counts : Counts) (text : List ℕ) (ruled : List (Ruled CellName)) → IsModel m → IsReport m a lines counts text →
+-- what is said of the same as in true rulings holds
+all_hold : {N R : Type 0} (SameAs : R → R → Type 0) (IsRulingOf : N → R → Type 0) (HoldsOf : N → R → Type 0) → ((x : N) (r q : R) → SameAs r q → IsRulingOf x q → HoldsOf x r) →
+    (ruled other : List (Ruled N R)) → AllZip (SaysSame SameAs) ruled other → All (λ r. IsRulingOf r.name r.ruling) other → All (λ r. HoldsOf r.name r.ruling) ruled
+all_hold {N} {R} SameAs IsRulingOf HoldsOf by [] [] same are = All-nil (λ (r : Ruled N R). HoldsOf r.name r.ruling)
+all_hold SameAs IsRulingOf HoldsOf by [] (o ∷ os) same are = absurd same
+all_hold SameAs IsRulingOf HoldsOf by (r ∷ rs) [] same are = absurd same
+all_hold {N} {R} SameAs IsRulingOf HoldsOf by (r ∷ rs) (o ∷ os) same are =
+    All-cons (λ (r : Ruled N R). HoldsOf r.name r.ruling) r rs
+    (subst (λ x. HoldsOf x r.ruling) (sym same.0.name) (by o.name r.ruling o.ruling same.0.ruling (All-head (λ (r : Ruled N R). IsRulingOf r.name r.ruling) o os are)))
+    (all_hold SameAs IsRulingOf HoldsOf by rs os same.1 (All-tail (λ (r : Ruled N R). IsRulingOf r.name r.ruling) o os are))
+
+pub cells_hold : (m : ModelData) (a : AdvicesData) (lines : Which) (counts : Counts) (text : List ℕ) (ruled : List (Ruled CellName Ruling)) → IsModel m → IsReport m a lines counts text →
     names_of ruled ≡ advisory_cells m a → report_text m a lines ruled ≡ text → All (HoldsOfCell m) ruled
 cells_hold m a lines counts text ruled model report names e =
     let same_names : names_of ruled ≡ names_of report.ruled = names ∙ sym report.rulings.all in
     let may = subst (AllByRecursion (IsNameOf m)) (sym names) (audit_names m a) in
     let also = subst (AllByRecursion (IsNameOf m)) same_names may in
-    all_hold (IsRulingOfCell m) (λ name ruling. HoldsOfCell m (record { name = name; ruling = ruling }))
+    all_hold Same (IsRulingOfCell m) (λ name ruling. HoldsOfCell m (record { name = name; ruling = ruling }))
     (λ name r q same is. holds m name.advice (IsInCell m name.n name.i name.j name.k) (IsWitnessOfCell m name) r q same is)
     ruled report.ruled (by lines may also same_names (e ∙ report.printed)) report.rulings.each
   where
     by : (lines : Which) → AllMay (IsNameOf m) ruled → AllMay (IsNameOf m) report.ruled → names_of ruled ≡ names_of report.ruled →
-        report_text m a lines ruled ≡ report_text m a lines report.ruled → AllZip SaysSame ruled report.ruled
+        report_text m a lines ruled ≡ report_text m a lines report.ruled → AllZip (SaysSame Same) ruled report.ruled
     by which.All may also same e = same_lines m a ruled report.ruled model may also e
     by which.Reported may also same e =
         same_reported m a ruled report.ruled model may also (sorted_once (names_of ruled) (subst (IsStrictlySortedBy by_numbers) (sym names) (sorted_advisory_cells m a))) same e
 
-pub boxes_hold : (m : ModelData) (boxes : List AuditedBox) (counts : Counts) (text : List ℕ) (ruled : List (Ruled ℕ)) → IsRegionsReport m boxes counts text →
+pub boxes_hold : (m : ModelData) (boxes : List AuditedBox) (counts : Counts) (text : List ℕ) (ruled : List (Ruled ℕ Ruling)) → IsRegionsReport m boxes counts text →
     names_of ruled ≡ places boxes → regions_text ruled ≡ text → All (HoldsOfBox m boxes) ruled
 boxes_hold m boxes counts text ruled report names e =
-    all_hold (IsRulingAt m boxes) (λ place ruling. HoldsOfBox m boxes (record { name = place; ruling = ruling }))
+    all_hold Same (IsRulingAt m boxes) (λ place ruling. HoldsOfBox m boxes (record { name = place; ruling = ruling }))
     (λ place r q same is. holds m (box_at boxes place).advisory (IsInBox (box_at boxes place).states) (IsWitnessOfBox m (box_at boxes place)) r q same is)
-    ruled report.ruled (same_places ruled report.ruled (names ∙ sym report.rulings.all) (e ∙ report.printed)) report.rulings.each
+    ruled report.ruled (same_places Same is_certified ruling_text ruling_texts ruled report.ruled (names ∙ sym report.rulings.all) (e ∙ report.printed)) report.rulings.each
+
+pub meetings_hold : (m : ModelData) (may : Manoeuvre) (boxes : List AuditedBox) (counts : MeetCounts) (text : List ℕ) (ruled : List (Ruled ℕ MeetVerdict)) → IsMeetingsReport m may boxes counts text →
+    names_of ruled ≡ places boxes → meetings_text ruled ≡ text → All (HoldsOfMeeting m may boxes) ruled
+meetings_hold m may boxes counts text ruled report names e =
+    all_hold SameVerdict (IsMeetVerdictAt m may boxes) (λ place verdict. HoldsOfMeeting m may boxes (record { name = place; ruling = verdict }))
+    (λ place r q same is. holds_of_verdict m may (box_at boxes place) r q same is)
+    ruled report.ruled (same_places SameVerdict is_safe meet_text verdict_texts ruled report.ruled (names ∙ sym report.rulings.all) (e ∙ report.printed)) report.rulings.each

@@ -1,6 +1,7 @@
 pub mod Separators
 pub mod Numerals
 pub mod Fields
+pub mod MeetingFields
 pub mod Names
 pub mod Lines
 pub mod Told

@@ -12,11 +12,11 @@ use Rattle.acas_spec.specs.Limits.{IsModel, is_from, is_name_byte}
 use Rattle.acas_spec.specs.Model.{ModelData, advisory_at}
 use Rattle.acas_cells.specs.declared.name.CellName.{CellName}
 use Rattle.acas_rulings.specs.declared.ruling.Ruling.{Ruling}
-use Rattle.acas_report_lines.specs.Text.{field, ruling_text, cell_text, cell_line, box_text, box_line}
+use Rattle.acas_report_lines.specs.Text.{field, ruling_text, cell_text, cell_line, box_text, line_of_box}
 use Rattle.acas_report_laws.specs.Told.{IsNameOf}
 use Rattle.acas_report_laws.proofs.Separators.{Lacks, Stops, less, peel}
 use Rattle.acas_report_laws.proofs.Numerals.{decimal_bytes, decimal_gives}
-use Rattle.acas_report_laws.proofs.Fields.{Same, ends, no_end, read_ruling, stops_ruling}
+use Rattle.acas_report_laws.proofs.Fields.{AreTexts, Same, ends, no_end, ruling_texts}
 
 name_byte : (b : ℕ) → is_name_byte b ≡ true → 33 ≤ b
 name_byte b e = grind (arith, nat_tests)
@@ -51,9 +51,9 @@ same_advisory m p q model lp lq e = by (cases_order p q)
     by (inr (inr l)) = absurd (model.names.apart q p l (within p lp) (sym same))
 
 -- what is read of a line: of what it is, its ruling, and what follows it
-pub record IsRead {N : Type 0} (x y : N) (r q : Ruling) (s t : List ℕ) : Type 0 where
+pub record IsRead {N R : Type 0} (SameAs : R → R → Type 0) (x y : N) (r q : R) (s t : List ℕ) : Type 0 where
   pub name : x ≡ y
-  pub ruling : Same r q
+  pub ruling : SameAs r q
   pub rest : s ≡ t
 
 read_field : (a b s t : List ℕ) → Lacks ends a → Lacks ends b → Stops ends s → Stops ends t → field a ++ s ≡ field b ++ t → (a ≡ b) × (s ≡ t)
@@ -96,7 +96,7 @@ cell_is : (m : ModelData) (x : CellName) (r : Ruling) (s : List ℕ) → cell_li
 unfolding cell_text from_n from_present from_i from_j from_k from_advice
 cell_is m x r s = simp append_assoc
 
-pub read_cell : (m : ModelData) (x y : CellName) (r q : Ruling) (s t : List ℕ) → IsModel m → IsNameOf m x → IsNameOf m y → cell_line m x r ++ s ≡ cell_line m y q ++ t → IsRead x y r q s t
+pub read_cell : (m : ModelData) (x y : CellName) (r q : Ruling) (s t : List ℕ) → IsModel m → IsNameOf m x → IsNameOf m y → cell_line m x r ++ s ≡ cell_line m y q ++ t → IsRead Same x y r q s t
 unfolding from_n from_present from_i from_j from_k from_advice
 read_cell m x y r q s t model nx ny e =
     let n = read_number x.n y.n (from_present m x (ruling_text r ++ s)) (from_present m y (ruling_text q ++ t)) (omega (arith, model.grid.horizon, nx.cell.n)) (stops_field _ _) (stops_field _ _)
@@ -105,8 +105,8 @@ read_cell m x y r q s t model nx ny e =
     let i = read_number x.i y.i (from_j m x (ruling_text r ++ s)) (from_j m y (ruling_text q ++ t)) (omega (arith, model.grid.altitudes.at_most, nx.cell.i)) (stops_field _ _) (stops_field _ _) present.1 in
     let j = read_number x.j y.j (from_k m x (ruling_text r ++ s)) (from_k m y (ruling_text q ++ t)) (omega (arith, model.grid.own_rates.at_most, nx.cell.j)) (stops_field _ _) (stops_field _ _) i.1 in
     let k = read_number x.k y.k (from_advice m x (ruling_text r ++ s)) (from_advice m y (ruling_text q ++ t)) (omega (arith, model.grid.intruder_rates.at_most, nx.cell.k)) (stops_field _ _) (stops_field _ _) j.1 in
-    let advice = name x.advice y.advice (ruling_text r ++ s) (ruling_text q ++ t) nx.advice ny.advice (stops_ruling r s) (stops_ruling q t) k.1 in
-    let ruling = read_ruling r q s t advice.1 in
+    let advice = name x.advice y.advice (ruling_text r ++ s) (ruling_text q ++ t) nx.advice ny.advice (ruling_texts.stops r s) (ruling_texts.stops q t) k.1 in
+    let ruling = ruling_texts.read r q s t advice.1 in
     record {
       name = λ w. record { n = n.0 w; present = present.0 w; i = i.0 w; j = j.0 w; k = k.0 w; advice = advice.0 w };
       ruling = ruling.0;
@@ -125,15 +125,15 @@ cell_is_not_last m x r s t e = less 108 114 (omega arith) (ap (λ (l : List ℕ)
 
 -- ---- boxes
 
-pub read_box : (x y : ℕ) (r q : Ruling) (s t : List ℕ) → x < 10 ^ 63 → box_line x r ++ s ≡ box_line y q ++ t → IsRead x y r q s t
+pub read_box : {R : Type 0} (SameAs : R → R → Type 0) (text : R → List ℕ) → AreTexts SameAs text → (x y : ℕ) (r q : R) (s t : List ℕ) → x < 10 ^ 63 → line_of_box text x r ++ s ≡ line_of_box text y q ++ t → IsRead SameAs x y r q s t
 unfolding box_text
-read_box x y r q s t small e =
-    let number = read_number x y (ruling_text r ++ s) (ruling_text q ++ t) small (stops_ruling r s) (stops_ruling q t)
-    (append_cancel_left (codes "box") _ _ (sym (append_assoc (codes "box" ++ field (decimal x)) (ruling_text r) s) ∙ e ∙ append_assoc (codes "box" ++ field (decimal y)) (ruling_text q) t)) in
-    let ruling = read_ruling r q s t number.1 in
+read_box SameAs text texts x y r q s t small e =
+    let number = read_number x y (text r ++ s) (text q ++ t) small (texts.stops r s) (texts.stops q t)
+    (append_cancel_left (codes "box") _ _ (sym (append_assoc (codes "box" ++ field (decimal x)) (text r) s) ∙ e ∙ append_assoc (codes "box" ++ field (decimal y)) (text q) t)) in
+    let ruling = texts.read r q s t number.1 in
     record { name = number.0; ruling = ruling.0; rest = ruling.1 }
 
 -- no box's line begins as the last line does
-pub box_is_not_last : {A : Type 0} (x : ℕ) (r : Ruling) (s t : List ℕ) → box_line x r ++ s ≡ codes "certified" ++ t → A
+pub box_is_not_last : {A R : Type 0} (text : R → List ℕ) (x : ℕ) (r : R) (s t : List ℕ) → line_of_box text x r ++ s ≡ codes "certified" ++ t → A
 unfolding box_text
-box_is_not_last x r s t e = less 98 99 (omega arith) (ap (λ (l : List ℕ). get_or l 0 0) e)
+box_is_not_last text x r s t e = less 98 99 (omega arith) (ap (λ (l : List ℕ). get_or l 0 0) e)

@@ -16,7 +16,7 @@ pub less : {A : Type 0} (x y : ℕ) → x < y → x ≡ y → A
 less x y l e = absurd (omega arith)
 
 -- a separator is no byte of a field
-apart : (b : Bool) {A : Type 0} → b ≡ true → b ≡ false → A
+pub apart : (b : Bool) {A : Type 0} → b ≡ true → b ≡ false → A
 apart true e h = absurd (cc)
 apart false e h = absurd (cc)
 

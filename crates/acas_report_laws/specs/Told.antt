@@ -10,6 +10,10 @@ use Rattle.acas_cells.specs.declared.name.CellName.{CellName}
 use Rattle.acas_rulings.specs.declared.ruling.Ruling.{Ruling}
 use Rattle.acas_rulings.specs.declared.ruling.Ruling.TheVariants.{Certified, Reported}
 use Rattle.acas_rulings.specs.Printed.{fractions_of, segments_of}
+use Rattle.acas_meetings.specs.Printed.{against_of, meeting_fractions}
+use Rattle.acas_meetings.specs.declared.meeting.Meeting.{Meeting}
+use Rattle.acas_meetings.specs.declared.verdict.MeetVerdict.{MeetVerdict}
+use Rattle.acas_meetings.specs.declared.verdict.MeetVerdict.TheVariants as met
 use Rattle.acas_report_lines.specs.Report.{Ruled}
 
 -- what is printed of a witness: its numbers, and the segments of its response in order, whichever of them the struct calls a hold
@@ -38,19 +42,38 @@ abbrev pub told_of : Ruling → Option ToldWitness
 told_of Certified = None
 told_of (Reported w) = Some (told_witness w)
 
--- what a line says: of what, and the ruling as it is printed
-pub record Told (N : Type 0) : Type 0 where
-  pub name : N
-  pub ruling : Option ToldWitness
+-- what is printed of a meeting: that of its witness, and the segments of the intruder in order
+pub record ToldMeeting : Type 0 where
+  pub witness : ToldWitness
+  pub against : List Segment
 
-abbrev pub told : {N : Type 0} → Ruled N → Told N
-told r = record { name = r.name; ruling = told_of r.ruling }
+abbrev pub told_meeting : Meeting → ToldMeeting
+told_meeting w = record { witness = told_witness w.witness; against = against_of w }
+
+-- what is printed of a verdict: nothing more, where it is certified, and else the meeting
+abbrev pub told_verdict : MeetVerdict → Option ToldMeeting
+told_verdict met.Certified = None
+told_verdict (met.Reported w) = Some (told_meeting w)
+
+-- what a line says: of what, and the ruling as it is printed
+pub record Told (N T : Type 0) : Type 0 where
+  pub name : N
+  pub ruling : Option T
+
+abbrev pub told_by : {N R T : Type 0} → (R → Option T) → Ruled N R → Told N T
+told_by tell r = record { name = r.name; ruling = tell r.ruling }
+
+abbrev pub told : {N : Type 0} → Ruled N Ruling → Told N ToldWitness
+told r = told_by told_of r
+
+abbrev pub told_met : {N : Type 0} → Ruled N MeetVerdict → Told N ToldMeeting
+told_met r = told_by told_verdict r
 
 -- ---- what may be printed
 
 -- of what the lines are, in order
-abbrev pub names_of : {N : Type 0} → List (Ruled N) → List N
-names_of {N} ruled = map (λ (r : Ruled N). r.name) ruled
+abbrev pub names_of : {N R : Type 0} → List (Ruled N R) → List N
+names_of {N} {R} ruled = map (λ (r : Ruled N R). r.name) ruled
 
 -- a cell of the model under an advice of it
 pub record IsNameOf (m : ModelData) (name : CellName) : Type 0 where
@@ -70,3 +93,12 @@ pub record IsShortWitness (w : Witness) : Type 0 where
 abbrev pub IsShortRuling : Ruling → Type 0
 IsShortRuling Certified = Unit {0}
 IsShortRuling (Reported w) = IsShortWitness w
+
+-- no number of the meeting has more than 63 digits
+pub record IsShortMeeting (w : Meeting) : Type 0 where
+  pub fractions : All IsShort (meeting_fractions w)
+  pub altitude : unsigned_abs w.witness.flight.h < 10 ^ 63
+
+abbrev pub IsShortVerdict : MeetVerdict → Type 0
+IsShortVerdict met.Certified = Unit {0}
+IsShortVerdict (met.Reported w) = IsShortMeeting w

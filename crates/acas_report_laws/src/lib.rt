@@ -5,4 +5,5 @@ mod laws;
 
 pub use laws::{
     begun_reports_begin_the_report, lines_say_their_rulings, printed_rulings_hold, reports_are_one,
+    verdicts_make_one_report,
 };

@@ -12,8 +12,6 @@ use Rattle.acas_cells.specs.Cells.{Cell, below}
 use Rattle.acas_cells.specs.Corners.{under}
 use Rattle.acas_rulings.specs.Rulings.{IsRulingOfCell}
 use Rattle.acas_cells.specs.declared.name.CellName.{CellName}
-use Rattle.acas_rulings.specs.declared.ruling.Ruling.{Ruling}
-use Rattle.acas_report_lines.specs.Text.{is_certified}
 use Rattle.acas_report_lines.specs.Report.{AreRuled, is_left_out, shown}
 use Rattle.acas_report_lines.specs.Plan.{Progress, Wrote, Broke, Room, names_in, lines_in, certified_in, reported_in, clear_in, total, plan_by, single_plan, chosen}
 use Rattle.acas_report_lines.specs.declared.counts.Counts.{Counts}
@@ -23,20 +21,20 @@ use Rattle.acas_report_lines.proofs.Counting.{ruled_one}
 -- ---- one line
 
 -- a line that is left out
-pub prints_left_out : (w : Option (List ℕ)) (waits : List ℕ) (which : Which) (ruling : Ruling) (line : List ℕ) → is_left_out which ruling ≡ true → Prints w w waits waits (shown which ruling line)
-prints_left_out w waits which ruling line out = rw out (prints_nothing w waits)
+pub prints_left_out : (w : Option (List ℕ)) (waits : List ℕ) (which : Which) (certified : Bool) (line : List ℕ) → is_left_out which certified ≡ true → Prints w w waits waits (shown which certified line)
+prints_left_out w waits which certified line out = rw out (prints_nothing w waits)
 
 -- one that is not
-shown_line : (which : Which) (ruling : Ruling) (line : List ℕ) → is_left_out which ruling ≡ false → shown which ruling line ≡ line
-shown_line which ruling line kept = ap (λ b. cond b [] line) kept
+shown_line : (which : Which) (certified : Bool) (line : List ℕ) → is_left_out which certified ≡ false → shown which certified line ≡ line
+shown_line which certified line kept = ap (λ b. cond b [] line) kept
 
-pub prints_shown : (old new : Option (List ℕ)) (waited waits : List ℕ) (which : Which) (ruling : Ruling) (line bytes : List ℕ) → is_left_out which ruling ≡ false → bytes ≡ line → Prints old new waited waits bytes → Prints old new waited waits (shown which ruling line)
-prints_shown old new waited waits which ruling line bytes kept same printed =
-    subst (λ l. Prints old new waited waits l) (same ∙ sym (shown_line which ruling line kept)) printed
+pub prints_shown : (old new : Option (List ℕ)) (waited waits : List ℕ) (which : Which) (certified : Bool) (line bytes : List ℕ) → is_left_out which certified ≡ false → bytes ≡ line → Prints old new waited waits bytes → Prints old new waited waits (shown which certified line)
+prints_shown old new waited waits which certified line bytes kept same printed =
+    subst (λ l. Prints old new waited waits l) (same ∙ sym (shown_line which certified line kept)) printed
 
-pub broke_shown : (old new : Option (List ℕ)) (waited : List ℕ) (which : Which) (ruling : Ruling) (line bytes : List ℕ) → is_left_out which ruling ≡ false → bytes ≡ line → AppendsPart old new (waited ++ bytes) → AppendsPart old new (waited ++ shown which ruling line)
-broke_shown old new waited which ruling line bytes kept same part =
-    subst (λ l. AppendsPart old new (waited ++ l)) (same ∙ sym (shown_line which ruling line kept)) part
+pub broke_shown : (old new : Option (List ℕ)) (waited : List ℕ) (which : Which) (certified : Bool) (line bytes : List ℕ) → is_left_out which certified ≡ false → bytes ≡ line → AppendsPart old new (waited ++ bytes) → AppendsPart old new (waited ++ shown which certified line)
+broke_shown old new waited which certified line bytes kept same part =
+    subst (λ l. AppendsPart old new (waited ++ l)) (same ∙ sym (shown_line which certified line kept)) part
 
 if_so : (b : Bool) (m n : ℕ) → n ≡ cond b (m + 1) m → n ≡ m + (0 + cond b 1 0)
 if_so true m n e = e
@@ -46,34 +44,43 @@ if_not : (b : Bool) (m n : ℕ) → n ≡ cond b m (m + 1) → n ≡ m + (0 + co
 if_not true m n e = e ∙ sym (add-zero m)
 if_not false m n e = e
 
+-- the counts p with one more, which is certified where b is true, are q
+pub record OneMore (b : Bool) (p q : Counts) : Type 0 where
+  pub certified : q.certified ≡ cond b (p.certified + 1) p.certified
+  pub reported : q.reported ≡ cond b p.reported (p.reported + 1)
+  pub clear : q.clear ≡ p.clear
+
+pub counted_one : (b certified : Bool) (p q : Counts) → b ≡ certified → q.certified ≡ cond b (p.certified + 1) p.certified → q.reported ≡ cond b p.reported (p.reported + 1) → q.clear ≡ p.clear → OneMore certified p q
+counted_one b certified p q same cert rep clr = subst (λ (c : Bool). OneMore c p q) same (record { certified = cert; reported = rep; clear = clr })
+
 -- one that is ruled on, printed where it is not left out, and counted
-pub wrote_name : {N : Type 0} (IsRulingOf : N → Ruling → Type 0) (line : N → Ruling → List ℕ) (which : Which) (name : N) (ruling : Ruling) (p q : Progress) → IsRulingOf name ruling → Prints p.written q.written p.waits q.waits (shown which ruling (line name ruling)) → q.counts.certified ≡ cond (is_certified ruling) (p.counts.certified + 1) p.counts.certified → q.counts.reported ≡ cond (is_certified ruling) p.counts.reported (p.counts.reported + 1) → q.counts.clear ≡ p.counts.clear → Wrote (single_plan IsRulingOf line which) p q (name ∷ [])
+pub wrote_name : {N R : Type 0} (IsRulingOf : N → R → Type 0) (certified : R → Bool) (line : N → R → List ℕ) (which : Which) (name : N) (ruling : R) (p q : Progress) → IsRulingOf name ruling → Prints p.written q.written p.waits q.waits (shown which (certified ruling) (line name ruling)) → OneMore (certified ruling) p.counts q.counts → Wrote (single_plan IsRulingOf certified line which) p q (name ∷ [])
 unfolding names_in lines_in certified_in reported_in clear_in
-wrote_name IsRulingOf line which name ruling p q is printed cert rep clr = record {
+wrote_name IsRulingOf certified line which name ruling p q is printed more = record {
   ruled = record { name = name; ruling = ruling } ∷ [];
   rulings = ruled_one IsRulingOf name ruling is;
-  printed = rw (append-nil (shown which ruling (line name ruling))) printed;
-  certified = if_so (is_certified ruling) p.counts.certified q.counts.certified cert;
-  reported = if_not (is_certified ruling) p.counts.reported q.counts.reported rep;
-  clear = clr ∙ sym (add-zero p.counts.clear);
+  printed = rw (append-nil (shown which (certified ruling) (line name ruling))) printed;
+  certified = if_so (certified ruling) p.counts.certified q.counts.certified more.certified;
+  reported = if_not (certified ruling) p.counts.reported q.counts.reported more.reported;
+  clear = more.clear ∙ sym (add-zero p.counts.clear);
 }
 
 -- one whose line could not be printed
-pub broke_name : {N : Type 0} (IsRulingOf : N → Ruling → Type 0) (line : N → Ruling → List ℕ) (which : Which) (name : N) (ruling : Ruling) (old : Option (List ℕ)) (waited : List ℕ) (new : Option (List ℕ)) → IsRulingOf name ruling → AppendsPart old new (waited ++ shown which ruling (line name ruling)) → Broke (single_plan IsRulingOf line which) old waited new (name ∷ [])
+pub broke_name : {N R : Type 0} (IsRulingOf : N → R → Type 0) (certified : R → Bool) (line : N → R → List ℕ) (which : Which) (name : N) (ruling : R) (old : Option (List ℕ)) (waited : List ℕ) (new : Option (List ℕ)) → IsRulingOf name ruling → AppendsPart old new (waited ++ shown which (certified ruling) (line name ruling)) → Broke (single_plan IsRulingOf certified line which) old waited new (name ∷ [])
 unfolding names_in lines_in
-broke_name IsRulingOf line which name ruling old waited new is part = record {
+broke_name IsRulingOf certified line which name ruling old waited new is part = record {
   first = name ∷ [];
   rest = [];
   order = refl;
   ruled = record { name = name; ruling = ruling } ∷ [];
   rulings = ruled_one IsRulingOf name ruling is;
-  part = rw (append-nil (shown which ruling (line name ruling))) part;
+  part = rw (append-nil (shown which (certified ruling) (line name ruling))) part;
 }
 
 -- one that is ruled on can be counted
-pub room_single : {N : Type 0} (IsRulingOf : N → Ruling → Type 0) (line : N → Ruling → List ℕ) (which : Which) (name : N) (counts : Counts) → Room (single_plan IsRulingOf line which) counts (name ∷ []) → total counts + 1 < 2 ^ 64
+pub room_single : {N R : Type 0} (IsRulingOf : N → R → Type 0) (certified : R → Bool) (line : N → R → List ℕ) (which : Which) (name : N) (counts : Counts) → Room (single_plan IsRulingOf certified line which) counts (name ∷ []) → total counts + 1 < 2 ^ 64
 unfolding names_in
-room_single IsRulingOf line which name counts room = omega (arith, room.fits)
+room_single IsRulingOf certified line which name counts room = omega (arith, room.fits)
 
 -- ---- other items
 

@@ -3,21 +3,19 @@ use Rattle.std.proofs.Common.{◌≡◌, ◌+◌, not, Bool, true, false, List, 
 use Rattle.std.proofs.lemmas.List.Sums.{sum_by-append, sum_by-cons}
 use Rattle.std.proofs.lemmas.List.Elements.{All-append, All-nil, All-cons}
 use Rattle.std.proofs.lemmas.List.{length-map, map-append}
-use Rattle.acas_rulings.specs.declared.ruling.Ruling.{Ruling}
-use Rattle.acas_report_lines.specs.Text.{is_certified}
 use Rattle.acas_report_lines.specs.Report.{Ruled, AreRuled}
 use Rattle.acas_report_lines.specs.Plan.{certified_in, reported_in}
 
 pub count_by-append : {X : Type 0} (p : X → Bool) (xs ys : List X) → count_by p (xs ++ ys) ≡ count_by p xs + count_by p ys
 count_by-append p xs ys = sum_by-append (λ x. cond (p x) 1 0) xs ys
 
-pub certified-append : {N : Type 0} (rs ss : List (Ruled N)) → certified_in (rs ++ ss) ≡ certified_in rs + certified_in ss
+pub certified-append : {N R : Type 0} (certified : R → Bool) (rs ss : List (Ruled N R)) → certified_in certified (rs ++ ss) ≡ certified_in certified rs + certified_in certified ss
 unfolding certified_in
-certified-append rs ss = count_by-append (λ r. is_certified r.ruling) rs ss
+certified-append certified rs ss = count_by-append (λ r. certified r.ruling) rs ss
 
-pub reported-append : {N : Type 0} (rs ss : List (Ruled N)) → reported_in (rs ++ ss) ≡ reported_in rs + reported_in ss
+pub reported-append : {N R : Type 0} (certified : R → Bool) (rs ss : List (Ruled N R)) → reported_in certified (rs ++ ss) ≡ reported_in certified rs + reported_in certified ss
 unfolding reported_in
-reported-append rs ss = count_by-append (λ r. not (is_certified r.ruling)) rs ss
+reported-append certified rs ss = count_by-append (λ r. not (certified r.ruling)) rs ss
 
 one_kind : (b : Bool) → cond b 1 0 + cond (not b) 1 0 ≡ 1
 one_kind true = refl
@@ -36,13 +34,13 @@ both_kinds p (x ∷ xs) =
     )
 
 -- as many are counted as are ruled on
-pub kinds_all : {N : Type 0} (IsRulingOf : N → Ruling → Type 0) (names : List N) (rs : List (Ruled N)) → AreRuled IsRulingOf names rs → certified_in rs + reported_in rs ≡ length names
+pub kinds_all : {N R : Type 0} (IsRulingOf : N → R → Type 0) (certified : R → Bool) (names : List N) (rs : List (Ruled N R)) → AreRuled IsRulingOf names rs → certified_in certified rs + reported_in certified rs ≡ length names
 unfolding certified_in reported_in
-kinds_all IsRulingOf names rs are =
-    both_kinds (λ r. is_certified r.ruling) rs ∙ sym (length-map rs (λ r. r.name)) ∙ ap length are.all
+kinds_all IsRulingOf certified names rs are =
+    both_kinds (λ r. certified r.ruling) rs ∙ sym (length-map rs (λ r. r.name)) ∙ ap length are.all
 
 -- rulings of one list and of the next
-pub ruled_append : {N : Type 0} (IsRulingOf : N → Ruling → Type 0) (xs ys : List N) (rs ss : List (Ruled N)) → AreRuled IsRulingOf xs rs → AreRuled IsRulingOf ys ss → AreRuled IsRulingOf (xs ++ ys) (rs ++ ss)
+pub ruled_append : {N R : Type 0} (IsRulingOf : N → R → Type 0) (xs ys : List N) (rs ss : List (Ruled N R)) → AreRuled IsRulingOf xs rs → AreRuled IsRulingOf ys ss → AreRuled IsRulingOf (xs ++ ys) (rs ++ ss)
 ruled_append IsRulingOf xs ys rs ss first then = record {
   all =
       map-append (λ r. r.name) rs ss
@@ -51,10 +49,10 @@ ruled_append IsRulingOf xs ys rs ss first then = record {
   each = All-append (λ r. IsRulingOf r.name r.ruling) rs ss first.each then.each;
 }
 
-pub ruled_none : {N : Type 0} (IsRulingOf : N → Ruling → Type 0) → AreRuled IsRulingOf [] []
+pub ruled_none : {N R : Type 0} (IsRulingOf : N → R → Type 0) → AreRuled IsRulingOf [] []
 ruled_none IsRulingOf = record { all = refl; each = All-nil (λ r. IsRulingOf r.name r.ruling) }
 
-pub ruled_one : {N : Type 0} (IsRulingOf : N → Ruling → Type 0) (name : N) (ruling : Ruling) → IsRulingOf name ruling → AreRuled IsRulingOf (name ∷ []) (record { name = name; ruling = ruling } ∷ [])
+pub ruled_one : {N R : Type 0} (IsRulingOf : N → R → Type 0) (name : N) (ruling : R) → IsRulingOf name ruling → AreRuled IsRulingOf (name ∷ []) (record { name = name; ruling = ruling } ∷ [])
 ruled_one IsRulingOf name ruling is = record {
   all = refl;
   each = All-cons (λ r. IsRulingOf r.name r.ruling) (record { name = name; ruling = ruling }) [] is (All-nil (λ r. IsRulingOf r.name r.ruling));

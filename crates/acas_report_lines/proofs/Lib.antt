@@ -9,3 +9,4 @@ pub mod Steps
 pub mod Carry
 pub mod Subjects
 pub mod Begun
+pub mod Reports

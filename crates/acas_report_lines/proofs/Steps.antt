@@ -9,20 +9,20 @@ use Rattle.acas_report_lines.specs.Report.{Ruled, shown}
 use Rattle.acas_report_lines.specs.Plan.{Plan, Progress, Wrote, Broke, Room, names_in, lines_in, certified_in, reported_in, clear_in}
 use Rattle.acas_report_lines.proofs.Counting.{count_by-append, certified-append, reported-append, kinds_all, ruled_append, ruled_none}
 
-pub names-append : {N X : Type 0} (plan : Plan N X) (xs ys : List X) → names_in plan (xs ++ ys) ≡ names_in plan xs ++ names_in plan ys
+pub names-append : {N X R : Type 0} (plan : Plan N X R) (xs ys : List X) → names_in plan (xs ++ ys) ≡ names_in plan xs ++ names_in plan ys
 unfolding names_in
 names-append plan xs ys = flat_map-append plan.names xs ys
 
-pub lines-append : {N X : Type 0} (plan : Plan N X) (rs ss : List (Ruled N)) → lines_in plan (rs ++ ss) ≡ lines_in plan rs ++ lines_in plan ss
+pub lines-append : {N X R : Type 0} (plan : Plan N X R) (rs ss : List (Ruled N R)) → lines_in plan (rs ++ ss) ≡ lines_in plan rs ++ lines_in plan ss
 unfolding lines_in
-lines-append plan rs ss = flat_map-append (λ r. shown plan.which r.ruling (plan.line r.name r.ruling)) rs ss
+lines-append plan rs ss = flat_map-append (λ r. shown plan.which (plan.certified r.ruling) (plan.line r.name r.ruling)) rs ss
 
-pub clear-append : {N X : Type 0} (plan : Plan N X) (xs ys : List X) → clear_in plan (xs ++ ys) ≡ clear_in plan xs + clear_in plan ys
+pub clear-append : {N X R : Type 0} (plan : Plan N X R) (xs ys : List X) → clear_in plan (xs ++ ys) ≡ clear_in plan xs + clear_in plan ys
 unfolding clear_in
 clear-append plan xs ys = count_by-append plan.is_clear xs ys
 
 -- nothing is written for no item
-pub wrote_none : {N X : Type 0} (plan : Plan N X) (at : Progress) → Wrote plan at at []
+pub wrote_none : {N X R : Type 0} (plan : Plan N X R) (at : Progress) → Wrote plan at at []
 unfolding names_in lines_in certified_in reported_in clear_in
 wrote_none plan at = record {
   ruled = [];
@@ -34,18 +34,18 @@ wrote_none plan at = record {
 }
 
 -- some items, and then others
-wrote_both : {N X : Type 0} (plan : Plan N X) (p q r : Progress) (xs ys : List X) → Wrote plan p q xs → Wrote plan q r ys → Wrote plan p r (xs ++ ys)
+wrote_both : {N X R : Type 0} (plan : Plan N X R) (p q r : Progress) (xs ys : List X) → Wrote plan p q xs → Wrote plan q r ys → Wrote plan p r (xs ++ ys)
 wrote_both plan p q r xs ys first then = record {
   ruled = first.ruled ++ then.ruled;
   rulings = rw (names-append plan xs ys) (ruled_append plan.IsRulingOf _ _ first.ruled then.ruled first.rulings then.rulings);
   printed = rw (lines-append plan first.ruled then.ruled) (prints_both _ _ _ _ _ _ _ _ first.printed then.printed);
-  certified = omega (arith, first.certified, then.certified, certified-append first.ruled then.ruled);
-  reported = omega (arith, first.reported, then.reported, reported-append first.ruled then.ruled);
+  certified = omega (arith, first.certified, then.certified, certified-append plan.certified first.ruled then.ruled);
+  reported = omega (arith, first.reported, then.reported, reported-append plan.certified first.ruled then.ruled);
   clear = omega (arith, first.clear, then.clear, clear-append plan xs ys);
 }
 
 -- some items, and then a failure at others
-broke_both : {N X : Type 0} (plan : Plan N X) (p q : Progress) (new : Option (List ℕ)) (xs ys : List X) → Wrote plan p q xs → Broke plan q.written q.waits new ys → Broke plan p.written p.waits new (xs ++ ys)
+broke_both : {N X R : Type 0} (plan : Plan N X R) (p q : Progress) (new : Option (List ℕ)) (xs ys : List X) → Wrote plan p q xs → Broke plan q.written q.waits new ys → Broke plan p.written p.waits new (xs ++ ys)
 broke_both plan p q new xs ys first then = record {
   first = names_in plan xs ++ then.first;
   rest = then.rest;
@@ -59,7 +59,7 @@ broke_both plan p q new xs ys first then = record {
 }
 
 -- a failure at some items is one at more
-broke_longer : {N X : Type 0} (plan : Plan N X) (old : Option (List ℕ)) (waited : List ℕ) (new : Option (List ℕ)) (xs ys : List X) → Broke plan old waited new xs → Broke plan old waited new (xs ++ ys)
+broke_longer : {N X R : Type 0} (plan : Plan N X R) (old : Option (List ℕ)) (waited : List ℕ) (new : Option (List ℕ)) (xs ys : List X) → Broke plan old waited new xs → Broke plan old waited new (xs ++ ys)
 broke_longer plan old waited new xs ys broke = record {
   first = broke.first;
   rest = broke.rest ++ names_in plan ys;
@@ -95,17 +95,17 @@ split_at f (suc m) i here =
     elim (cases_lt i m) [ inl before ↦ split_more f m i (split_at f m i before) | inr past ↦ split_last f m i (omega arith) ]
 
 -- a turn of a loop
-pub wrote_more : {N X : Type 0} (plan : Plan N X) (f : ℕ → List X) (i : ℕ) (p q r : Progress) → Wrote plan p q (below i f) → Wrote plan q r (f i) → Wrote plan p r (below (i + 1) f)
+pub wrote_more : {N X R : Type 0} (plan : Plan N X R) (f : ℕ → List X) (i : ℕ) (p q r : Progress) → Wrote plan p q (below i f) → Wrote plan q r (f i) → Wrote plan p r (below (i + 1) f)
 wrote_more plan f i p q r first then = rw (add-one i) (wrote_both plan p q r (below i f) (f i) first then)
 
 -- a turn of a loop in which printing failed
-pub broke_more : {N X : Type 0} (plan : Plan N X) (f : ℕ → List X) (n i : ℕ) (p q : Progress) (new : Option (List ℕ)) → i < n → Wrote plan p q (below i f) → Broke plan q.written q.waits new (f i) → Broke plan p.written p.waits new (below n f)
+pub broke_more : {N X R : Type 0} (plan : Plan N X R) (f : ℕ → List X) (n i : ℕ) (p q : Progress) (new : Option (List ℕ)) → i < n → Wrote plan p q (below i f) → Broke plan q.written q.waits new (f i) → Broke plan p.written p.waits new (below n f)
 broke_more plan f n i p q new here first then =
     let s = split_at f n i here in
     subst (Broke plan p.written p.waits new) (sym s.whole) (broke_longer plan p.written p.waits new (below i f ++ f i) s.rest (broke_both plan p q new (below i f) (f i) first then))
 
 -- a turn's items can be counted where all can
-pub room_left : {N X : Type 0} (plan : Plan N X) (f : ℕ → List X) (n i : ℕ) (p q : Progress) → i < n → Room plan p.counts (below n f) → Wrote plan p q (below i f) → Room plan q.counts (f i)
+pub room_left : {N X R : Type 0} (plan : Plan N X R) (f : ℕ → List X) (n i : ℕ) (p q : Progress) → i < n → Room plan p.counts (below n f) → Wrote plan p q (below i f) → Room plan q.counts (f i)
 room_left plan f n i p q here room first =
     let s = split_at f n i here in
     record {
@@ -120,7 +120,7 @@ room_left plan f n i p q here room first =
         ap (clear_in plan) s.whole,
         clear-append plan (below i f ++ f i) s.rest,
         clear-append plan (below i f) (f i),
-        kinds_all plan.IsRulingOf (names_in plan (below i f)) first.ruled first.rulings,
+        kinds_all plan.IsRulingOf plan.certified (names_in plan (below i f)) first.ruled first.rulings,
         first.certified,
         first.reported,
         first.clear,

@@ -1,5 +1,5 @@
--- What the two reports are on.
-use Rattle.std.proofs.Common.{◌≡◌, ◌≤◌, ◌<◌, List, [], ◌∷◌, length, refl, ap, ◌*◌, ◌^◌, arith}
+-- What reports are on.
+use Rattle.std.proofs.Common.{ℕ, Bool, ◌≡◌, ◌≤◌, ◌<◌, List, [], ◌∷◌, length, refl, ap, ◌*◌, ◌^◌, arith}
 use Rattle.acas_spec.specs.Model.{ModelData}
 use Rattle.acas_base.specs.Advices.{AdvicesData}
 use Rattle.acas_rulings.specs.Boxes.{AuditedBox}
@@ -7,7 +7,7 @@ use Rattle.acas_cells.specs.Cells.{cells_of}
 use Rattle.acas_cells.specs.Corners.{advisory_cells}
 use Rattle.acas_report_lines.specs.Text.{counts_text, box_counts_text}
 use Rattle.acas_report_lines.specs.Report.{clear_cells, report_text}
-use Rattle.acas_report_lines.specs.Regions.{places, regions_text}
+use Rattle.acas_report_lines.specs.Regions.{boxes_text, places}
 use Rattle.acas_report_lines.specs.Plan.{Room, cell_plan, box_plan, names_in, lines_in, clear_in}
 use Rattle.acas_report_lines.specs.declared.counts.Counts.{Counts}
 use Rattle.acas_report_lines.specs.declared.counts.Which.{Which}
@@ -19,17 +19,17 @@ pub of_cells : (m : ModelData) (a : AdvicesData) (which : Which) → IsOf (cell_
 unfolding names_in lines_in clear_in report_text
 of_cells m a which = record { names_are = refl; clear_are = refl; text_is = λ ruled. refl }
 
-pub of_boxes : (m : ModelData) (boxes : List AuditedBox) → IsOf (box_plan m boxes) (places boxes) (places boxes) 0 regions_text box_counts_text
-unfolding names_in lines_in clear_in regions_text
-of_boxes m boxes = record {
+pub of_boxes : {R : Type 0} (IsRulingOf : AuditedBox → R → Type 0) (certified : R → Bool) (text : R → List ℕ) (boxes : List AuditedBox) → IsOf (box_plan IsRulingOf certified text boxes) (places boxes) (places boxes) 0 (boxes_text certified text) box_counts_text
+unfolding names_in lines_in clear_in boxes_text
+of_boxes IsRulingOf certified text boxes = record {
   names_are = names_eq (length boxes) (λ place. place ∷ []) (λ place. place ∷ []) (λ place. refl);
   clear_are = count_by-never (places boxes);
   text_is = λ ruled. refl;
 }
 
 -- all boxes can be counted
-pub room_boxes : (m : ModelData) (boxes : List AuditedBox) (counts : Counts) → length boxes < 2 ^ 32 → counts.certified ≡ 0 → counts.reported ≡ 0 → counts.clear ≡ 0 → Room (box_plan m boxes) counts (places boxes)
-room_boxes m boxes counts few cert rep clr =
-    let is = of_boxes m boxes in
+pub room_boxes : {R : Type 0} (IsRulingOf : AuditedBox → R → Type 0) (certified : R → Bool) (text : R → List ℕ) (boxes : List AuditedBox) (counts : Counts) → length boxes < 2 ^ 32 → counts.certified ≡ 0 → counts.reported ≡ 0 → counts.clear ≡ 0 → Room (box_plan IsRulingOf certified text boxes) counts (places boxes)
+room_boxes IsRulingOf certified text boxes counts few cert rep clr =
+    let is = of_boxes IsRulingOf certified text boxes in
     let all : length (places boxes) ≤ length boxes * 1 = length_below (length boxes) 1 (λ place. place ∷ []) (λ place. omega arith) in
     record { fits = omega (arith, few, cert, rep, clr, all, ap length is.names_are, is.clear_are) }

@@ -13,9 +13,9 @@ use Rattle.acas_cells.specs.Sets.{holds}
 use Rattle.acas_cells.specs.declared.name.CellName.{CellName}
 use Rattle.acas_rulings.specs.declared.ruling.Ruling.{Ruling}
 use Rattle.acas_cells.specs.declared.set.AdviceSet.{AdviceSet}
-use Rattle.acas_report_lines.specs.Text.{box_line, cell_line, is_certified}
+use Rattle.acas_report_lines.specs.Text.{cell_line, is_certified, line_of_box}
 use Rattle.acas_report_lines.specs.Report.{Ruled, AreRuled, lines_of}
-use Rattle.acas_report_lines.specs.Regions.{IsRulingAt}
+use Rattle.acas_report_lines.specs.Regions.{IsSaidAt}
 use Rattle.acas_report_lines.specs.declared.audit.Audit.{Audit}
 use Rattle.acas_report_lines.specs.declared.audit.Place.{Place}
 use Rattle.acas_report_lines.specs.declared.counts.Counts.{Counts}
@@ -23,32 +23,34 @@ use Rattle.acas_report_lines.specs.declared.counts.Which.{Which}
 use Rattle.acas_report_lines.specs.declared.counts.Which.TheVariants as which
 use Rattle.acas_report_lines.specs.declared.pen.Pen.{Pen}
 
--- what is ruled on for an item, what a ruling of it is, its line, which lines are written, and whether an item is clear
-pub record Plan (N X : Type 0) : Type 1 where
-  pub IsRulingOf : N → Ruling → Type 0
-  pub line : N → Ruling → List ℕ
+-- what is ruled on for an item, what a ruling of it is, whether that is certified, its line, which lines are written, and whether an
+-- item is clear
+pub record Plan (N X R : Type 0) : Type 1 where
+  pub IsRulingOf : N → R → Type 0
+  pub certified : R → Bool
+  pub line : N → R → List ℕ
   pub which : Which
   pub names : X → List N
   pub is_clear : X → Bool
 
 -- all that is ruled on, in order
-unfoldable pub names_in : {N X : Type 0} → Plan N X → List X → List N
+unfoldable pub names_in : {N X R : Type 0} → Plan N X R → List X → List N
 names_in plan items = flat_map plan.names items
 
 -- the lines of what is ruled on
-unfoldable pub lines_in : {N X : Type 0} → Plan N X → List (Ruled N) → List ℕ
-lines_in plan ruled = lines_of plan.line plan.which ruled
+unfoldable pub lines_in : {N X R : Type 0} → Plan N X R → List (Ruled N R) → List ℕ
+lines_in plan ruled = lines_of plan.certified plan.line plan.which ruled
 
 -- how many of them are certified
-unfoldable pub certified_in : {N : Type 0} → List (Ruled N) → ℕ
-certified_in ruled = count_by (λ r. is_certified r.ruling) ruled
+unfoldable pub certified_in : {N R : Type 0} → (R → Bool) → List (Ruled N R) → ℕ
+certified_in certified ruled = count_by (λ r. certified r.ruling) ruled
 
 -- how many of them are reported
-unfoldable pub reported_in : {N : Type 0} → List (Ruled N) → ℕ
-reported_in ruled = count_by (λ r. not (is_certified r.ruling)) ruled
+unfoldable pub reported_in : {N R : Type 0} → (R → Bool) → List (Ruled N R) → ℕ
+reported_in certified ruled = count_by (λ r. not (certified r.ruling)) ruled
 
 -- how many items are clear
-unfoldable pub clear_in : {N X : Type 0} → Plan N X → List X → ℕ
+unfoldable pub clear_in : {N X R : Type 0} → Plan N X R → List X → ℕ
 clear_in plan items = count_by plan.is_clear items
 
 -- how far a report is: what was written, what waits to be, and the counts
@@ -62,20 +64,20 @@ abbrev pub progress : Option (List ℕ) → Pen → Progress
 progress written pen = record { written = written; waits = pen.buffer; counts = pen.counts }
 
 -- these items were ruled on, printed and counted
-pub record Wrote {N X : Type 0} (plan : Plan N X) (old new : Progress) (items : List X) : Type 0 where
-  pub ruled : List (Ruled N)
+pub record Wrote {N X R : Type 0} (plan : Plan N X R) (old new : Progress) (items : List X) : Type 0 where
+  pub ruled : List (Ruled N R)
   pub rulings : AreRuled plan.IsRulingOf (names_in plan items) ruled
   pub printed : Prints old.written new.written old.waits new.waits (lines_in plan ruled)
-  pub certified : new.counts.certified ≡ old.counts.certified + certified_in ruled
-  pub reported : new.counts.reported ≡ old.counts.reported + reported_in ruled
+  pub certified : new.counts.certified ≡ old.counts.certified + certified_in plan.certified ruled
+  pub reported : new.counts.reported ≡ old.counts.reported + reported_in plan.certified ruled
   pub clear : new.counts.clear ≡ old.counts.clear + clear_in plan items
 
 -- printing these items failed: the first were ruled on, and a proper prefix of what waited and of their lines went out
-pub record Broke {N X : Type 0} (plan : Plan N X) (old : Option (List ℕ)) (waited : List ℕ) (new : Option (List ℕ)) (items : List X) : Type 0 where
+pub record Broke {N X R : Type 0} (plan : Plan N X R) (old : Option (List ℕ)) (waited : List ℕ) (new : Option (List ℕ)) (items : List X) : Type 0 where
   pub first : List N
   pub rest : List N
   pub order : first ++ rest ≡ names_in plan items
-  pub ruled : List (Ruled N)
+  pub ruled : List (Ruled N R)
   pub rulings : AreRuled plan.IsRulingOf first ruled
   pub part : AppendsPart old new (waited ++ lines_in plan ruled)
 
@@ -86,15 +88,16 @@ abbrev pub total : Counts → ℕ
 total counts = counts.certified + counts.reported + counts.clear
 
 -- all these items can be counted
-pub record Room {N X : Type 0} (plan : Plan N X) (counts : Counts) (items : List X) : Type 0 where
+pub record Room {N X R : Type 0} (plan : Plan N X R) (counts : Counts) (items : List X) : Type 0 where
   pub fits : total counts + length (names_in plan items) + clear_in plan items < 2 ^ 64
 
 -- ---- plans
 
 -- each item is ruled on itself
-abbrev pub single_plan : {N : Type 0} → (N → Ruling → Type 0) → (N → Ruling → List ℕ) → Which → Plan N N
-single_plan IsRulingOf line which = record {
+abbrev pub single_plan : {N R : Type 0} → (N → R → Type 0) → (R → Bool) → (N → R → List ℕ) → Which → Plan N N R
+single_plan IsRulingOf certified line which = record {
   IsRulingOf = IsRulingOf;
+  certified = certified;
   line = line;
   which = which;
   names = λ name. name ∷ [];
@@ -102,17 +105,18 @@ single_plan IsRulingOf line which = record {
 }
 
 -- the plan of boxes by their places
-abbrev pub box_plan : ModelData → List AuditedBox → Plan ℕ ℕ
-box_plan m boxes = single_plan (IsRulingAt m boxes) box_line which.All
+abbrev pub box_plan : {R : Type 0} → (AuditedBox → R → Type 0) → (R → Bool) → (R → List ℕ) → List AuditedBox → Plan ℕ ℕ R
+box_plan IsRulingOf certified text boxes = single_plan (IsSaidAt IsRulingOf boxes) certified (line_of_box text) which.All
 
 -- the plan of cells under an advice
-abbrev pub name_plan : ModelData → Which → Plan CellName CellName
-name_plan m which = single_plan (IsRulingOfCell m) (cell_line m) which
+abbrev pub name_plan : ModelData → Which → Plan CellName CellName Ruling
+name_plan m which = single_plan (IsRulingOfCell m) is_certified (cell_line m) which
 
 -- the plan of items that have cells under an advice
-abbrev pub plan_by : {X : Type 0} → ModelData → Which → (X → List CellName) → (X → Bool) → Plan CellName X
+abbrev pub plan_by : {X : Type 0} → ModelData → Which → (X → List CellName) → (X → Bool) → Plan CellName X Ruling
 plan_by m which names is_clear = record {
   IsRulingOf = IsRulingOfCell m;
+  certified = is_certified;
   line = cell_line m;
   which = which;
   names = names;
@@ -120,7 +124,7 @@ plan_by m which names is_clear = record {
 }
 
 -- the plan of the cells
-abbrev pub cell_plan : ModelData → AdvicesData → Which → Plan CellName Cell
+abbrev pub cell_plan : ModelData → AdvicesData → Which → Plan CellName Cell Ruling
 cell_plan m a which = plan_by m which (names_at m a) (is_clear_cell m a)
 
 -- the cell under an advice, where it is not clear and is in a set
@@ -128,7 +132,7 @@ abbrev pub chosen : Cell → (ℕ → Bool) → ℕ → List CellName
 chosen c set advice = if not (advice == 0) && set advice then under c advice ∷ [] else []
 
 -- the plan of the advices of one cell
-abbrev pub advice_plan : ModelData → Which → Cell → (ℕ → Bool) → Plan CellName ℕ
+abbrev pub advice_plan : ModelData → Which → Cell → (ℕ → Bool) → Plan CellName ℕ Ruling
 advice_plan m which c set = plan_by m which (chosen c set) (λ advice. false)
 
 -- ---- what the calls on an audit have at hand
@@ -138,9 +142,9 @@ abbrev pub place_cell : Place → Cell
 place_cell at = cell_at at.n at.present at.i at.j at.k
 
 -- the plan of an audit's cells
-abbrev pub plan_of : Audit → Plan CellName Cell
+abbrev pub plan_of : Audit → Plan CellName Cell Ruling
 plan_of audit = cell_plan audit.model.now audit.advices.now audit.which
 
 -- that of the advices of one of its cells, where they are in a set
-abbrev pub set_plan : Audit → Place → AdviceSet → Plan CellName ℕ
+abbrev pub set_plan : Audit → Place → AdviceSet → Plan CellName ℕ Ruling
 set_plan audit at set = advice_plan audit.model.now audit.which (place_cell at) (holds set)

@@ -73,9 +73,13 @@ box_text number = codes "box" ++ field (decimal number)
 abbrev pub cell_line : ModelData → CellName → Ruling → List ℕ
 cell_line m name ruling = cell_text m name ++ ruling_text ruling
 
--- the line of a box
+-- the line of a box, by the text of a ruling of any kind
+abbrev pub line_of_box : {R : Type 0} → (R → List ℕ) → ℕ → R → List ℕ
+line_of_box text number ruling = box_text number ++ text ruling
+
+-- that of a box whose intruder holds its rate
 abbrev pub box_line : ℕ → Ruling → List ℕ
-box_line number ruling = box_text number ++ ruling_text ruling
+box_line number ruling = line_of_box ruling_text number ruling
 
 -- ---- counts
 

@@ -14,6 +14,7 @@ use crate::counts::leaves_out;
 use crate::lines::write_cell_line;
 use crate::pen::Pen;
 use crate::rulings::Rulings;
+use crate::said::Said;
 use acas_cells::{AdviceSet, CellName, advices_at};
 use acas_count::Counter;
 use acas_outside::{Failed, Sink};
@@ -296,8 +297,9 @@ fn write_name<R: Rulings, S: Sink>(
     ensures frame { Emits S.Sink sink.old sink.new (IsErr result) }
 {
     let ruling = rulings.ruling(audit.model, name);
-    pen.counts.count(&ruling);
-    if leaves_out(audit.which, &ruling) {
+    let certified = ruling.is_certified();
+    pen.counts.count(certified);
+    if leaves_out(audit.which, certified) {
         return Ok(());
     }
     write_cell_line(&mut pen.line, audit.model, name, &ruling);

@@ -2,9 +2,7 @@
 ghost use Rattle.std.specs.Prelude.{◌≡◌, ◌+◌, ◌<◌, ◌^◌, if◌then◌else◌, true};
 ghost use Rattle.acas_report_lines.specs.Plan.{total};
 ghost use Rattle.acas_report_lines.specs.Report.{is_left_out};
-ghost use Rattle.acas_report_lines.specs.Text.{is_certified};
 
-use acas_rulings::Ruling;
 use thiserror::Error;
 
 /// How many lines there are of each kind, those that are left out included, and how many clear cells.
@@ -35,32 +33,30 @@ pub enum ReportFault {
     Memory = 2,
 }
 
-/// Whether the line of such a ruling is left out.
-pub(crate) fn leaves_out(which: Which, ruling: &Ruling) -> bool
-    ensures { result ≡ is_left_out which ruling.now }
+/// Whether the line of a ruling is left out, that is certified or is not.
+pub(crate) fn leaves_out(which: Which, certified: bool) -> bool
+    ensures { result ≡ is_left_out which certified }
 {
     match which {
         Which::All => false,
-        Which::Reported => match ruling {
-            Ruling::Certified => true,
-            Ruling::Reported(_) => false,
-        },
+        Which::Reported => certified,
     }
 }
 
 impl Counts {
-    /// Counts a ruling.
-    pub(crate) fn count(&mut self, ruling: &Ruling)
+    /// Counts a ruling, that is certified or is not.
+    pub(crate) fn count(&mut self, certified: bool)
         requires { total self.old + 1 < 2 ^ 64 }
         ensures certified { self.new.certified ≡
-            (if is_certified ruling.now then self.old.certified + 1 else self.old.certified) }
+            (if certified then self.old.certified + 1 else self.old.certified) }
         ensures reported { self.new.reported ≡
-            (if is_certified ruling.now then self.old.reported else self.old.reported + 1) }
+            (if certified then self.old.reported else self.old.reported + 1) }
         ensures clear { self.new.clear ≡ self.old.clear }
     {
-        match ruling {
-            Ruling::Certified => self.certified += 1,
-            Ruling::Reported(_) => self.reported += 1,
+        if certified {
+            self.certified += 1;
+        } else {
+            self.reported += 1;
         }
     }
 

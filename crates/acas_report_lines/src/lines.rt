@@ -1,10 +1,10 @@
 //! The lines of a report.
 ghost use Rattle.std.specs.Prelude.{◌≡◌, ◌+◌, ◌<◌, ◌≤◌, ◌++◌, length};
-ghost use Rattle.acas_report_lines.specs.Text.{box_counts_text, box_line, cell_line, cell_text, counts_text, ruling_text, totals_text};
+ghost use Rattle.acas_report_lines.specs.Text.{box_counts_text, cell_line, cell_text, counts_text, line_of_box, totals_text};
 
 use crate::counts::Counts;
 use crate::fields::{line_count, line_name};
-use crate::witness_fields::{WITNESS_BYTES, line_witness};
+use crate::said::Said;
 use acas_base::Model;
 use acas_cells::CellName;
 use acas_rulings::Ruling;
@@ -19,9 +19,6 @@ pub const COUNTS_BYTES: usize = 88;
 /// The greatest number of bytes with which the counts begin: two words and two numbers.
 const TOTALS_BYTES: usize = 60;
 
-/// The greatest number of bytes of a ruling: a word, a witness and the end of the line.
-const RULING_BYTES: usize = WITNESS_BYTES + 10;
-
 /// Makes the line of a cell under an advice.
 pub(crate) fn write_cell_line(line: &mut Line, model: &Model, name: &CellName, ruling: &Ruling)
     requires present { name.now.present < model.now.grid.advisories }
@@ -30,19 +27,19 @@ pub(crate) fn write_cell_line(line: &mut Line, model: &Model, name: &CellName, r
     ensures short { length line.new ≤ LINE_BYTES }
 {
     begin_cell_line(line, model, name);
-    line_ruling(line, ruling);
+    ruling.write(line);
 }
 
 /// Makes the line of a box.
 #[tactic(auto, unfolding(crate::specs::Text::box_text))]
-pub(crate) fn write_box_line(line: &mut Line, number: u32, ruling: &Ruling)
-    ensures value { line.new ≡ box_line number ruling.now }
+pub(crate) fn write_box_line<V: Said>(line: &mut Line, number: u32, said: &V)
+    ensures value { line.new ≡ line_of_box V.text number said.now }
     ensures short { length line.new ≤ LINE_BYTES }
 {
     line.clear();
     line.push(b"box");
     line_count(line, u64::from(number));
-    line_ruling(line, ruling);
+    said.write(line);
 }
 
 /// Makes the last line of an audit.
@@ -106,20 +103,4 @@ fn begin_cell_line(line: &mut Line, model: &Model, name: &CellName)
     line_count(line, u64::from(name.j));
     line_count(line, u64::from(name.k));
     line_name(line, model.name(name.advice));
-}
-
-// Appends what the line says of a cell or box, and ends it.
-fn line_ruling(line: &mut Line, ruling: &Ruling)
-    requires { length line.old + RULING_BYTES ≤ LINE_BYTES }
-    ensures value { line.new ≡ line.old ++ ruling_text ruling.now }
-    ensures room { length line.new ≤ length line.old + RULING_BYTES }
-{
-    match ruling {
-        Ruling::Certified => line.push(b" certified\n"),
-        Ruling::Reported(witness) => {
-            line.push(b" reported");
-            line_witness(line, witness);
-            line.push(b"\n");
-        }
-    }
 }

@@ -7,10 +7,15 @@ ghost use Rattle.acas_cells.specs.Cells.{IsCellOf};
 ghost use Rattle.acas_cells.specs.DecisionCounts.{most_decisions};
 ghost use Rattle.acas_cells.specs.Order.{cell_of};
 ghost use Rattle.acas_rulings.specs.Rulings.{IsRulingOfBox, IsRulingOfCell};
+ghost use Rattle.acas_manoeuvre.specs.Intruder.{RatesFit};
+ghost use Rattle.acas_manoeuvre.specs.View.{may_of};
+ghost use Rattle.acas_meetings.specs.Verdicts.{IsMeetVerdict};
 
 use acas_base::{Advices, Model};
 use acas_cells::CellName;
 use acas_count::Counter;
+use acas_manoeuvre::Manoeuvre;
+use acas_meetings::MeetVerdict;
 use acas_rulings::{AuditBox, Ruling};
 
 /// A source of rulings on cells.
@@ -63,4 +68,14 @@ pub trait BoxRulings {
     fn ruling(&self, model: &Model, area: &AuditBox) -> Ruling
         requires { IsBoxOf model.now (audited area.now) }
         ensures { IsRulingOfBox model.now (audited area.now) result };
+}
+
+/// A source of verdicts on boxes, against an intruder that may change its rate.
+pub trait MeetRulings {
+    /// The verdict on a box under its advisory. The box is as in [`BoxRulings`], and its intruder's rates are within what the intruder may
+    /// do.
+    fn verdict(&self, model: &Model, may: &Manoeuvre, area: &AuditBox) -> MeetVerdict
+        requires fits { IsBoxOf model.now (audited area.now) }
+        requires rates { RatesFit (may_of may.now) (audited area.now).states.intruder }
+        ensures { IsMeetVerdict model.now (may_of may.now) (audited area.now) result };
 }

@@ -1,12 +1,15 @@
-//! The text of a witness.
+//! The text of a witness, and of a meeting.
 ghost use Rattle.std.specs.Prelude.{◌≡◌, ◌+◌, ◌*◌, ◌≤◌, ◌++◌, length, codes};
 ghost use Rattle.std.specs.Fmt.{signed_decimal};
 ghost use Rattle.acas_frac.specs.Fraction.{fraction_text};
 ghost use Rattle.acas_rulings.specs.Printed.{segments_of, some_part};
+ghost use Rattle.acas_meetings.specs.Printed.{against_of};
+ghost use Rattle.acas_report_lines.specs.Meetings.{meeting_text};
 ghost use Rattle.acas_report_lines.specs.Text.{labelled, parts_text, response_text, segment_text, witness_text};
 
 use crate::fields::{FRAC_BYTES, line_frac};
 use acas_frac::Frac;
+use acas_meetings::Meeting;
 use acas_rulings::{Flight, Segment, Witness};
 use acas_units::{LINE_BYTES, Line};
 
@@ -18,7 +21,10 @@ const RESPONSE_BYTES: usize = 3 * SEGMENT_BYTES + 2;
 
 /// The greatest number of bytes of a witness: its words, the spaces before them and behind them, five fractions, an altitude
 /// and a response.
-pub(crate) const WITNESS_BYTES: usize = 72 + 5 * FRAC_BYTES + RESPONSE_BYTES;
+const WITNESS_BYTES: usize = 72 + 5 * FRAC_BYTES + RESPONSE_BYTES;
+
+/// The greatest number of bytes of a meeting: a witness, a word between two spaces, and two segments with a space between them.
+pub(crate) const MEETING_BYTES: usize = WITNESS_BYTES + 10 + 2 * SEGMENT_BYTES;
 
 /// Appends the text of a witness: its state, and its response.
 #[tactic(auto, unfolding(crate::specs::Text::witness_text))]
@@ -35,6 +41,28 @@ pub fn line_witness(line: &mut Line, witness: &Witness)
     line_labelled(line, b"own", &flight.v0);
     line_labelled(line, b"intruder", &flight.v1);
     line_response(line, flight);
+}
+
+/// Appends the text of a meeting: that of its witness, and the segments of the intruder.
+#[tactic(auto, unfolding(crate::specs::Meetings::meeting_text))]
+pub(crate) fn line_meeting(line: &mut Line, meeting: &Meeting)
+    requires { length line.old + MEETING_BYTES ≤ LINE_BYTES }
+    ensures value { line.new ≡ line.old ++ meeting_text meeting.now }
+    ensures room { length line.new ≤ length line.old + MEETING_BYTES }
+{
+    line_witness(line, &meeting.witness);
+    line_against(line, meeting);
+}
+
+// Appends the segments of the intruder, behind a word.
+#[tactic(auto, unfolding(crate::specs::Text::labelled, crate::specs::Text::field))]
+fn line_against(line: &mut Line, meeting: &Meeting)
+    requires { length line.old + 10 + 2 * SEGMENT_BYTES ≤ LINE_BYTES }
+    ensures value { line.new ≡ line.old ++ labelled (codes "against") (response_text (against_of meeting.now)) }
+    ensures room { length line.new ≤ length line.old + 10 + 2 * SEGMENT_BYTES }
+{
+    line.push(b" against ");
+    line_segments(line, &meeting.intruder_first, &meeting.intruder_second);
 }
 
 // Appends a word and a fraction, each behind a space.

@@ -5,7 +5,6 @@ pub mod Ones
 pub mod RangeOnes
 pub mod RulingOnes
 pub mod Printed
-pub mod Windows
 pub mod Areas
 pub mod Somes
 pub mod Ranges

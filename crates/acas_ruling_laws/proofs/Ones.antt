@@ -7,9 +7,9 @@ use Rattle.acas_flight.specs.Parts.{CanBeMet}
 use Rattle.acas_flight.specs.Window.{Times, IsDuring}
 use Rattle.acas_flight.specs.Clear.{Area}
 use Rattle.acas_flight_laws.proofs.Extremes.{low_extreme-same, high_extreme-same, low_extreme-windows, high_extreme-windows}
-use Rattle.acas_passes.specs.Flights.{Flight}
-use Rattle.acas_passes.specs.Search.{Search, IsFound, unit}
-use Rattle.acas_pass_laws.proofs.Ones.{found-one}
+use Rattle.acas_passes.specs.Flights.{Flight, value}
+use Rattle.acas_passes.specs.Search.{Search, IsFound, unit, low_flight, high_flight, passes}
+use Rattle.acas_pass_laws.proofs.Ends.{found-one}
 use Rattle.acas_rulings.specs.declared.flight.Flight as printed
 use Rattle.acas_rulings.specs.Witness.{IsWitnessOf, search_between}
 use Rattle.acas_rulings.specs.Printed.{Prints, flight_fractions}
@@ -17,10 +17,10 @@ use Rattle.acas_ruling_laws.proofs.Pulls.{found-pull}
 use Rattle.acas_ruling_laws.proofs.Prints.{flight-printed_one}
 
 -- one search finds one flight, and prints it in one way
-searched_one : (half : ℕ) (s : Search) (c d : Flight) (f g : printed.Flight) → CanBeMet s.demand → 0 < unit s →
+pub searched_one : (half : ℕ) (s : Search) (c d : Flight) (f g : printed.Flight) → CanBeMet s.demand → 0 < unit s →
     IsFound half s c → IsFound half s d → Prints (unit s) c f → Prints (unit s) d g → All IsReduced (flight_fractions f) → All IsReduced (flight_fractions g) → f ≡ g
 searched_one half s c d f g can some i j p q r t =
-    let same = found-one half s d c j i in
+    let same = found-one (value (unit s)) half (low_flight s) (high_flight s) (passes s) d c j i in
     flight-printed_one (unit s) c f g some (found-pull s can some half c i) p (rw same at q) r t
 
 pub unit_some : (a : Demand) (area : Area) (low high : Fraction) → 0 < low.den → 0 < high.den → 0 < unit (search_between a area low high)

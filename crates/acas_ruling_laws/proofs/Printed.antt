@@ -19,23 +19,23 @@ pub whole_reduced : (z : ℤ) → IsReduced (whole_of z)
 whole_reduced z = record { some = omega arith; lowest = (∣ (unsigned_abs z, sym (one-mul (unsigned_abs z))) ∣₁, ∣ (1, refl) ∣₁, λ k i j. j) }
 
 -- a fraction in lowest terms of a number over n
-record IsValue (n : ℕ) (i : ℤ) : Type 0 where
+pub record IsValue (n : ℕ) (i : ℤ) : Type 0 where
   pub fraction : Fraction
   pub over : IsOver n i fraction
   pub reduced : IsReduced fraction
 
-value_of : (n : ℕ) (i : ℤ) → 0 < n → IsValue n i
+pub value_of : (n : ℕ) (i : ℤ) → 0 < n → IsValue n i
 value_of n i p = let r = some_reduced i n p in record { fraction = r.fraction; over = sym r.same; reduced = r.reduced }
 
 -- ---- segments
 
-record HasPart (n : ℕ) (s : Segment) : Type 0 where
+pub record HasPart (n : ℕ) (s : Segment) : Type 0 where
   pub printed : part.Segment
   pub is : IsPart n s printed
   pub duration : IsReduced printed.duration
   pub acceleration : IsReduced printed.acceleration
 
-part_of : (n : ℕ) (s : Segment) → 0 < n → HasPart n s
+pub part_of : (n : ℕ) (s : Segment) → 0 < n → HasPart n s
 part_of n s p =
     let d = value_of n (pos s.duration) p in
     let a = value_of n s.acceleration p in
@@ -48,12 +48,12 @@ part_of n s p =
 
 -- ---- the hold
 
-record HasHold (n t : ℕ) : Type 0 where
+pub record HasHold (n t : ℕ) : Type 0 where
   pub printed : Option Fraction
   pub is : IsHeldPart n t printed
   pub reduced : AreReduced (hold_part printed)
 
-hold_of : (n t : ℕ) (xs : List Segment) → 0 < n → IsHoldFor t xs → HasHold n t
+pub hold_of : (n t : ℕ) (xs : List Segment) → 0 < n → IsHoldFor t xs → HasHold n t
 hold_of n _ _ p not_held = record { printed = None; is = record { segments = []; held = not_held; part = no_parts }; reduced = tt }
 hold_of n _ _ p (held_for t q) =
     let d = value_of n (pos t) p in
@@ -69,22 +69,22 @@ hold_of n _ _ p (held_for t q) =
 
 -- ---- the approach
 
-record HasParts (n : ℕ) (xs : List Segment) : Type 0 where
+pub record HasParts (n : ℕ) (xs : List Segment) : Type 0 where
   pub first : Option part.Segment
   pub second : Option part.Segment
   pub are : AreParts n xs (some_part first ++ some_part second)
   pub in_order : first ≡ None → second ≡ None
   pub reduced : AreReduced (some_part first ++ some_part second)
 
-no_segment : (n : ℕ) → HasParts n []
+pub no_segment : (n : ℕ) → HasParts n []
 no_segment n = record { first = None; second = None; are = no_parts; in_order = λ e. refl; reduced = tt }
 
-one_segment : (n : ℕ) (s : Segment) → 0 < n → HasParts n (s ∷ [])
+pub one_segment : (n : ℕ) (s : Segment) → 0 < n → HasParts n (s ∷ [])
 one_segment n s p =
     let f = part_of n s p in
     record { first = Some f.printed; second = None; are = a_part s f.printed [] [] f.is no_parts; in_order = λ e. refl; reduced = (f.duration, (f.acceleration, tt)) }
 
-two_segments : (n : ℕ) (s t : Segment) → 0 < n → HasParts n (s ∷ t ∷ [])
+pub two_segments : (n : ℕ) (s t : Segment) → 0 < n → HasParts n (s ∷ t ∷ [])
 two_segments n s t p =
     let f = part_of n s p in
     let g = part_of n t p in
@@ -96,7 +96,7 @@ two_segments n s t p =
       reduced = (f.duration, (f.acceleration, (g.duration, (g.acceleration, tt))));
     }
 
-parts_of : (n bend : ℕ) (c : ℤ) (t : ℕ) (xs : List Segment) → 0 < n → IsApproachFor bend c t xs → HasParts n xs
+pub parts_of : (n bend : ℕ) (c : ℤ) (t : ℕ) (xs : List Segment) → 0 < n → IsApproachFor bend c t xs → HasParts n xs
 parts_of n bend c _ _ p at_once = no_segment n
 parts_of n bend c _ _ p (at_aim t q e) = one_segment n (segment t (pos 0)) p
 parts_of n bend c _ _ p (before t q s h) = one_segment n (segment t c) p

@@ -23,7 +23,7 @@ segments-printed_one q v k b t f g h i p x y r s =
     some_parts-one f g h i x.in_order y.in_order
     (parts-one (q * (q * b)) x.segments (some_part f ++ some_part g) (some_part h ++ some_part i) p x.parts (rw same at y.parts) r s)
 
-same_flight : (f g : printed.Flight) → f.time ≡ g.time → f.h ≡ g.h → f.v0 ≡ g.v0 → f.v1 ≡ g.v1 → f.hold ≡ g.hold → f.first ≡ g.first → f.second ≡ g.second → f ≡ g
+pub same_flight : (f g : printed.Flight) → f.time ≡ g.time → f.h ≡ g.h → f.v0 ≡ g.v0 → f.v1 ≡ g.v1 → f.hold ≡ g.hold → f.first ≡ g.first → f.second ≡ g.second → f ≡ g
 same_flight f g t h v w o a b = λ i. record { time = t i; h = h i; v0 = v i; v1 = w i; hold = o i; first = a i; second = b i }
 
 pub flight-printed_one : (q : ℕ) (c : Flight) (f g : printed.Flight) → 0 < q → 0 < c.pull → Prints q c f → Prints q c g → All IsReduced (flight_fractions f) → All IsReduced (flight_fractions g) → f ≡ g

@@ -23,10 +23,10 @@ use Rattle.acas_rulings.specs.Rulings.{IsReported, IsRuling, IsRulingOfBox, IsRu
 use Rattle.acas_ruling_laws.proofs.Ones.{AreSameTimes, unit_some, witness-one}
 use Rattle.acas_ruling_laws.proofs.RangeOnes.{boxes_range-one, cells_range-one}
 
-same_witness : (v w : Witness) → v.range ≡ w.range → v.speed ≡ w.speed → v.flight ≡ w.flight → v ≡ w
+pub same_witness : (v w : Witness) → v.range ≡ w.range → v.speed ≡ w.speed → v.flight ≡ w.flight → v ≡ w
 same_witness v w r s f = λ i. record { range = r i; speed = s i; flight = f i }
 
-ruling-one : (m : ModelData) (advisory : ℕ) (IsIn : ℕ → State → Type 0) (IsRule : Witness → Type 0) →
+pub ruling-one : (m : ModelData) (advisory : ℕ) (IsIn : ℕ → State → Type 0) (IsRule : Witness → Type 0) →
     ((v w : Witness) → IsReported m advisory IsIn IsRule v → IsReported m advisory IsIn IsRule w → v ≡ w) →
     (r s : Ruling) → IsRuling m advisory IsIn IsRule r → IsRuling m advisory IsIn IsRule s → r ≡ s
 ruling-one m advisory IsIn IsRule one Certified Certified i j = refl
@@ -36,7 +36,7 @@ ruling-one m advisory IsIn IsRule one (Reported v) (Reported w) i j = ap (λ (x 
 
 -- ---- cells
 
-same_times_of_cell : (m : ModelData) (n : ℕ) (w u : Times) → IsWindowOfCell m n w → IsWindowOfCell m n u → AreSameTimes w u
+pub same_times_of_cell : (m : ModelData) (n : ℕ) (w u : Times) → IsWindowOfCell m n w → IsWindowOfCell m n u → AreSameTimes w u
 same_times_of_cell m n w u i j = λ q t p. (λ d. (j.exact q t p).1 ((i.exact q t p).0 d), λ d. (i.exact q t p).1 ((j.exact q t p).0 d))
 
 reported-one_cell : (m : ModelData) (name : CellName) → IsModel m → name.advice < m.grid.advisories → (v w : Witness) →
@@ -62,7 +62,7 @@ cells-one m name r s is known i j = ruling-one m name.advice (IsInCell m name.n 
 
 -- ---- boxes
 
-same_times_of_box : (m : ModelData) (b : AuditedBox) (w u : Times) → IsWindowOfBox m b.states.range b.states.closing w → IsWindowOfBox m b.states.range b.states.closing u → AreSameTimes w u
+pub same_times_of_box : (m : ModelData) (b : AuditedBox) (w u : Times) → IsWindowOfBox m b.states.range b.states.closing w → IsWindowOfBox m b.states.range b.states.closing u → AreSameTimes w u
 same_times_of_box m b w u i j = λ q t p. (λ d. (j.exact q t p).1 ((i.exact q t p).0 d), λ d. (i.exact q t p).1 ((j.exact q t p).0 d))
 
 reported-one_box : (m : ModelData) (b : AuditedBox) → IsModel m → IsBoxOf m b → (v w : Witness) →

@@ -5,8 +5,7 @@ use Rattle.acas_spec.specs.Model.{ModelData}
 use Rattle.acas_spec.specs.Limits.{IsModel}
 use Rattle.acas_frac.proofs.SignedProducts.{mul-lt_ℤ, mul_comm_ℤ}
 use Rattle.acas_flight.specs.Response.{demand_of}
-use Rattle.acas_flight.specs.State.{Box, Interval, IsInside}
-use Rattle.acas_flight.specs.Contact.{IsEndangeredBox}
+use Rattle.acas_flight.specs.State.{Box, Interval, IsInBox, IsInside, State}
 use Rattle.acas_flight.specs.Clear.{area_of_box, area_of_cell}
 use Rattle.acas_flight_laws.proofs.Dangers.{clear_box_is_safe, clear_cell_is_safe}
 use Rattle.acas_flight_laws.proofs.Endangered.{endangered_box, endangered_cell}
@@ -23,8 +22,8 @@ use Rattle.acas_rulings.specs.Rulings.{IsRulingOfBox, IsRulingOfCell}
 use Rattle.acas_cell.proofs.Showing.{reported_box, reported_cell}
 use Rattle.acas_ruling_laws.proofs.Areas.{rates_at, rises_at}
 use Rattle.acas_ruling_laws.proofs.Ranges.{range_of_box, range_of_cell}
-use Rattle.acas_ruling_laws.proofs.Somes.{clear_or_witness, endangered, time_of}
-use Rattle.acas_ruling_laws.proofs.Windows.{window_of_box, window_of_cell}
+use Rattle.acas_ruling_laws.proofs.Somes.{IsFlyable, clear_or_witness, endangered, time_of}
+use Rattle.acas_region_curves.proofs.EachWindow.{window_of_box, window_of_cell}
 
 -- ---- cells
 
@@ -53,25 +52,25 @@ cells-some m name is cell known =
 none_inside : (s : Interval) (q : ℕ) (n : ℤ) → 0 < q → s.greatest <ℤ s.least → IsInside q s n → ⊥
 none_inside s q n p h i = omega (arith, ints, i.0, i.1, mul-lt_ℤ q s.greatest s.least p h, mul_comm_ℤ (pos q) s.greatest, mul_comm_ℤ (pos q) s.least)
 
--- the intervals of a box are in order, or it holds no state that is endangered
-record AreInOrder (box : Box) : Type 0 where
+-- the intervals of a box are in order, or it holds no state
+pub record AreInOrder (box : Box) : Type 0 where
   pub range : box.range.least ≤ℤ box.range.greatest
   pub closing : box.closing.least ≤ℤ box.closing.greatest
   pub altitude : box.altitude.least ≤ℤ box.altitude.greatest
   pub own : box.own.least ≤ℤ box.own.greatest
   pub intruder : box.intruder.least ≤ℤ box.intruder.greatest
 
-in_order_or_safe : (m : ModelData) (box : Box) (advisory : ℕ) → AreInOrder box ⊎ (IsEndangeredBox m box advisory → ⊥)
-in_order_or_safe m box advisory = elim (cases_lt_ℤ box.range.greatest box.range.least) [
-  | inl l ↦ inr (λ e. none_inside box.range e.0 e.1.range e.3.some l e.3.inside.range)
+pub in_order_or_empty : (box : Box) → AreInOrder box ⊎ ((q : ℕ) (s : State) → 0 < q → IsInBox box q s → ⊥)
+in_order_or_empty box = elim (cases_lt_ℤ box.range.greatest box.range.least) [
+  | inl l ↦ inr (λ q s p i. none_inside box.range q s.range p l i.range)
   | inr range ↦ elim (cases_lt_ℤ box.closing.greatest box.closing.least) [
-    | inl l ↦ inr (λ e. none_inside box.closing e.0 e.1.closing e.3.some l e.3.inside.closing)
+    | inl l ↦ inr (λ q s p i. none_inside box.closing q s.closing p l i.closing)
     | inr closing ↦ elim (cases_lt_ℤ box.altitude.greatest box.altitude.least) [
-      | inl l ↦ inr (λ e. none_inside box.altitude e.0 e.1.altitude e.3.some l e.3.inside.altitude)
+      | inl l ↦ inr (λ q s p i. none_inside box.altitude q s.altitude p l i.altitude)
       | inr altitude ↦ elim (cases_lt_ℤ box.own.greatest box.own.least) [
-        | inl l ↦ inr (λ e. none_inside box.own e.0 e.1.own e.3.some l e.3.inside.own)
+        | inl l ↦ inr (λ q s p i. none_inside box.own q s.own p l i.own)
         | inr own ↦ elim (cases_lt_ℤ box.intruder.greatest box.intruder.least) [
-          | inl l ↦ inr (λ e. none_inside box.intruder e.0 e.1.intruder e.3.some l e.3.inside.intruder)
+          | inl l ↦ inr (λ q s p i. none_inside box.intruder q s.intruder p l i.intruder)
           | inr intruder ↦ inl (record { range = range; closing = closing; altitude = altitude; own = own; intruder = intruder })
         ]
       ]
@@ -79,16 +78,19 @@ in_order_or_safe m box advisory = elim (cases_lt_ℤ box.range.greatest box.rang
   ]
 ]
 
+-- the area of a box in order, within the limits
+pub flyable_box : (box : Box) → IsArea (area_of_box box) → AreInOrder box → IsFlyable (area_of_box box)
+flyable_box box fits order = record {
+  altitude = order.altitude;
+  own = record { least = fits.own.least; greatest = fits.own.greatest; ordered = order.own };
+  intruder = record { least = fits.intruder.least; greatest = fits.intruder.greatest; ordered = order.intruder };
+}
+
 ordered-some : (m : ModelData) (b : AuditedBox) → IsModel m → IsBoxOf m b → IsArea (area_of_box b.states) → AreInOrder b.states → (r : Ruling) × IsRulingOfBox m b r
 ordered-some m b is of fits order =
     let w = window_of_box m b.states.range b.states.closing of.flown order.range order.closing in
     let area = area_of_box b.states in
-    elim (clear_or_witness m b.advisory area w.times is of.advisory
-    (record {
-      altitude = order.altitude;
-      own = record { least = fits.own.least; greatest = fits.own.greatest; ordered = order.own };
-      intruder = record { least = fits.intruder.least; greatest = fits.intruder.greatest; ordered = order.intruder };
-    }) w.ends) [
+    elim (clear_or_witness m b.advisory area w.times is of.advisory (flyable_box b.states fits order) w.ends) [
       | inl clear ↦ (Certified, clear_box_is_safe m b.states b.advisory w.times is of.advisory w.window clear)
       | inr x ↦
           let r = range_of_box m b.states.range b.states.closing w.times x.flight.time of.flown order.range order.closing w.window (time_of m.half (demand_of m b.advisory) area w.times x) in
@@ -101,7 +103,7 @@ ordered-some m b is of fits order =
     ]
 
 pub boxes-some : (m : ModelData) (b : AuditedBox) → IsModel m → IsBoxOf m b → IsArea (area_of_box b.states) → (r : Ruling) × IsRulingOfBox m b r
-boxes-some m b is of fits = elim (in_order_or_safe m b.states b.advisory) [
+boxes-some m b is of fits = elim (in_order_or_empty b.states) [
   | inl order ↦ ordered-some m b is of fits order
-  | inr safe ↦ (Certified, safe)
+  | inr empty ↦ (Certified, λ e. empty e.0 e.1 e.3.some e.3.inside)
 ]

@@ -13,7 +13,7 @@ use Rattle.acas_flight.specs.Clear.{Area, IsClear, IsEndangeredDuring}
 use Rattle.acas_flight_curves.proofs.Models.{demand_can_be_met}
 use Rattle.acas_region_curves.specs.Limits.{AreEnds}
 use Rattle.acas_passes.specs.Search.{AreRates, CanMeet, IsMoment, IsSearch, unit}
-use Rattle.acas_pass_laws.proofs.Founds.{found}
+use Rattle.acas_pass_laws.proofs.Founds.{finds}
 use Rattle.acas_rulings.specs.declared.flight.Flight as printed
 use Rattle.acas_witness.proofs.Contacts.{contact_at, during_of}
 use Rattle.acas_witness_laws.proofs.Extremes.{HasHighExtreme, HasLowExtreme, high_reached, low_reached}
@@ -32,7 +32,7 @@ pub record IsFlyable (area : Area) : Type 0 where
   pub own : AreRates area.own
   pub intruder : AreRates area.intruder
 
-search_of : (m : ModelData) (advisory : ℕ) (area : Area) (low high : Fraction) → IsModel m → advisory < m.grid.advisories → IsFlyable area → IsMoment low → IsMoment high →
+pub search_of : (m : ModelData) (advisory : ℕ) (area : Area) (low high : Fraction) → IsModel m → advisory < m.grid.advisories → IsFlyable area → IsMoment low → IsMoment high →
     IsSearch (search_between (demand_of m advisory) area low high)
 search_of m advisory area low high is known flyable l h =
     let asked : IsAdvisory (advisory_at m advisory) = is.advisories advisory known in
@@ -54,7 +54,7 @@ pub record HasWitness (half : ℕ) (a : Demand) (area : Area) (w : Times) : Type
   pub reduced : All IsReduced (flight_fractions flight)
   pub contact : IsFlightInContact half a area w flight
 
-met : (m : ModelData) (advisory : ℕ) (area : Area) (w : Times) → IsModel m → advisory < m.grid.advisories → IsFlyable area →
+pub met : (m : ModelData) (advisory : ℕ) (area : Area) (w : Times) → IsModel m → advisory < m.grid.advisories → IsFlyable area →
     (low : HasLowExtreme (demand_of m advisory) area w) (high : HasHighExtreme (demand_of m advisory) area w) → CanMeet m.half (search_between (demand_of m advisory) area low.time high.time) →
     HasWitness m.half (demand_of m advisory) area w
 met m advisory area w is known flyable low high meets =
@@ -62,7 +62,7 @@ met m advisory area w is known flyable low high meets =
     let s = search_between a area low.time high.time in
     let search = search_of m advisory area low.time high.time is known flyable low.moment high.moment in
     let some = unit_some a area low.time high.time low.moment.some high.moment.some in
-    let c = found m.half s search meets in
+    let c = finds m.half s search meets in
     let f = printed_flight (unit s) c.0 some (found-pull s search.demand some m.half c.0 c.1) in
     record {
       flight = f.flight;

@@ -10,7 +10,7 @@ use Rattle.acas_command.specs.Codes.{code_of}
 use Rattle.acas_command.specs.declared.status.Cause.{Cause}
 use Rattle.acas_command.specs.declared.status.Cause.TheVariants.{Done, Reported, Words, Absent, Model, Table, Input, Folder, Output, TooLong, Memory}
 use Rattle.acas_cli.specs.Calls.{AnswersForm, CallsFor}
-use Rattle.acas_cli_words.specs.Words.{Form, Values, Compile, Check, Risk, Audit, Regions, Safeable, Replay, Migrate, Drill}
+use Rattle.acas_cli_words.specs.Words.{Form, Values, Compile, Check, Risk, Audit, Regions, Manoeuvre, Safeable, Replay, Migrate, Drill}
 use Rattle.acas_drill.specs.Calls.{CallsForDrill}
 
 -- the answer to words of a form is that of its command; a drill's is the same over every folder
@@ -21,6 +21,7 @@ answers-form (Check model table) cause before after a = a
 answers-form (Risk model table) cause before after a = a
 answers-form (Audit model table which) cause before after a = a
 answers-form (Regions model boxes) cause before after a = a
+answers-form (Manoeuvre model boxes accel rate) cause before after a = a
 answers-form (Safeable model table) cause before after a = a
 answers-form (Replay model table encounter) cause before after a = a
 answers-form (Migrate model table target) cause before after a = a

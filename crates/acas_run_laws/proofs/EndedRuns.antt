@@ -1,5 +1,5 @@
 -- How a run ends beside the one outcome that is called for.
-use Rattle.std.proofs.Common.{◌≡◌, ℕ, List, [], Option, Some, ⊎_elim, sym, ap, subst, ◌∙◌}
+use Rattle.std.proofs.Common.{◌≡◌, ℕ, ◌<◌, List, [], Option, Some, ⊎_elim, sym, ap, subst, ◌∙◌, arith}
 use Rattle.std.specs.FinMap.{get}
 use Rattle.acas_spec.specs.Limits.{IsModel}
 use Rattle.acas_spec.specs.Model.{ModelData}
@@ -7,8 +7,12 @@ use Rattle.acas_base.specs.Advices.{AdvicesData}
 use Rattle.acas_outside.specs.Bytes.{Appends, AppendsPart}
 use Rattle.acas_outside.specs.Files.{Files}
 use Rattle.acas_outside.specs.Outside.{Outside}
+use Rattle.std.proofs.lemmas.Int.{ints}
+use Rattle.acas_boxes.specs.Rates.{fitting_boxes_of}
 use Rattle.acas_boxes.specs.Whole.{boxes_of}
 use Rattle.acas_rulings.specs.Boxes.{AuditedBox}
+use Rattle.acas_manoeuvre.specs.Intruder.{Manoeuvre as Intruder}
+use Rattle.acas_report_lines.specs.Meetings.{IsMeetingsBegun}
 use Rattle.acas_report_lines.specs.Regions.{IsRegionsReportBegun}
 use Rattle.acas_report_lines.specs.Report.{IsReportBegun}
 use Rattle.acas_report_lines.specs.declared.counts.Which.{Which}
@@ -22,14 +26,16 @@ use Rattle.acas_command.proofs.Completed.{completed}
 use Rattle.acas_drill.specs.Calls.{IsDrillBegun, IsDrillText}
 use Rattle.acas_drill_model.specs.DrilledModel.{drilled_model}
 use Rattle.acas_encounter_commands.specs.Calls.{IsReplayBegun, IsReplayText, replay_looks_at}
+use Rattle.acas_manoeuvre_commands.specs.Calls.{AreMetBoxes, IsManoeuvreBegun, IsManoeuvreText, manoeuvre_looks_at}
 use Rattle.acas_risk_commands.specs.Calls.{risk_of}
 use Rattle.acas_safeable_commands.specs.Calls.{IsSafeableText, IsSafeableTextBegun, safeable_looks_at}
 use Rattle.acas_safeable.specs.SafeableText.{IsSafeableBegun}
 use Rattle.acas_table_commands.specs.Calls.{check_of, compile_of, migrate_of, values_of}
 use Rattle.acas_cli.specs.Calls.{CallsFor}
-use Rattle.acas_cli_words.specs.Words.{Form, Values, Compile, Check, Risk, Audit, Regions, Safeable, Replay, Migrate, Drill}
+use Rattle.acas_cli_words.specs.Words.{Form, Values, Compile, Check, Risk, Audit, Regions, Manoeuvre, Safeable, Replay, Migrate, Drill}
+use Rattle.acas_run_laws.specs.Forms.{HasIntruder}
 use Rattle.acas_run_laws.proofs.OneFiles.{IsOneModel, IsOneTable, one-input, one-model, one-table}
-use Rattle.acas_run_laws.proofs.OneOutcome.{audit-goes_on, one-drilled, one-outcome, one-replayed, printed-cause, regions-goes_on, replay-goes_on, safeable-goes_on, within-file}
+use Rattle.acas_run_laws.proofs.OneOutcome.{audit-goes_on, manoeuvre-goes_on, one-drilled, one-outcome, one-replayed, printed-cause, regions-goes_on, replay-goes_on, safeable-goes_on, within-file}
 use Rattle.acas_run_laws.proofs.OneReport.{ReportsAreOne}
 
 -- what a run has left that ended as an outcome says
@@ -61,11 +67,11 @@ part-report looks R B files before after o ends goes_on part = ⊎_elim (λ r. a
 
 module _ (one : ReportsAreOne) (drilled : (number : ℕ) → IsModel (drilled_model number)) where
   -- with its whole output out
-  pub ended-as : (form : Form) (files : Files) (cause : Cause) (before after : Outside) (o : Outcome) → MayPrint cause → Agrees (CallsFor form) files cause before after → (CallsFor form).ends files o
-      → EndsAs o files cause before after
-  ended-as form files cause before after o prints a ends =
+  pub ended-as : (form : Form) (files : Files) (cause : Cause) (before after : Outside) (o : Outcome) → HasIntruder form → MayPrint cause
+      → Agrees (CallsFor form) files cause before after → (CallsFor form).ends files o → EndsAs o files cause before after
+  ended-as form files cause before after o has prints a ends =
       let c = completed (CallsFor form) files cause before after prints a in
-      ends-as (CallsFor form) files cause before after o c (one-outcome one drilled form files c.outcome o c.may ends)
+      ends-as (CallsFor form) files cause before after o c (one-outcome one drilled form files c.outcome o has c.may ends)
 
   part-audit : (model table : List ℕ) (which : Which) (files : Files) (old new : Option (List ℕ)) (b : IsAuditBegun model table which files old new) (r : ℕ) (t : List ℕ) → IsAuditText model table which files r t
       → AppendsPart old new t
@@ -121,31 +127,59 @@ module _ (one : ReportsAreOne) (drilled : (number : ℕ) → IsModel (drilled_mo
           subst (λ (n : ModelData). IsRegionsReportBegun n is.said old new) (sym models.models)
           (subst (λ (s : List AuditedBox). IsRegionsReportBegun b.m s old new) (sym said) b.begun)
 
+  part-manoeuvre : (model boxes : List ℕ) (may : Intruder) (files : Files) → 0 < may.accel → (old new : Option (List ℕ)) (b : IsManoeuvreBegun model boxes may files old new) (r : ℕ) (t : List ℕ)
+      → IsManoeuvreText model boxes may files r t → AppendsPart old new t
+  part-manoeuvre model boxes may files some old new b r t is =
+      one.meetings_begun is.m may is.said old new is.counts t within is.audited.fits some begun is.report
+    where
+      models : IsOneModel is.audited.digest b.audited.digest is.m b.m
+      models = one-model (get files model) is.audited.digest b.audited.digest is.m b.m is.audited.model_file b.audited.model_file
+
+      within : IsModel is.m
+      within = within-file files model is.audited.digest is.m is.audited.model_file
+
+      other : AreMetBoxes model boxes may files is.m b.said
+      other = subst (λ (n : ModelData). AreMetBoxes model boxes may files n b.said) (sym models.models) b.audited
+
+      said : is.said ≡ b.said
+      said = one-input (fitting_boxes_of is.m may) (get files boxes) is.said b.said is.audited.boxes_file other.boxes_file
+
+      begun : IsMeetingsBegun is.m may is.said old new
+      begun =
+          subst (λ (n : ModelData). IsMeetingsBegun n may is.said old new) (sym models.models)
+          (subst (λ (s : List AuditedBox). IsMeetingsBegun b.m may s old new) (sym said) b.begun)
+
   -- with its output cut
-  pub cut-short : (form : Form) (files : Files) (before after : Outside) (o : Outcome) → Agrees (CallsFor form) files Output before after → (CallsFor form).ends files o
+  pub cut-short : (form : Form) (files : Files) (before after : Outside) (o : Outcome) → HasIntruder form → Agrees (CallsFor form) files Output before after → (CallsFor form).ends files o
       → AppendsPart before.written after.written o.output
-  cut-short (Values model) files before after o a ends = part-one (λ fs. values_of (get fs model)) files before after o a ends
-  cut-short (Compile model table) files before after o a ends = part-one (λ fs. compile_of (get fs model) table) files before after o a ends
-  cut-short (Check model table) files before after o a ends = part-one (λ fs. check_of (get fs model) (get fs table)) files before after o a ends
-  cut-short (Risk model table) files before after o a ends = part-one (λ fs. risk_of (get fs model) (get fs table)) files before after o a ends
-  cut-short (Audit model table which) files before after o a ends =
+  cut-short (Values model) files before after o has a ends = part-one (λ fs. values_of (get fs model)) files before after o a ends
+  cut-short (Compile model table) files before after o has a ends = part-one (λ fs. compile_of (get fs model) table) files before after o a ends
+  cut-short (Check model table) files before after o has a ends = part-one (λ fs. check_of (get fs model) (get fs table)) files before after o a ends
+  cut-short (Risk model table) files before after o has a ends = part-one (λ fs. risk_of (get fs model) (get fs table)) files before after o a ends
+  cut-short (Audit model table which) files before after o has a ends =
       part-report (audit_looks_at model table) (IsAuditText model table which) (IsAuditBegun model table which) files before after o ends
       (printed-cause (audit_looks_at model table files) (audit-goes_on model table files a.begun.m a.begun.advices a.begun.advised))
       (part-audit model table which files before.written after.written a.begun)
-  cut-short (Regions model boxes) files before after o a ends =
+  cut-short (Regions model boxes) files before after o has a ends =
       part-report (regions_looks_at model boxes) (IsRegionsText model boxes) (IsRegionsBegun model boxes) files before after o ends
       (printed-cause (regions_looks_at model boxes files) (regions-goes_on model boxes files a.begun.m a.begun.said a.begun.audited))
       (part-regions model boxes files before.written after.written a.begun)
-  cut-short (Safeable model table) files before after o a ends =
+  cut-short (Manoeuvre model boxes accel rate) files before after o has a ends =
+      let may : Intruder = record { accel = accel; rate = rate } in
+      let some : 0 < accel = omega (arith, ints, has.least_accel) in
+      part-report (manoeuvre_looks_at model boxes may) (IsManoeuvreText model boxes may) (IsManoeuvreBegun model boxes may) files before after o ends
+      (printed-cause (manoeuvre_looks_at model boxes may files) (manoeuvre-goes_on model boxes may files a.begun.m a.begun.said a.begun.audited))
+      (part-manoeuvre model boxes may files some before.written after.written a.begun)
+  cut-short (Safeable model table) files before after o has a ends =
       part-report (safeable_looks_at model table) (IsSafeableText model table) (IsSafeableTextBegun model table) files before after o ends
       (printed-cause (safeable_looks_at model table files) (safeable-goes_on model table files a.begun.m a.begun.advices a.begun.advised))
       (part-safeable model table files before.written after.written a.begun)
-  cut-short (Replay model table encounter) files before after o a ends =
+  cut-short (Replay model table encounter) files before after o has a ends =
       part-report (replay_looks_at model table encounter) (IsReplayText model table encounter) (IsReplayBegun model table encounter) files before after o ends
       (printed-cause (replay_looks_at model table encounter files)
       (replay-goes_on model table encounter files a.begun.replay.m a.begun.replay.advices a.begun.replay.flown a.begun.replay.replayed))
       (λ r t is. subst (AppendsPart before.written after.written) (one-replayed model table encounter files 0 r a.begun.text t a.begun.replay is).1 a.begun.part)
-  cut-short (Migrate model table target) files before after o a ends = part-one (λ fs. migrate_of (get fs model) (get fs table) target) files before after o a ends
-  cut-short (Drill number) files before after o a ends =
+  cut-short (Migrate model table target) files before after o has a ends = part-one (λ fs. migrate_of (get fs model) (get fs table) target) files before after o a ends
+  cut-short (Drill number) files before after o has a ends =
       part-report (λ fs. prints []) (λ fs. IsDrillText number) (λ fs. IsDrillBegun number) files before after o ends tt
       (λ r t is. subst (AppendsPart before.written after.written) (one-drilled one drilled number a.begun.reported r a.begun.text t a.begun.drilled is).1 a.begun.part)

@@ -15,6 +15,7 @@ use Rattle.acas_table_file.proofs.Files.{no_file-table}
 use Rattle.acas_audit_commands.specs.Calls.{IsAuditBegun, IsAuditText, IsRegionsBegun, IsRegionsText, audit_looks_at, regions_looks_at}
 use Rattle.acas_drill.specs.Calls.{IsDrillBegun, IsDrillText}
 use Rattle.acas_encounter_commands.specs.Calls.{IsReplayBegun, IsReplayText, replay_looks_at}
+use Rattle.acas_manoeuvre_commands.specs.Calls.{IsManoeuvreBegun, IsManoeuvreText, manoeuvre_looks_at}
 use Rattle.acas_risk_commands.specs.Calls.{risk_of}
 use Rattle.acas_risk_commands.proofs.Files.{rest_of_risk, text_of_risk}
 use Rattle.acas_table_commands.specs.AcceptedLine.{accepted_line}
@@ -22,7 +23,7 @@ use Rattle.acas_safeable_commands.specs.Calls.{IsSafeableText, IsSafeableTextBeg
 use Rattle.acas_table_commands.specs.Calls.{check_of, values_of}
 use Rattle.acas_table_lines.specs.ValuesText.{values_text}
 use Rattle.acas_cli.specs.Calls.{CallsFor}
-use Rattle.acas_cli_words.specs.Words.{Form, Values, Compile, Check, Risk, Audit, Regions, Safeable, Replay, Migrate, Drill}
+use Rattle.acas_cli_words.specs.Words.{Form, Values, Compile, Check, Risk, Audit, Regions, Manoeuvre, Safeable, Replay, Migrate, Drill}
 use Rattle.acas_run_laws.specs.Forms.{written_by}
 
 -- the files of a command that leaves them as they were, with every cause
@@ -101,6 +102,9 @@ kept-form (Risk model table) cause files before after none a =
 kept-form (Audit model table which) cause files before after none a =
     kept-reports (audit_looks_at model table) (IsAuditText model table which) (IsAuditBegun model table which) files cause before after a
 kept-form (Regions model boxes) cause files before after none a = kept-reports (regions_looks_at model boxes) (IsRegionsText model boxes) (IsRegionsBegun model boxes) files cause before after a
+kept-form (Manoeuvre model boxes accel rate) cause files before after none a =
+    kept-reports (manoeuvre_looks_at model boxes (record { accel = accel; rate = rate })) (IsManoeuvreText model boxes (record { accel = accel; rate = rate }))
+    (IsManoeuvreBegun model boxes (record { accel = accel; rate = rate })) files cause before after a
 kept-form (Safeable model table) cause files before after none a =
     kept-reports (safeable_looks_at model table) (IsSafeableText model table) (IsSafeableTextBegun model table) files cause before after a
 kept-form (Replay model table encounter) cause files before after none a =

@@ -6,6 +6,7 @@ use Rattle.std.specs.Option.{option_map}
 use Rattle.std.specs.Str.{bytes_eq}
 use Rattle.acas_outside.specs.Files.{Files}
 use Rattle.acas_outside.specs.Outside.{Outside}
+use Rattle.acas_boxes.specs.Rates.{fitting_boxes_of}
 use Rattle.acas_boxes.specs.Whole.{boxes_of}
 use Rattle.acas_encounter.specs.Whole.{encounter_of}
 use Rattle.acas_table_text.specs.Shape.{shape_of}
@@ -27,6 +28,8 @@ use Rattle.acas_audit_commands.specs.Calls.{IsAuditBegun, IsAuditText, IsRegions
 use Rattle.acas_drill.specs.Calls.{IsDrillBegun, IsDrillText}
 use Rattle.acas_drill_model.specs.Word.{drill_number}
 use Rattle.acas_encounter_commands.specs.Calls.{IsReplayBegun, IsReplayText, encounter_looked_at, replay_looks_at}
+use Rattle.acas_manoeuvre.specs.Intruder.{Manoeuvre as Intruder}
+use Rattle.acas_manoeuvre_commands.specs.Calls.{IsManoeuvreBegun, IsManoeuvreText, manoeuvre_looks_at}
 use Rattle.acas_report_lines.specs.declared.counts.Which.{Which}
 use Rattle.acas_report_lines.specs.declared.counts.Which.TheVariants.{All as Whole, Reported as OnlyReported}
 use Rattle.acas_risk_commands.proofs.Files.{rest_of_risk, text_of_risk}
@@ -36,7 +39,7 @@ use Rattle.acas_table_commands.specs.StoredLine.{compiled_line, migrated_line}
 use Rattle.acas_table_rows.specs.TableFile.{compiled_text}
 use Rattle.acas_table_lines.specs.ValuesText.{values_text}
 use Rattle.acas_cli.specs.Calls.{CallsFor}
-use Rattle.acas_cli_words.specs.Words.{Form, Values, Compile, Check, Risk, Audit, Regions, Safeable, Replay, Migrate, Drill, are_apart, are_file_names, form_of, is_file_name}
+use Rattle.acas_cli_words.specs.Words.{Form, Values, Compile, Check, Risk, Audit, Regions, Manoeuvre, Safeable, Replay, Migrate, Drill, accel_of, are_apart, are_file_names, form_of, is_file_name, manoeuvre_of, rate_of}
 use Rattle.acas_run_laws.specs.Refusals.{RefusesBy}
 use Rattle.acas_run_laws.proofs.Refusing.{refused-input, refused-model, refused-printed, refused-table}
 
@@ -119,6 +122,16 @@ module _ (files : Files) (cause : Cause) (after : Outside) where
       (report-refused (regions_looks_at (name ModelFile) (name BoxesFile)) (IsRegionsText (name ModelFile) (name BoxesFile)) (IsRegionsBegun (name ModelFile) (name BoxesFile))
       files cause after r.never r.refuses)
 
+  right-manoeuvre : (name : FileRole → List ℕ) (accel rate : ℕ) → IsRight name (Manoeuvre (name ModelFile) (name BoxesFile) accel rate)
+  right-manoeuvre name accel rate r =
+      let form : Form = Manoeuvre (name ModelFile) (name BoxesFile) accel rate in
+      let may : Intruder = record { accel = accel; rate = rate } in
+      refused-model form name files cause (λ digest m. with_input_file BoxesFile (fitting_boxes_of m may) (get files (name BoxesFile)) (λ said. prints []))
+      (λ digest m file h. refused-input form name files cause BoxesFile (fitting_boxes_of m may) (λ said. prints []) (λ fault is. record { digest = digest; m = m; file = file; refused = is })
+      (λ said h. refused-printed form name files cause (prints []) r.never tt h) h)
+      (report-refused (manoeuvre_looks_at (name ModelFile) (name BoxesFile) may) (IsManoeuvreText (name ModelFile) (name BoxesFile) may)
+      (IsManoeuvreBegun (name ModelFile) (name BoxesFile) may) files cause after r.never r.refuses)
+
   right-replay : (name : FileRole → List ℕ) → IsRight name (Replay (name ModelFile) (name TableFile) (name EncounterFile))
   right-replay name r =
       let form : Form = Replay (name ModelFile) (name TableFile) (name EncounterFile) in
@@ -153,6 +166,13 @@ module _ (files : Files) (cause : Cause) (after : Outside) where
   right-if_drill name true (Some number) form e = let same : Drill number ≡ form = cc e in subst (IsRight name) same (right-drill name number)
   right-if_drill name true None form e = absurd (cc e)
   right-if_drill name false o form e = absurd (cc e)
+
+  right-if_manoeuvre : (name : FileRole → List ℕ) (b : Bool) (a c : Option ℕ) (form : Form) → cond b (manoeuvre_of (name ModelFile) (name BoxesFile) a c) None ≡ Some form → IsRight name form
+  right-if_manoeuvre name true (Some accel) (Some rate) form e =
+      let same : Manoeuvre (name ModelFile) (name BoxesFile) accel rate ≡ form = cc e in subst (IsRight name) same (right-manoeuvre name accel rate)
+  right-if_manoeuvre name true (Some accel) None form e = absurd (cc e)
+  right-if_manoeuvre name true None c form e = absurd (cc e)
+  right-if_manoeuvre name false a c form e = absurd (cc e)
 
   pub right-words : (words : List (List ℕ)) (form : Form) → form_of words ≡ Some form → IsRight (λ role. name_of role words) form
   right-words [] form e = absurd (cc e)
@@ -189,4 +209,7 @@ module _ (files : Files) (cause : Cause) (after : Outside) where
       (cond replays (Some (Replay model table third)) on_format) e (right-audit name OnlyReported)
       (λ no_audit. right-if name replays (Replay model table third) form on_format no_audit (right-replay name)
       (λ no_replay. right-if name migrates (Migrate model table third) form None no_replay (right-migrate name third) (λ none. absurd (cc none))))
-  right-words (verb ∷ model ∷ table ∷ third ∷ more ∷ rest) form e = absurd (cc e)
+  right-words (verb ∷ model ∷ boxes ∷ accel ∷ rate ∷ []) form e =
+      let name : FileRole → List ℕ = λ role. name_of role (verb ∷ model ∷ boxes ∷ accel ∷ rate ∷ []) in
+      right-if_manoeuvre name (bytes_eq verb (codes "manoeuvre") && are_file_names model boxes) (accel_of accel) (rate_of rate) form e
+  right-words (verb ∷ model ∷ table ∷ third ∷ more ∷ another ∷ rest) form e = absurd (cc e)

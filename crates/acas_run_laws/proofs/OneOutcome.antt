@@ -1,20 +1,25 @@
 -- No form has two outcomes over the same files.
-use Rattle.std.proofs.Common.{◌≡◌, ℕ, List, [], Option, ⊎_elim, sym, ap, subst, ◌∙◌}
+use Rattle.std.proofs.Common.{◌≡◌, ℕ, ◌<◌, List, [], Option, ⊎_elim, sym, ap, subst, ◌∙◌, arith}
 use Rattle.std.specs.FinMap.{get}
 use Rattle.acas_spec.specs.Limits.{IsModel}
 use Rattle.acas_spec.specs.Model.{ModelData}
 use Rattle.acas_base.specs.Advices.{AdvicesData}
 use Rattle.acas_outside.specs.Files.{Files}
+use Rattle.std.proofs.lemmas.Int.{ints}
+use Rattle.acas_boxes.specs.Rates.{fitting_boxes_of}
 use Rattle.acas_boxes.specs.Whole.{boxes_of}
 use Rattle.acas_encounter.specs.Encounter.{EncounterData}
 use Rattle.acas_encounter.specs.Whole.{encounter_of}
 use Rattle.acas_process.specs.Compiled.{compiled}
 use Rattle.acas_rulings.specs.Boxes.{AuditedBox}
+use Rattle.acas_manoeuvre.specs.Intruder.{Manoeuvre as Intruder}
+use Rattle.acas_report_lines.specs.Meetings.{IsMeetingsReport}
 use Rattle.acas_report_lines.specs.Regions.{IsRegionsReport}
 use Rattle.acas_report_lines.specs.Report.{IsReport}
 use Rattle.acas_report_lines.specs.declared.counts.Counts.{Counts}
 use Rattle.acas_report_lines.specs.declared.counts.Which.{Which}
 use Rattle.acas_report_lines.specs.declared.counts.Which.TheVariants.{All}
+use Rattle.acas_report_lines.specs.declared.meet_counts.MeetCounts.{MeetCounts}
 use Rattle.acas_replay.specs.Replay.{IsReplay}
 use Rattle.acas_replay.proofs.Texts.{texts_same}
 use Rattle.acas_command.specs.Called.{IsRefusal, IsReportOutcome, MayPrint, calls_for_report}
@@ -33,11 +38,13 @@ use Rattle.acas_drill.specs.Calls.{IsDrillBegun, IsDrillText}
 use Rattle.acas_drill_model.specs.DrilledModel.{drilled_model}
 use Rattle.acas_drill.specs.Text.{drill_text}
 use Rattle.acas_encounter_commands.specs.Calls.{IsReplayBegun, IsReplayText, IsReplayed, encounter_looked_at, replay_looks_at}
+use Rattle.acas_manoeuvre_commands.specs.Calls.{AreMetBoxes, IsManoeuvreBegun, IsManoeuvreText, manoeuvre_looks_at}
 use Rattle.acas_safeable_commands.specs.Calls.{IsSafeableText, IsSafeableTextBegun, safeable_looks_at}
 use Rattle.acas_safeable.specs.SafeableText.{IsSafeableReport}
 use Rattle.acas_safeable.specs.declared.counts.SafeCounts.{SafeCounts}
 use Rattle.acas_cli.specs.Calls.{CallsFor}
-use Rattle.acas_cli_words.specs.Words.{Form, Values, Compile, Check, Risk, Audit, Regions, Safeable, Replay, Migrate, Drill}
+use Rattle.acas_cli_words.specs.Words.{Form, Values, Compile, Check, Risk, Audit, Regions, Manoeuvre, Safeable, Replay, Migrate, Drill}
+use Rattle.acas_run_laws.specs.Forms.{HasIntruder}
 use Rattle.acas_run_laws.proofs.OneFiles.{IsOneModel, IsOneTable, one-input, one-model, one-table, one-tabled}
 use Rattle.acas_run_laws.proofs.OneReport.{ReportsAreOne}
 
@@ -79,6 +86,12 @@ pub regions-goes_on : (model boxes : List ℕ) (files : Files) (m : ModelData) (
 regions-goes_on model boxes files m said a =
     with_model-file (get files model) a.digest m (λ d n. with_input_file BoxesFile (boxes_of n) (get files boxes) (λ b. prints [])) a.model_file
     ∙ with_input_file-read BoxesFile (boxes_of m) (get files boxes) a.boxes_file.bytes said (λ b. prints []) a.boxes_file.text a.boxes_file.is_read
+
+pub manoeuvre-goes_on : (model boxes : List ℕ) (may : Intruder) (files : Files) (m : ModelData) (said : List AuditedBox) → AreMetBoxes model boxes may files m said
+    → manoeuvre_looks_at model boxes may files ≡ prints []
+manoeuvre-goes_on model boxes may files m said a =
+    with_model-file (get files model) a.digest m (λ d n. with_input_file BoxesFile (fitting_boxes_of n may) (get files boxes) (λ b. prints [])) a.model_file
+    ∙ with_input_file-read BoxesFile (fitting_boxes_of m may) (get files boxes) a.boxes_file.bytes said (λ b. prints []) a.boxes_file.text a.boxes_file.is_read
 
 pub replay-goes_on : (model table encounter : List ℕ) (files : Files) (m : ModelData) (advices : AdvicesData) (flown : EncounterData) → IsReplayed model table encounter files m advices flown
     → replay_looks_at model table encounter files ≡ prints []
@@ -172,6 +185,29 @@ module _ (one : ReportsAreOne) (drilled : (number : ℕ) → IsModel (drilled_mo
       same : (is.counts ≡ also.counts) × (t ≡ u)
       same = one.boxes_one is.m is.said is.counts also.counts t u within is.audited.fits is.report report
 
+  one-met : (model boxes : List ℕ) (may : Intruder) (files : Files) → 0 < may.accel → IsOneText (IsManoeuvreText model boxes may files)
+  one-met model boxes may files some r s t u is also = (is.count ∙ ap (λ (c : MeetCounts). c.reported) same.0 ∙ sym also.count, same.1)
+    where
+      models : IsOneModel is.audited.digest also.audited.digest is.m also.m
+      models = one-model (get files model) is.audited.digest also.audited.digest is.m also.m is.audited.model_file also.audited.model_file
+
+      other : AreMetBoxes model boxes may files is.m also.said
+      other = subst (λ (n : ModelData). AreMetBoxes model boxes may files n also.said) (sym models.models) also.audited
+
+      said : is.said ≡ also.said
+      said = one-input (fitting_boxes_of is.m may) (get files boxes) is.said also.said is.audited.boxes_file other.boxes_file
+
+      report : IsMeetingsReport is.m may is.said also.counts u
+      report =
+          subst (λ (b : List AuditedBox). IsMeetingsReport is.m may b also.counts u) (sym said)
+          (subst (λ (n : ModelData). IsMeetingsReport n may also.said also.counts u) (sym models.models) also.report)
+
+      within : IsModel is.m
+      within = within-file files model is.audited.digest is.m is.audited.model_file
+
+      same : (is.counts ≡ also.counts) × (t ≡ u)
+      same = one.meetings_one is.m may is.said is.counts also.counts t u within is.audited.fits some is.report report
+
   pub one-drilled : (number : ℕ) → IsOneText (IsDrillText number)
   one-drilled number r s t u is also =
       (is.count ∙ ap (λ (c : Counts). c.reported) same ∙ sym also.count, is.is ∙ ap (λ (c : Counts). drill_text number c) same ∙ sym also.is)
@@ -191,24 +227,29 @@ module _ (one : ReportsAreOne) (drilled : (number : ℕ) → IsModel (drilled_mo
           is.drilled.counted.report other).0
 
   -- each form ends with one outcome at most
-  pub one-outcome : (form : Form) (files : Files) (o p : Outcome) → (CallsFor form).ends files o → (CallsFor form).ends files p → o ≡ p
-  one-outcome (Values model) files o p first second = first ∙ sym second
-  one-outcome (Compile model table) files o p first second = first ∙ sym second
-  one-outcome (Check model table) files o p first second = first ∙ sym second
-  one-outcome (Risk model table) files o p first second = first ∙ sym second
-  one-outcome (Audit model table which) files o p first second =
+  pub one-outcome : (form : Form) (files : Files) (o p : Outcome) → HasIntruder form → (CallsFor form).ends files o → (CallsFor form).ends files p → o ≡ p
+  one-outcome (Values model) files o p has first second = first ∙ sym second
+  one-outcome (Compile model table) files o p has first second = first ∙ sym second
+  one-outcome (Check model table) files o p has first second = first ∙ sym second
+  one-outcome (Risk model table) files o p has first second = first ∙ sym second
+  one-outcome (Audit model table which) files o p has first second =
       one-report (audit_looks_at model table) (IsAuditText model table which) (IsAuditBegun model table which) files o p
       (λ r t is. printed-cause (audit_looks_at model table files) (audit-goes_on model table files is.m is.advices is.advised)) (one-audited model table which files) first second
-  one-outcome (Regions model boxes) files o p first second =
+  one-outcome (Regions model boxes) files o p has first second =
       one-report (regions_looks_at model boxes) (IsRegionsText model boxes) (IsRegionsBegun model boxes) files o p
       (λ r t is. printed-cause (regions_looks_at model boxes files) (regions-goes_on model boxes files is.m is.said is.audited)) (one-ruled model boxes files) first second
-  one-outcome (Safeable model table) files o p first second =
+  one-outcome (Manoeuvre model boxes accel rate) files o p has first second =
+      let may : Intruder = record { accel = accel; rate = rate } in
+      let some : 0 < accel = omega (arith, ints, has.least_accel) in
+      one-report (manoeuvre_looks_at model boxes may) (IsManoeuvreText model boxes may) (IsManoeuvreBegun model boxes may) files o p
+      (λ r t is. printed-cause (manoeuvre_looks_at model boxes may files) (manoeuvre-goes_on model boxes may files is.m is.said is.audited)) (one-met model boxes may files some) first second
+  one-outcome (Safeable model table) files o p has first second =
       one-report (safeable_looks_at model table) (IsSafeableText model table) (IsSafeableTextBegun model table) files o p
       (λ r t is. printed-cause (safeable_looks_at model table files) (safeable-goes_on model table files is.m is.advices is.advised)) (one-outlook model table files) first second
-  one-outcome (Replay model table encounter) files o p first second =
+  one-outcome (Replay model table encounter) files o p has first second =
       one-report (replay_looks_at model table encounter) (IsReplayText model table encounter) (IsReplayBegun model table encounter) files o p
       (λ r t is. printed-cause (replay_looks_at model table encounter files) (replay-goes_on model table encounter files is.m is.advices is.flown is.replayed))
       (one-replayed model table encounter files) first second
-  one-outcome (Migrate model table target) files o p first second = first ∙ sym second
-  one-outcome (Drill number) files o p first second =
+  one-outcome (Migrate model table target) files o p has first second = first ∙ sym second
+  one-outcome (Drill number) files o p has first second =
       one-report (λ fs. prints []) (λ fs. IsDrillText number) (λ fs. IsDrillBegun number) files o p (λ r t is. tt) (one-drilled number) first second

@@ -14,13 +14,17 @@ use Rattle.acas_outside.specs.Files.{Files}
 use Rattle.acas_flight.specs.Clear.{area_of_box}
 use Rattle.acas_region_curves.specs.Limits.{IsArea, IsSmall}
 use Rattle.acas_input.specs.declared.fault.InputFault.{InputFault}
+use Rattle.acas_boxes.specs.Rates.{fitting_boxes_of}
 use Rattle.acas_boxes.specs.Text.{IsBoxesText}
 use Rattle.acas_boxes.specs.Whole.{boxes_of}
+use Rattle.acas_boxes.proofs.Fitting.{fitting_ok}
 use Rattle.acas_boxes.proofs.Read as boxes_text
 use Rattle.acas_encounter.specs.Encounter.{EncounterData, IsEncounter, seconds}
 use Rattle.acas_encounter.specs.Text.{IsEncounterText}
 use Rattle.acas_encounter.specs.Whole.{encounter_of}
 use Rattle.acas_encounter.proofs.Read as encounter_text
+use Rattle.acas_manoeuvre.specs.Intruder.{Manoeuvre as Intruder}
+use Rattle.acas_passes.specs.Search.{fastest}
 use Rattle.acas_process.specs.Compiled.{compiled}
 use Rattle.acas_rulings.specs.Boxes.{AuditedBox, box_at}
 use Rattle.acas_report_lines.specs.declared.counts.Which.{Which}
@@ -45,11 +49,13 @@ use Rattle.acas_drill.specs.Calls.{IsDrillBegun, IsDrillText}
 use Rattle.acas_drill_model.specs.DrilledModel.{drilled_model}
 use Rattle.acas_drill.specs.Text.{drill_text}
 use Rattle.acas_encounter_commands.specs.Calls.{IsReplayBegun, IsReplayText, encounter_looked_at, replay_looks_at}
+use Rattle.acas_manoeuvre_commands.specs.Calls.{IsManoeuvreBegun, IsManoeuvreText, manoeuvre_looks_at}
 use Rattle.acas_risk_commands.specs.Calls.{risk_of}
 use Rattle.acas_safeable_commands.specs.Calls.{IsSafeableText, IsSafeableTextBegun, safeable_looks_at}
 use Rattle.acas_table_commands.specs.Calls.{check_of, compile_of, migrate_of, values_of}
 use Rattle.acas_cli.specs.Calls.{CallsFor}
-use Rattle.acas_cli_words.specs.Words.{Form, Values, Compile, Check, Risk, Audit, Regions, Safeable, Replay, Migrate, Drill}
+use Rattle.acas_cli_words.specs.Words.{Form, Values, Compile, Check, Risk, Audit, Regions, Manoeuvre, Safeable, Replay, Migrate, Drill}
+use Rattle.acas_run_laws.specs.Forms.{HasIntruder}
 use Rattle.acas_run_laws.specs.Outcomes.{AreBytes}
 use Rattle.acas_run_laws.proofs.AdvicesMade.{accepted-by, advices_by, fits-by, known-accepted, table_advice, tabled-by}
 use Rattle.acas_run_laws.proofs.WrittenFiles.{prints_or_not}
@@ -208,6 +214,30 @@ module _ (one : ReportsAreOne) (drilled : (number : ℕ) → IsModel (drilled_mo
         },
       )
 
+  some-met : (model boxes : List ℕ) (may : Intruder) (files : Files) → 0 < may.accel → may.rate ≤ fastest → MayPrint (manoeuvre_looks_at model boxes may files).cause
+      → HasText (IsManoeuvreText model boxes may files)
+  some-met model boxes may files some fast may_print =
+      let rest : List ℕ → ModelData → Outcome = λ digest n. with_input_file BoxesFile (fitting_boxes_of n may) (get files boxes) (λ said. prints []) in
+      let b = behind-model (get files model) rest (no_file_cause-may_print _ may_print) in
+      let m : ModelData = b.m in
+      let file = model-file (get files model) rest b in
+      let within : IsModel m = within-file files model (sha256 b.bytes) m file in
+      let said = input-file BoxesFile (fitting_boxes_of m may) (get files boxes) (λ s. prints []) (subst (λ (o : Outcome). MayPrint o.cause) b.is may_print) in
+      let fitting = fitting_ok m may said.1.bytes said.0 said.1.is_read in
+      let text : IsBoxesText m said.1.bytes said.0 = boxes_text.said m said.1.bytes said.0 within fitting.0 in
+      let report = one.meetings_some m may said.0 within text.fits (λ place small. area-box m said.1.bytes said.0 place text small) some fast fitting.1 in (
+        report.0.reported,
+        report.1,
+        record {
+          m = m;
+          said = said.0;
+          audited = record { digest = sha256 b.bytes; model_file = file; boxes_file = said.1; fits = text.fits; rates = fitting.1 };
+          counts = report.0;
+          report = report.2;
+          count = refl {a = report.0.reported};
+        },
+      )
+
   some-drilled : (number : ℕ) → HasText (IsDrillText number)
   some-drilled number =
       let m : ModelData = drilled_model number in
@@ -223,17 +253,22 @@ module _ (one : ReportsAreOne) (drilled : (number : ℕ) → IsModel (drilled_mo
         },
       )
 
-  pub some-outcome : (form : Form) (files : Files) → AreBytes files → (o : Outcome) × (CallsFor form).ends files o
-  some-outcome (Values model) files bytes = (values_of (get files model), refl)
-  some-outcome (Compile model table) files bytes = (compile_of (get files model) table, refl)
-  some-outcome (Check model table) files bytes = (check_of (get files model) (get files table), refl)
-  some-outcome (Risk model table) files bytes = (risk_of (get files model) (get files table), refl)
-  some-outcome (Audit model table which) files bytes =
+  pub some-outcome : (form : Form) (files : Files) → HasIntruder form → AreBytes files → (o : Outcome) × (CallsFor form).ends files o
+  some-outcome (Values model) files has bytes = (values_of (get files model), refl)
+  some-outcome (Compile model table) files has bytes = (compile_of (get files model) table, refl)
+  some-outcome (Check model table) files has bytes = (check_of (get files model) (get files table), refl)
+  some-outcome (Risk model table) files has bytes = (risk_of (get files model) (get files table), refl)
+  some-outcome (Audit model table which) files has bytes =
       some-report (audit_looks_at model table) (IsAuditText model table which) (IsAuditBegun model table which) files (some-audited model table which files bytes)
-  some-outcome (Regions model boxes) files bytes = some-report (regions_looks_at model boxes) (IsRegionsText model boxes) (IsRegionsBegun model boxes) files (some-ruled model boxes files)
-  some-outcome (Safeable model table) files bytes =
+  some-outcome (Regions model boxes) files has bytes = some-report (regions_looks_at model boxes) (IsRegionsText model boxes) (IsRegionsBegun model boxes) files (some-ruled model boxes files)
+  some-outcome (Manoeuvre model boxes accel rate) files has bytes =
+      let may : Intruder = record { accel = accel; rate = rate } in
+      let some : 0 < accel = omega (arith, ints, has.least_accel) in
+      let fast : rate ≤ fastest = omega (arith, ints, has.greatest_rate) in
+      some-report (manoeuvre_looks_at model boxes may) (IsManoeuvreText model boxes may) (IsManoeuvreBegun model boxes may) files (some-met model boxes may files some fast)
+  some-outcome (Safeable model table) files has bytes =
       some-report (safeable_looks_at model table) (IsSafeableText model table) (IsSafeableTextBegun model table) files (some-outlooks model table files bytes)
-  some-outcome (Replay model table encounter) files bytes =
+  some-outcome (Replay model table encounter) files has bytes =
       some-report (replay_looks_at model table encounter) (IsReplayText model table encounter) (IsReplayBegun model table encounter) files (some-replayed model table encounter files bytes)
-  some-outcome (Migrate model table target) files bytes = (migrate_of (get files model) (get files table) target, refl)
-  some-outcome (Drill number) files bytes = some-report (λ fs. prints []) (λ fs. IsDrillText number) (λ fs. IsDrillBegun number) files (λ may. some-drilled number)
+  some-outcome (Migrate model table target) files has bytes = (migrate_of (get files model) (get files table) target, refl)
+  some-outcome (Drill number) files has bytes = some-report (λ fs. prints []) (λ fs. IsDrillText number) (λ fs. IsDrillBegun number) files (λ may. some-drilled number)

@@ -21,7 +21,7 @@ use Rattle.acas_command.specs.declared.status.Cause.{Cause}
 use Rattle.acas_command.proofs.Refused.{behind-model, no_file_cause-may_print}
 use Rattle.acas_table_file.proofs.Files.{behind-table, with_table-accepted}
 use Rattle.acas_cli.specs.Calls.{CallsFor}
-use Rattle.acas_cli_words.specs.Words.{Form, Values, Compile, Check, Risk, Audit, Regions, Safeable, Replay, Migrate, Drill}
+use Rattle.acas_cli_words.specs.Words.{Form, Values, Compile, Check, Risk, Audit, Regions, Manoeuvre, Safeable, Replay, Migrate, Drill}
 use Rattle.acas_run_laws.specs.Forms.{written_by}
 use Rattle.acas_run_laws.specs.Migrated.{IsMigratedText}
 use Rattle.acas_run_laws.proofs.Kept.{kept-form, same-name}
@@ -151,6 +151,7 @@ other-form (Check model table) cause files before after name a apart = same-name
 other-form (Risk model table) cause files before after name a apart = same-name files name after.holds (kept-form (Risk model table) cause files before after refl a)
 other-form (Audit model table which) cause files before after name a apart = same-name files name after.holds (kept-form (Audit model table which) cause files before after refl a)
 other-form (Regions model boxes) cause files before after name a apart = same-name files name after.holds (kept-form (Regions model boxes) cause files before after refl a)
+other-form (Manoeuvre model boxes accel rate) cause files before after name a apart = same-name files name after.holds (kept-form (Manoeuvre model boxes accel rate) cause files before after refl a)
 other-form (Safeable model table) cause files before after name a apart = same-name files name after.holds (kept-form (Safeable model table) cause files before after refl a)
 other-form (Replay model table encounter) cause files before after name a apart = same-name files name after.holds (kept-form (Replay model table encounter) cause files before after refl a)
 other-form (Migrate model table target) cause files before after name a apart = migrated-other model table target files cause before after name a (λ e. apart (ap (λ (x : List ℕ). Some x) (sym e)))

@@ -6,6 +6,7 @@ use Rattle.acas_spec.specs.Model.{ModelData}
 use Rattle.acas_model.specs.Whole.{model_of}
 use Rattle.acas_outside.specs.Files.{Files}
 use Rattle.acas_input.specs.declared.fault.InputFault.{InputFault}
+use Rattle.acas_boxes.specs.Rates.{fitting_boxes_of}
 use Rattle.acas_boxes.specs.Whole.{boxes_of}
 use Rattle.acas_encounter.specs.Whole.{encounter_of}
 use Rattle.acas_accept.specs.Refusals.{first_refusal}
@@ -15,7 +16,7 @@ use Rattle.acas_command.specs.declared.status.Cause.{Cause}
 use Rattle.acas_command.specs.declared.status.Cause.TheVariants.{Done, Reported, Words, Absent, Model, Table, Input, Folder, Output, TooLong, Memory}
 use Rattle.acas_command.specs.declared.status.FileRole.{FileRole}
 use Rattle.acas_command.specs.declared.status.FileRole.TheVariants.{Model as ModelFile, Table as TableFile, Boxes as BoxesFile, Encounter as EncounterFile}
-use Rattle.acas_cli_words.specs.Words.{Form, Values, Compile, Check, Risk, Audit, Regions, Safeable, Replay, Migrate, Drill}
+use Rattle.acas_cli_words.specs.Words.{Form, Values, Compile, Check, Risk, Audit, Regions, Manoeuvre, Safeable, Replay, Migrate, Drill}
 
 -- the bytes of boxes or of an encounter, beside the model, have this first fault
 abbrev pub InputHasFault : Form → (FileRole → List ℕ) → Files → ModelData → InputFault → Type 0
@@ -25,6 +26,8 @@ InputHasFault (Check model table) name files m fault = ⊥
 InputHasFault (Risk model table) name files m fault = ⊥
 InputHasFault (Audit model table which) name files m fault = ⊥
 InputHasFault (Regions model boxes) name files m fault = IsSomeAnd (get files (name BoxesFile)) (λ bytes. boxes_of m bytes ≡ Err fault)
+InputHasFault (Manoeuvre model boxes accel rate) name files m fault =
+    IsSomeAnd (get files (name BoxesFile)) (λ bytes. fitting_boxes_of m (record { accel = accel; rate = rate }) bytes ≡ Err fault)
 InputHasFault (Safeable model table) name files m fault = ⊥
 InputHasFault (Replay model table encounter) name files m fault = IsSomeAnd (get files (name EncounterFile)) (λ bytes. encounter_of m bytes ≡ Err fault)
 InputHasFault (Migrate model table target) name files m fault = ⊥

@@ -9,6 +9,7 @@ ghost use Rattle.acas_outside.specs.Files.{Files};
 ghost use Rattle.acas_outside.specs.Outside.{Outside};
 ghost use Rattle.acas_accept.specs.Accepted.{IsAcceptedTable};
 ghost use Rattle.acas_rulings.specs.Boxes.{AuditedBox};
+ghost use Rattle.acas_boxes.specs.Rates.{AllRatesFit};
 ghost use Rattle.acas_boxes.specs.Text.{IsBoxesText};
 ghost use Rattle.acas_encounter.specs.Encounter.{EncounterData};
 ghost use Rattle.acas_encounter.specs.Text.{IsEncounterText};
@@ -18,7 +19,7 @@ ghost use Rattle.acas_command.specs.Says.{SaysModel};
 ghost use Rattle.acas_command.specs.declared.status.Cause.{Cause};
 ghost use Rattle.acas_cli.specs.Calls.{AnswersForm};
 ghost use Rattle.acas_cli.specs.Headline.{Headline};
-ghost use Rattle.acas_cli_words.specs.Words.{Audit, Check, Compile, Drill, Form, Migrate, Regions, Replay, Risk, Safeable, Values};
+ghost use Rattle.acas_cli_words.specs.Words.{Audit, Check, Compile, Drill, Form, Manoeuvre, Migrate, Regions, Replay, Risk, Safeable, Values};
 ghost use Rattle.acas_run_laws.specs.Forms.{MayReport};
 ghost use Rattle.acas_run_laws.specs.Ends.{EndsWell, HasNoFault};
 
@@ -53,6 +54,12 @@ pub fn right_files_are_not_refused()
         → before.holds ≡ Some files → SaysModel files model bytes m → get files boxes ≡ Some given
         → length given ≤ TEXT_BYTES → IsBoxesText m given said → HasNoFault before after
         → Headline (Some (Regions model boxes)) cause before after → EndsWell cause }
+    ensures manoeuvre { (model boxes bytes given : List ℕ) (accel rate : ℕ) (m : ModelData) (said : List AuditedBox)
+        (cause : Cause) (files : Files) (before after : Outside)
+        → before.holds ≡ Some files → SaysModel files model bytes m → get files boxes ≡ Some given
+        → length given ≤ TEXT_BYTES → IsBoxesText m given said
+        → AllRatesFit (record { accel = accel; rate = rate }) said → HasNoFault before after
+        → Headline (Some (Manoeuvre model boxes accel rate)) cause before after → EndsWell cause }
     ensures safeable { (model table bytes given : List ℕ) (m : ModelData) (t : Table)
         (cause : Cause) (files : Files) (before after : Outside)
         → before.holds ≡ Some files → SaysModel files model bytes m → get files table ≡ Some given
@@ -75,7 +82,7 @@ pub fn right_files_are_not_refused()
         → Headline (Some (Drill number)) cause before after → EndsWell cause }
 {}
 
-/// The exit code 1 is that of an audit, of regions, of clear cells or of a drill, over a folder that tells its files.
+/// The exit code 1 is that of an audit, of regions, of a manoeuvre, of clear cells or of a drill, over a folder that tells its files.
 pub fn only_reports_end_with_1()
     ensures { (form : Form) (cause : Cause) (files : Files) (before after : Outside)
         → before.holds ≡ Some files → AnswersForm (Some form) cause before after → code_of cause ≡ 1

@@ -11,11 +11,11 @@ ghost use Rattle.acas_command.specs.Codes.{code_of};
 ghost use Rattle.acas_command.specs.ModelFile.{IsModelFile};
 ghost use Rattle.acas_command.specs.declared.status.Cause.{Cause};
 ghost use Rattle.acas_table_file.specs.AcceptedFile.{IsTableOf};
-ghost use Rattle.acas_cli_words.specs.Words.{Audit, Check, Compile, Drill, Form, Migrate, Regions, Replay, Risk, Safeable, Values};
+ghost use Rattle.acas_cli_words.specs.Words.{Audit, Check, Compile, Drill, Form, Manoeuvre, Migrate, Regions, Replay, Risk, Safeable, Values};
 ghost use Rattle.acas_cli.specs.Work.{CountsForm};
 ghost use Rattle.acas_cli.specs.declared.work.Work.{Work};
 
-/// What is not named for a form is not counted, whatever the answer: words of no form, `check`, `risk`, `regions`,
+/// What is not named for a form is not counted, whatever the answer: words of no form, `check`, `risk`, `regions`, `manoeuvre`,
 /// `safeable`, `replay`, `migrate` and `drill` leave all three counts as they were, an audit those of backups and of turned pairs, and
 /// `values` and `compile` that of decisions.
 pub fn what_is_not_named_is_not_counted()
@@ -30,6 +30,9 @@ pub fn what_is_not_named_is_not_counted()
         → (new.backups ≡ old.backups) × (new.turned ≡ old.turned) × (new.decisions ≡ old.decisions) }
     ensures regions { (model boxes : List ℕ) (holds : Option Files) (cause : Cause) (old new : Work)
         → CountsForm (Some (Regions model boxes)) holds cause old new
+        → (new.backups ≡ old.backups) × (new.turned ≡ old.turned) × (new.decisions ≡ old.decisions) }
+    ensures manoeuvre { (model boxes : List ℕ) (accel rate : ℕ) (holds : Option Files) (cause : Cause) (old new : Work)
+        → CountsForm (Some (Manoeuvre model boxes accel rate)) holds cause old new
         → (new.backups ≡ old.backups) × (new.turned ≡ old.turned) × (new.decisions ≡ old.decisions) }
     ensures safeable { (model table : List ℕ) (holds : Option Files) (cause : Cause) (old new : Work)
         → CountsForm (Some (Safeable model table)) holds cause old new

@@ -2,14 +2,15 @@
 use Rattle.std.proofs.Common.{◌≡◌, ℕ, ◌*◌, ◌<◌, ⊎_elim, refl, ap, ◌∙◌, arith, List, [], ◌∷◌, ℤ, pos, ◌+ℤ◌, ◌-ℤ◌, ◌*ℤ◌, ◌≤ℤ◌}
 use Rattle.std.specs.Int.{int_max, int_min}
 use Rattle.std.proofs.lemmas.Int.{ints, clamps}
-use Rattle.acas_frac.proofs.IntRing.{at, num, ◌⊕◌, ◌⊖◌, ◌⊗◌, mul_pos_mul_ℤ, ring, sub-mul_ℤ}
+use Rattle.acas_frac.proofs.IntRing.{at, num, ◌⊕◌, ◌⊖◌, ◌⊗◌, ring, sub-mul_ℤ}
 use Rattle.acas_frac.proofs.Orders.{cases_lt_ℤ, le_of_lt_ℤ}
 use Rattle.acas_frac.proofs.RoundingLaws.{down_is_floor, up_is_ceiling}
 use Rattle.acas_frac.proofs.SignedProducts.{add-mul_ℤ, le-from_mul_ℤ, mul-le_ℤ}
 use Rattle.acas_flight.proofs.Between.{test_ge, test_lt}
 use Rattle.acas_flight_curves.proofs.Models.{scaled_can_be_met}
 use Rattle.acas_flight_curves.proofs.Rising.{scaled_le}
-use Rattle.acas_flight_curves.proofs.Safe.{high_pull-some, low_pull-some}
+use Rattle.acas_flight_curves.proofs.Gaps.{high_pull-over, low_pull-over}
+use Rattle.acas_flight_curves.proofs.Safe.{greatest_start, high_bound, high_pull-some, least_start, low_bound, low_pull-some}
 use Rattle.acas_flight.specs.Contact.{vertical_separation}
 use Rattle.acas_flight.specs.Curves.{high_pull, highest, low_pull, lowest}
 use Rattle.acas_flight.specs.Parts.{CanBeMet}
@@ -17,7 +18,7 @@ use Rattle.acas_flight.specs.Response.{Demand, Meets, Segment, climb, lasting, s
 use Rattle.acas_flight.specs.State.{Interval}
 use Rattle.acas_safeable.specs.Reached.{greatest_altitude, greatest_rate, least_altitude, least_rate}
 use Rattle.acas_safeable.specs.Safe.{rate_left}
-use Rattle.acas_safeable.proofs.Bounds.{high_bound, high_pull-over, highest-over, low_bound, low_pull-over, lowest-over}
+use Rattle.acas_safeable.proofs.Bounds.{highest-over, lowest-over}
 use Rattle.acas_safeable.proofs.Rates.{left_high, left_low, left_near}
 
 -- ---- altitudes: the intruder's altitude h and rate x over q, the own climb z over q^3; p is the pull
@@ -124,7 +125,7 @@ module _ (a : Demand) (v : Interval) (q : ℕ) (own : ℤ) (first : List Segment
       (cases_lt_ℤ v.least a.lo)
     where
       start : (v.least *ℤ pos (q * q)) ≤ℤ (own *ℤ pos q)
-      start = rw (mul_pos_mul_ℤ v.least q q) (scaled_le (v.least *ℤ pos q) own q h)
+      start = least_start q v.least own h
 
       same : (z : ℤ) → z ≤ℤ z
       same z = omega (arith, ints)
@@ -143,7 +144,7 @@ module _ (a : Demand) (v : Interval) (q : ℕ) (own : ℤ) (first : List Segment
       (cases_lt_ℤ a.hi v.greatest)
     where
       start : (own *ℤ pos q) ≤ℤ (v.greatest *ℤ pos (q * q))
-      start = rw (mul_pos_mul_ℤ v.greatest q q) (scaled_le own (v.greatest *ℤ pos q) q h)
+      start = greatest_start q v.greatest own h
 
       same : (z : ℤ) → z ≤ℤ z
       same z = omega (arith, ints)
@@ -161,7 +162,7 @@ module _ (a : Demand) (v : Interval) (q : ℕ) (own : ℤ) (first : List Segment
         let few = high_pull-some a v.greatest fine in
         over_bottom pull q few some h x (climb (own *ℤ pos q) first) i.least w.least (highest a v.greatest 1) (least_altitude a i v w) high fast
         (by (climb (own *ℤ pos q) first) _ _ _ _ (high_pull-over a v.greatest q some) (ap (λ t. highest (scaled q a) (v.greatest *ℤ pos (q * q)) t) one ∙ highest-over a v.greatest q some)
-        (high_bound (scaled q a) (scaled_can_be_met q a some fine) (v.greatest *ℤ pos (q * q)) (own *ℤ pos q) first meets (rw (mul_pos_mul_ℤ v.greatest q q) (scaled_le own (v.greatest *ℤ pos q) q o))))
+        (high_bound (scaled q a) (scaled_can_be_met q a some fine) (v.greatest *ℤ pos (q * q)) (own *ℤ pos q) first (greatest_start q v.greatest own o) meets))
         (down_is_floor (((i.least +ℤ pos 2 *ℤ w.least) *ℤ pos pull) -ℤ highest a v.greatest 1) pull few).0
       where
         by : (z : ℤ) (b c : ℕ) (k l : ℤ) → b ≡ c → k ≡ l → (z *ℤ pos b) ≤ℤ k → (z *ℤ pos c) ≤ℤ l
@@ -174,7 +175,7 @@ module _ (a : Demand) (v : Interval) (q : ℕ) (own : ℤ) (first : List Segment
         let few = low_pull-some a v.least fine in
         under_top pull q few some h x (climb (own *ℤ pos q) first) i.greatest w.greatest (lowest a v.least 1) (greatest_altitude a i v w) high fast
         (by (climb (own *ℤ pos q) first) _ _ _ _ (low_pull-over a v.least q some) (ap (λ t. lowest (scaled q a) (v.least *ℤ pos (q * q)) t) one ∙ lowest-over a v.least q some)
-        (low_bound (scaled q a) (scaled_can_be_met q a some fine) (v.least *ℤ pos (q * q)) (own *ℤ pos q) first meets (rw (mul_pos_mul_ℤ v.least q q) (scaled_le (v.least *ℤ pos q) own q o))))
+        (low_bound (scaled q a) (scaled_can_be_met q a some fine) (v.least *ℤ pos (q * q)) (own *ℤ pos q) first (least_start q v.least own o) meets))
         (up_is_ceiling (((i.greatest +ℤ pos 2 *ℤ w.greatest) *ℤ pos pull) -ℤ lowest a v.least 1) pull few).0
       where
         by : (z : ℤ) (b c : ℕ) (k l : ℤ) → b ≡ c → k ≡ l → k ≤ℤ (z *ℤ pos b) → l ≤ℤ (z *ℤ pos c)

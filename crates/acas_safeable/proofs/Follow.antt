@@ -4,14 +4,14 @@ use Rattle.std.specs.Int.{int_max}
 use Rattle.std.proofs.lemmas.Int.{ints, clamps, unsigned_abs-mul}
 use Rattle.acas_spec.specs.Limits.{IsModel}
 use Rattle.acas_spec.specs.Model.{ModelData}
-use Rattle.acas_frac.proofs.IntRing.{at, num, ◌⊕◌, ◌⊖◌, ◌⊗◌, mul_pos_mul_ℤ, ring}
+use Rattle.acas_frac.proofs.IntRing.{at, num, ◌⊕◌, ◌⊖◌, ◌⊗◌, ring}
 use Rattle.acas_frac.proofs.Orders.{mul_nonneg}
-use Rattle.acas_flight_curves.proofs.Rising.{scaled_le}
+use Rattle.acas_flight_laws.proofs.Endangered.{scaled-finer}
 use Rattle.acas_flight_laws.proofs.Finer.{climb_finer, finer_meet, lasting_finer}
 use Rattle.acas_flight.specs.Contact.{IsHorizontalContact, IsVerticalContact, vertical_separation}
 use Rattle.acas_flight.specs.Parts.{finer}
 use Rattle.acas_flight.specs.Response.{Demand, Meets, Segment, climb, climb_within, lasting, rate_after, scaled}
-use Rattle.acas_flight.specs.State.{Interval, IsInside, IsSecondsAway}
+use Rattle.acas_flight.specs.State.{IsSecondsAway}
 use Rattle.acas_safeable.specs.Safe.{rate_left}
 
 -- ---- ranges
@@ -64,26 +64,11 @@ climb_joined v (x ∷ r) s = rw (climb_joined (rate_after v x) r s) (shift (clim
 
 -- ---- finer numbers
 
-pub inside_times : (q n : ℕ) (s : Interval) (z : ℤ) → IsInside q s z → IsInside (q * n) s (z *ℤ pos n)
-inside_times q n s z i = (
-  rw (mul_pos_mul_ℤ s.least q n) (scaled_le (s.least *ℤ pos q) z n i.0),
-  rw (mul_pos_mul_ℤ s.greatest q n) (scaled_le z (s.greatest *ℤ pos q) n i.1),
-)
-
 scaled-cube : (q : ℕ) (a : Demand) → scaled (q * q) (scaled q a) ≡ scaled (q * q * q) a
-scaled-cube q a = same (rate a.lo) (rate a.hi) (along a.pull) (along a.limit) (along a.delay)
+scaled-cube q a = scaled-finer q (q * q) a ∙ ap (λ n. scaled n a) cube
   where
-    rate : (z : ℤ) → (z *ℤ pos (q * q)) *ℤ pos ((q * q) * (q * q)) ≡ z *ℤ pos ((q * q * q) * (q * q * q))
-    rate z = ring (z ∷ pos q ∷ []) ((at 0 ⊗ (at 1 ⊗ at 1)) ⊗ ((at 1 ⊗ at 1) ⊗ (at 1 ⊗ at 1))) (at 0 ⊗ (((at 1 ⊗ at 1) ⊗ at 1) ⊗ ((at 1 ⊗ at 1) ⊗ at 1))) refl
-
-    along : (n : ℕ) → n * q * (q * q) ≡ n * (q * q * q)
-    along n = omega arith
-
-    demand : ℤ → ℤ → ℕ → ℕ → ℕ → Demand
-    demand lo hi pull limit delay = record { lo = lo; hi = hi; pull = pull; limit = limit; delay = delay }
-
-    same : {lo lo' hi hi' : ℤ} {p p' l l' d d' : ℕ} → lo ≡ lo' → hi ≡ hi' → p ≡ p' → l ≡ l' → d ≡ d' → demand lo hi p l d ≡ demand lo' hi' p' l' d'
-    same e f g h i = rw (e, f, g, h, i) refl
+    cube : q * (q * q) ≡ q * q * q
+    cube = omega arith
 
 -- ---- the second response from the state that the first leaves
 

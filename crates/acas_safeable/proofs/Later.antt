@@ -4,7 +4,7 @@ use Rattle.acas_spec.specs.Limits.{IsModel}
 use Rattle.acas_spec.specs.Model.{ModelData}
 use Rattle.acas_flight_curves.proofs.Models.{demand_can_be_met}
 use Rattle.acas_flight_curves.proofs.Safe.{clear_areas_are_safe}
-use Rattle.acas_flight_laws.proofs.Endangered.{IsDuring-finer}
+use Rattle.acas_flight_laws.proofs.Endangered.{IsDuring-finer, IsInside-finer}
 use Rattle.acas_flight_laws.proofs.Finer.{lasting_finer}
 use Rattle.acas_flight.specs.Clear.{EndsInVerticalContact}
 use Rattle.acas_flight.specs.Contact.{IsEndangeredCell, vertical_separation}
@@ -16,7 +16,7 @@ use Rattle.acas_cells.specs.Cells.{Cell}
 use Rattle.acas_safeable.specs.Outlooks.{IsShown}
 use Rattle.acas_safeable.specs.Reached.{reached_area}
 use Rattle.acas_safeable.specs.Safe.{EndsInContactLater, IsSafeBy, rate_left}
-use Rattle.acas_safeable.proofs.Follow.{cell_follows, horizontal_finer, inside_times, later_horizontal, later_meets, later_vertical}
+use Rattle.acas_safeable.proofs.Follow.{cell_follows, horizontal_finer, later_horizontal, later_meets, later_vertical}
 use Rattle.acas_safeable.proofs.Reaches.{is_reached}
 
 module _ (m : ModelData) (n i j k advisory q : ℕ) (s : State) (first second : List Segment) (is : IsModel m) where
@@ -33,8 +33,8 @@ module _ (m : ModelData) (n i j k advisory q : ℕ) (s : State) (first second : 
       record {
         some = mul-pos (mul-pos later.some later.some) later.some;
         altitude = there.0;
-        own = inside_times (q * q) q (reached_area m i j k).own (rate_left v first) there.1;
-        intruder = rw cube at (inside_times q (q * q) (reached_area m i j k).intruder s.intruder there.2);
+        own = IsInside-finer (q * q) q (reached_area m i j k).own (rate_left v first) there.1;
+        intruder = rw cube at (IsInside-finer q (q * q) (reached_area m i j k).intruder s.intruder there.2);
         time = rw (lasting_finer (q * q) second, ← cube) (IsDuring-finer q (q * q) w _ at_time);
         meets = later_meets q later.some v first second later.one_second (demand_of m advisory) later.meets;
         contact = later_vertical q later.some v first second later.one_second m.half s.altitude s.intruder later.contact.vertical;

@@ -1,18 +1,15 @@
 -- Which advisories are shown: it is decided, and the windows of a cell are one up to how their ends are written.
-use Rattle.std.proofs.Common.{◌≡◌, ℕ, ◌+◌, ◌-◌, ◌*◌, ◌<◌, ◌≤◌, ◌⊎◌, ◌↔◌, inl, inr, ⊎_elim, refl, subst, arith, true, false, pos, Contains, mul-le-mul_right, unsigned_abs}
-use Rattle.std.proofs.lemmas.Int.{ints}
+use Rattle.std.proofs.Common.{◌≡◌, ℕ, ◌-◌, ◌*◌, ◌<◌, ◌⊎◌, ◌↔◌, inl, inr, ⊎_elim, refl, subst, arith, true, false, pos, Contains, unsigned_abs}
 use Rattle.std.proofs.lemmas.Bool.{cases_lt, false≢true}
-use Rattle.acas_units.specs.declared.limits.TheConstants.{GREATEST_CLOSING, WINDOW_SECONDS, GREATEST_ALTITUDE}
+use Rattle.acas_units.specs.declared.limits.TheConstants.{GREATEST_ALTITUDE}
 use Rattle.acas_units.specs.declared.ticks.TheConstants.{TICKS_PER_FOOT}
 use Rattle.acas_spec.specs.Limits.{IsModel}
 use Rattle.acas_spec.specs.Model.{ModelData, choices_at}
-use Rattle.acas_frac.specs.Fraction.{Fraction}
 use Rattle.acas_flight_curves.proofs.Models.{demand_can_be_met}
 use Rattle.acas_flight.specs.Clear.{Area, IsClear}
 use Rattle.acas_flight.specs.Response.{Demand, demand_of}
 use Rattle.acas_flight.specs.Window.{IsDuring, IsWindowOfCell, Times}
-use Rattle.acas_region_curves.specs.Limits.{AreEnds, IsEnd, times_from}
-use Rattle.acas_region_curves.proofs.Ends.{cell_window, ordered}
+use Rattle.acas_region_curves.proofs.EachWindow.{window_of_cell}
 use Rattle.acas_cells.specs.Cells.{Cell, IsCellOf}
 use Rattle.acas_safeable.specs.Firsts.{IsFound}
 use Rattle.acas_safeable.specs.Outlooks.{IsOutlook, IsShown, candidates}
@@ -36,32 +33,6 @@ module _ (m : ModelData) (c : Cell) (within : IsWithinAltitudes (reached_area m 
     λ shown. clear-windows m.half (demand_of m advisory) (reached_area m c.i c.j c.k) shown.window w (λ q t p d. (shown.is_window.exact q t p).1 ((window.exact q t p).0 d)) shown.clear,
   )
 
--- ---- each cell has a window
-
-record HasWindow (m : ModelData) (n : ℕ) : Type 0 where
-  times : Times
-  ends : AreEnds times
-  window : IsWindowOfCell m n times
-
-abbrev over : ℕ → ℕ → Fraction
-over n d = record { num = pos n; den = d }
-
-end_over : (n d : ℕ) → 0 < d → d ≤ GREATEST_CLOSING → n ≤ WINDOW_SECONDS * d → IsEnd (over n d)
-end_over n d p h k = record { some = p; den = h; least = omega (arith, ints); greatest = omega (arith, ints) }
-
-window_of : (m : ModelData) (n : ℕ) → IsModel m → n < m.grid.horizon → HasWindow m n
-window_of m n is within =
-    let slow = m.least_closing in
-    let last = (n + 1) * slow + 2 * m.radius in
-    let some : 0 < slow = omega (arith, is.some_closing) in
-    let rows = mul-le-mul_right slow (let l : n + 1 ≤ m.grid.horizon = omega arith in l) in
-    let ends : AreEnds (times_from (over n 1) (over last slow)) = record {
-      from = end_over n 1 (omega arith) (omega arith) (omega (arith, is.grid.horizon));
-      to = end_over last slow some (omega (arith, is.closing, is.greatest_closing)) (omega (arith, rows, is.window));
-      order = ordered (over n 1) (over last slow) n 1 last slow (omega arith) some (omega arith) some refl refl (omega arith);
-    } in
-    record { times = times_from (over n 1) (over last slow); ends = ends; window = cell_window m n (times_from (over n 1) (over last slow)) m.radius slow n is refl refl refl ends refl refl }
-
 -- ---- decided
 
 within_cases : (area : Area) → IsWithinAltitudes area ⊎ ¬ IsWithinAltitudes area
@@ -83,7 +54,7 @@ shown_cases m c advisory is inside allowed = ⊎_elim by_window (λ fails. inr (
   where
     by_window : IsWithinAltitudes (reached_area m c.i c.j c.k) → IsShown m c advisory ⊎ ¬ IsShown m c advisory
     by_window within =
-        let w = window_of m (c.n - 1) is (omega (arith, inside.n)) in
+        let w = window_of_cell m (c.n - 1) is (omega (arith, inside.n)) in
         let same = shown_in m c within w.times w.window advisory in
         ⊎_elim
         (λ clear. inl (same.0 clear))

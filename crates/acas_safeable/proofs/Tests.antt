@@ -1,14 +1,12 @@
 -- Whether an area is clear in a window is decided by a test: of a rising curve at its nearest time, and else at the two ends.
-use Rattle.std.proofs.Common.{◌≡◌, ℕ, ◌*◌, ◌<◌, ◌↔◌, inl, inr, refl, ap, subst, arith, Bool, true, false, cond, IsTrue, ℤ, pos, neg_ℤ, ◌+ℤ◌, ◌-ℤ◌, ◌*ℤ◌, ◌≤ℤ◌, ◌<ℤ◌, int_lt}
-use Rattle.std.specs.Int.Signed.{≤ℤ_refl}
+use Rattle.std.proofs.Common.{◌≡◌, ℕ, ◌*◌, ◌<◌, ◌↔◌, inl, inr, refl, ap, subst, arith, Bool, true, false, cond, IsTrue, ℤ, pos, neg_ℤ, ◌≤ℤ◌, ◌<ℤ◌, int_lt}
 use Rattle.std.proofs.lemmas.Int.{ints}
-use lib.IntN.{*ℤ_comm}
 use Rattle.acas_frac.specs.Fraction.{Fraction}
 use Rattle.acas_frac.proofs.Orders.{cases_lt_ℤ}
 use Rattle.acas_flight.proofs.Between.{test_ge}
 use Rattle.acas_flight.proofs.Holding.{low_hold-above}
 use Rattle.acas_flight_curves.proofs.Safe.{high_pull-some, low_pull-some}
-use Rattle.acas_flight.specs.Border.{Border, IsNearestTime, IsOnTheWay, border_of, gap_number, high_border_of, low_border_of, turn}
+use Rattle.acas_flight.specs.Border.{IsNearestTime, border_of, gap_number, high_border_of, low_border_of}
 use Rattle.acas_flight.specs.Clear.{Area, IsClear, IsClearAbove, IsClearBelow}
 use Rattle.acas_flight.specs.Curves.{high_hold, high_pull, low_hold, low_pull}
 use Rattle.acas_flight.specs.Parts.{CanBeMet}
@@ -17,67 +15,15 @@ use Rattle.acas_flight.specs.Window.{Times}
 use Rattle.acas_region_curves.specs.Chases.{StaysOver}
 use Rattle.acas_region_curves.specs.Limits.{AreEnds}
 use Rattle.acas_region_curves.proofs.LeastGaps.{natural}
+use Rattle.acas_region.proofs.NearestTimes.{nearest}
 use Rattle.acas_region.proofs.Clears.{above_by, below_by, both_decide, either_decides, first_decides, nearest_decides}
 
 -- a test says whether it holds
 abbrev pub HasTest : Type 0 → Type 0
 HasTest P = (r : Bool) × (IsTrue r ↔ P)
 
--- a time at which a rising curve is nearest
-record HasNearest (s : Border) (w : Times) : Type 0 where
-  time : Fraction
-  some : 0 < time.den
-  ahead : pos 0 ≤ℤ time.num
-  near : IsNearestTime s w time
-
 abbrev fraction : ℤ → ℕ → Fraction
 fraction n d = record { num = n; den = d }
-
--- ---- the nearest time
-
-module _ (v k : ℤ) (b g : ℕ) (h x : ℤ) (w : Times) (sb : 0 < b) (e : AreEnds w) where
-  on_the_way : IsOnTheWay (border_of v k b g h x) → HasNearest (border_of v k b g h x) w
-  on_the_way way = elim (cases_lt_ℤ (pos b *ℤ w.from.num) (turn (border_of v k b g h x) *ℤ pos w.from.den)) [
-    | inr late ↦ record { time = w.from; some = e.from.some; ahead = e.from.least; near = record { after = ≤ℤ_refl _; before = e.order; late = inl (inr (way, late)); soon = inr (≤ℤ_refl _) } }
-    | inl early ↦ elim (cases_lt_ℤ (turn (border_of v k b g h x) *ℤ pos w.to.den) (pos b *ℤ w.to.num)) [
-      | inr soon ↦ record { time = w.to; some = e.to.some; ahead = e.to.least; near = record { after = e.order; before = ≤ℤ_refl _; late = inr (≤ℤ_refl _); soon = inl (inr (way, soon)) } }
-      | inl late ↦ record {
-        time = fraction (turn (border_of v k b g h x)) b;
-        some = sb;
-        ahead = at_least (g * b) x v way.over;
-        near = record {
-          after = less (*ℤ_comm w.from.num (pos b)) early;
-          before = less' (*ℤ_comm w.to.num (pos b)) late;
-          late = inl (inr (way, same (*ℤ_comm (turn (border_of v k b g h x)) (pos b))));
-          soon = inl (inr (way, same' (*ℤ_comm (turn (border_of v k b g h x)) (pos b))));
-        };
-      }
-    ]
-  ]
-    where
-      at_least : (a : ℕ) (y z : ℤ) → z <ℤ y → pos 0 ≤ℤ (pos a +ℤ (y -ℤ z))
-      at_least a y z l = omega (arith, ints)
-
-      less : {i j t : ℤ} → i ≡ j → j <ℤ t → i ≤ℤ t
-      less i l = omega (arith, ints)
-
-      less' : {i j t : ℤ} → i ≡ j → t <ℤ j → t ≤ℤ i
-      less' i l = omega (arith, ints)
-
-      same : {i j : ℤ} → i ≡ j → i ≤ℤ j
-      same i = omega (arith, ints)
-
-      same' : {i j : ℤ} → i ≡ j → j ≤ℤ i
-      same' i = omega (arith, ints)
-
-  nearest : v <ℤ k → HasNearest (border_of v k b g h x) w
-  nearest o = elim (cases_lt_ℤ v x) [
-    | inr slow ↦ record { time = w.from; some = e.from.some; ahead = e.from.least; near = record { after = ≤ℤ_refl _; before = e.order; late = inl (inl slow); soon = inr (≤ℤ_refl _) } }
-    | inl over ↦ elim (cases_lt_ℤ k x) [
-      | inl fast ↦ record { time = w.to; some = e.to.some; ahead = e.to.least; near = record { after = e.order; before = ≤ℤ_refl _; late = inr (≤ℤ_refl _); soon = inl (inl fast) } }
-      | inr within ↦ on_the_way (record { over = over; within = within })
-    ]
-  ]
 
 -- ---- a curve
 
@@ -86,7 +32,7 @@ module _ (half : ℕ) (v k : ℤ) (b g : ℕ) (h x : ℤ) (w : Times) (sb : 0 < 
   rising o =
       let near = nearest v k b g h x w sb e o in
       let d = near.time.den in
-      natural near.time.num near.ahead (λ n en. (
+      natural near.time.num near.least (λ n en. (
         int_lt (pos (half * (d * d * b))) (gap_number (border_of v k b g h x) d n),
         nearest_decides half v k b g h x w d n (int_lt (pos (half * (d * d * b))) (gap_number (border_of v k b g h x) d n)) o sb e near.some
             (subst (λ (z : ℤ). IsNearestTime (border_of v k b g h x) w (fraction z d)) en near.near) refl,

@@ -47,6 +47,7 @@ fn input_words(alloc: Global, fault: &InputFault) -> Option<String> {
             format!(in alloc; "unknown advisory at {place}").ok()
         }
         InputFault::Window { place } => format!(in alloc; "window at {place}").ok(),
+        InputFault::Rate { place } => format!(in alloc; "rate at {place}").ok(),
         InputFault::Memory => String::from_str(alloc, "no memory").ok(),
     }
 }

@@ -15,15 +15,15 @@ use Rattle.acas_passes.specs.Value.{thinnest}
 use Rattle.acas_passes.specs.Flights.{Flight}
 use Rattle.acas_passes.specs.Search.{Search, IsSearch, IsTimed, IsFound, CanMeet, unit}
 use Rattle.acas_passes.specs.Responses.{IsResponse, fine}
-use Rattle.acas_pass_laws.proofs.Ends.{found-contact}
+use Rattle.acas_pass_laws.proofs.Founds.{found-contact}
 use Rattle.acas_pass_laws.proofs.Touching.{lasts}
 use Rattle.acas_witness_plans.specs.declared.plan.Plan.{Plan}
 use Rattle.acas_rulings.specs.declared.flight.Flight as printed
 use Rattle.acas_rulings.specs.Witness.{search_between, IsFlightInContact}
 use Rattle.acas_witness.specs.FoundPlans.{IsPlanIn}
 use Rattle.acas_rulings.specs.Printed.{Prints, hold_part, some_part, flight_fractions}
-use Rattle.acas_witness_response.proofs.Assembly.{AreParts-append}
-use Rattle.acas_witness_plans.proofs.Portions.{finer}
+use Rattle.acas_rulings.proofs.Parts.{AreParts-append}
+use Rattle.acas_region_curves.proofs.Climbs.{IsOver-finer}
 
 pub unit_positive : (a : Demand) (area : Area) (low high : Fraction) → IsEnd low → IsEnd high → 0 < unit (search_between a area low high)
 unit_positive a area low high l h = mul-pos (omega arith) (mul-pos l.some h.some)
@@ -52,10 +52,12 @@ planned_dens v k b g t w = ⊎_elim
         q)
         o
 
-along : (q b : ℕ) → q * (q * b) ≡ (q * q) * b
+-- the denominators of a flight, over the pull
+pub along : (q b : ℕ) → q * (q * b) ≡ (q * q) * b
 along q b = omega arith
 
-response_of : (q : ℕ) (c : Flight) (f : printed.Flight) (fl : Prints q c f) → IsResponse q c fl.hold.segments fl.segments.segments
+-- the response of a printed flight
+pub response_of : (q : ℕ) (c : Flight) (f : printed.Flight) (fl : Prints q c f) → IsResponse q c fl.hold.segments fl.segments.segments
 response_of q c f fl = record { held = fl.hold.held; approached = fl.segments.approached }
 
 pub contact_at : (half : ℕ) (s : Search) (w : Times) (c : Flight) (f : printed.Flight) → thinnest ≤ 2 * half → IsSearch s → IsTimed s w → CanMeet half s → IsFound half s c → Prints (unit s) c f → All IsReduced (flight_fractions f) →
@@ -66,10 +68,10 @@ contact_at half s w c f thick is timed can found fl lowest = record {
   own = c.own *ℤ pos c.pull;
   intruder = c.intruder *ℤ pos c.pull;
   response = fl.hold.segments ++ fl.segments.segments;
-  time_over = rw (lasts (unit s) c fl.hold.segments fl.segments.segments (response_of (unit s) c f fl)) (finer f.time (unit s) (unit s * c.pull) (pos c.time) fl.time);
+  time_over = rw (lasts (unit s) c fl.hold.segments fl.segments.segments (response_of (unit s) c f fl)) (IsOver-finer f.time (unit s) (unit s * c.pull) (pos c.time) fl.time);
   altitude_over = ap (λ z. z *ℤ pos (fine (unit s) c)) (sym fl.altitude);
-  own_over = rw (along (unit s) c.pull) (finer f.v0 (unit s * unit s) c.pull c.own fl.own);
-  intruder_over = rw (along (unit s) c.pull) (finer f.v1 (unit s * unit s) c.pull c.intruder fl.intruder);
+  own_over = rw (along (unit s) c.pull) (IsOver-finer f.v0 (unit s * unit s) c.pull c.own fl.own);
+  intruder_over = rw (along (unit s) c.pull) (IsOver-finer f.v1 (unit s * unit s) c.pull c.intruder fl.intruder);
   flown = AreParts-append (fine (unit s) c) fl.hold.segments fl.segments.segments (hold_part f.hold) (some_part f.first ++ some_part f.second) fl.hold.part fl.segments.parts;
   contact = found-contact half s w c fl.hold.segments fl.segments.segments thick is timed can found (response_of (unit s) c f fl);
   reduced = lowest;

@@ -53,8 +53,8 @@ fn meet(survey: &Survey) -> Plan
     through(survey).plan
 }
 
-// What the search of an area under an advisory of a model goes through, between two times.
-fn survey_of(model: &Model, area: &BoxState, advisory: u8, low: &Frac, high: &Frac) -> Survey
+/// What the search of an area under an advisory of a model goes through, between two times.
+pub fn survey_of(model: &Model, area: &BoxState, advisory: u8, low: &Frac, high: &Frac) -> Survey
     requires advisory { advisory < model.now.grid.advisories }
     requires low { IsEnd low.now }
     requires high { IsEnd high.now }
@@ -89,8 +89,8 @@ fn plan_in(model: &Model, area: &BoxState, window: &Window, advisory: u8) -> Pla
     meet(&survey_of(model, area, advisory, &low.time, &high.time))
 }
 
-// A flight of the search, with its response.
-fn flight_of(plan: &Plan) -> Flight
+/// A flight of the search, with its response.
+pub fn flight_of(plan: &Plan) -> Flight
     requires { CanBeFlown plan.now }
     ensures prints { PrintsPlan plan.now result }
     ensures time { result.time ≡ plan.now.time }

@@ -6,4 +6,4 @@ mod contact;
 mod finding;
 
 pub use contact::contact_in;
-pub use finding::find;
+pub use finding::{find, flight_of, survey_of};

@@ -1,7 +1,6 @@
 -- The least gap of an area, and the greatest, are reached at some time of the window.
-use Rattle.std.proofs.Common.{◌≡◌, ℕ, ◌*◌, ◌<◌, ◌≤◌, inl, inr, refl, ap, ◌∙◌, arith, [], ◌∷◌, ℤ, pos, neg_ℤ, ◌+ℤ◌, ◌-ℤ◌, ◌*ℤ◌, ◌≤ℤ◌, ◌<ℤ◌, cond, mul-pos}
+use Rattle.std.proofs.Common.{◌≡◌, ℕ, ◌*◌, ◌<◌, inl, inr, refl, ap, ◌∙◌, arith, [], ◌∷◌, ℤ, pos, neg_ℤ, ◌*ℤ◌, ◌≤ℤ◌, ◌<ℤ◌, cond, mul-pos}
 use Rattle.std.proofs.lemmas.Int.{ints}
-use Rattle.std.specs.Int.Signed.{≤ℤ_refl}
 use lib.IntN.{*ℤ_comm}
 use Rattle.acas_units.specs.declared.limits.TheConstants.{WINDOW_SECONDS}
 use Rattle.acas_frac.specs.Fraction.{Fraction, IsReduced, Same}
@@ -12,7 +11,7 @@ use Rattle.acas_flight.specs.Parts.{CanBeMet}
 use Rattle.acas_flight.specs.Curves.{low_pull, low_hold, high_pull, high_hold}
 use Rattle.acas_flight.specs.Window.{Times}
 use Rattle.acas_flight.specs.Clear.{Area}
-use Rattle.acas_flight.specs.Border.{Border, border_of, gap_number, turn, IsGapAt, IsLeastGap, IsNearestTime, IsOnTheWay, low_border_of, high_border_of}
+use Rattle.acas_flight.specs.Border.{Border, border_of, gap_number, IsGapAt, IsLeastGap, IsNearestTime, low_border_of, high_border_of}
 use Rattle.acas_flight.specs.Extremes.{IsLowExtreme, IsHighExtreme}
 use Rattle.acas_flight.specs.Values.{IsOver}
 use Rattle.acas_flight.proofs.Between.{test_ge}
@@ -24,7 +23,7 @@ use Rattle.acas_flight_curves.proofs.Gaps.{IsGapAt-of, low_extreme_of, high_extr
 use Rattle.acas_flight_curves.proofs.Safe.{low_pull-some, high_pull-some}
 use Rattle.acas_region_curves.specs.Limits.{AreEnds, IsEnd}
 use Rattle.acas_region_curves.proofs.LeastGaps.{natural, least_of_nearest}
-use Rattle.acas_region.proofs.NearestTimes.{before_end}
+use Rattle.acas_region.proofs.NearestTimes.{nearest}
 use Rattle.acas_passes.specs.Search.{IsMoment}
 
 -- a time at which a border has its least gap
@@ -58,65 +57,8 @@ module _ (v k : ℤ) (b g : ℕ) (h x : ℤ) (w : Times) (sb : 0 < b) (e : AreEn
             (IsGapAt-of (border_of v k b g h x) time (gap_at (border_of v k b g h x) time.den n) n en m.some refl) near;
       }
 
-  abbrev turning : Fraction
-  turning = record { num = turn (border_of v k b g h x); den = b }
-
-  -- the curve has the intruder's rate before the end of a window
-  turns_in_time : IsOnTheWay (border_of v k b g h x) → (turn (border_of v k b g h x) *ℤ pos w.to.den) <ℤ (pos b *ℤ w.to.num) → IsMoment turning
-  turns_in_time way h = record { some = sb; least = least; most = natural turning.num least (λ n en. natural w.to.num e.to.least (λ m em. by n m en em)) }
-    where
-      at_least : (a : ℕ) (y z : ℤ) → z <ℤ y → pos 0 ≤ℤ (pos a +ℤ (y -ℤ z))
-      at_least a y z l = omega (arith, ints)
-
-      least : pos 0 ≤ℤ turning.num
-      least = at_least (g * b) x v way.over
-
-      products : (n d m : ℕ) → (pos n *ℤ pos d) <ℤ (pos b *ℤ pos m) → n * d ≤ m * b
-      products n d m l = omega (arith, ints)
-
-      by : (n m : ℕ) → turning.num ≡ pos n → w.to.num ≡ pos m → turning.num ≤ℤ pos (WINDOW_SECONDS * b)
-      by n m en em =
-          let most : m ≤ WINDOW_SECONDS * w.to.den = omega (arith, ints, em, e.to.greatest) in
-          let within = before_end n b m w.to.den e.to.some most (products n w.to.den m (rw (en, em) at h)) in
-          omega (arith, ints, en, within)
-
-  on_the_way : v <ℤ k → IsOnTheWay (border_of v k b g h x) → IsReached (border_of v k b g h x) w
-  on_the_way o way = elim (cases_lt_ℤ (pos b *ℤ w.from.num) (turn (border_of v k b g h x) *ℤ pos w.from.den)) [
-    | inr late ↦ at_nearest o w.from (moment_of w.from e.from) (record { after = ≤ℤ_refl _; before = e.order; late = inl (inr (way, late)); soon = inr (≤ℤ_refl _) })
-    | inl early ↦ elim (cases_lt_ℤ (turn (border_of v k b g h x) *ℤ pos w.to.den) (pos b *ℤ w.to.num)) [
-      | inr soon ↦ at_nearest o w.to (moment_of w.to e.to) (record { after = e.order; before = ≤ℤ_refl _; late = inr (≤ℤ_refl _); soon = inl (inr (way, soon)) })
-      | inl late ↦ at_nearest o turning (turns_in_time way late) (record {
-        after = less (turned w.from.num) early;
-        before = less' (turned w.to.num) late;
-        late = inl (inr (way, same (turned turning.num)));
-        soon = inl (inr (way, same' (turned turning.num)));
-      })
-    ]
-  ]
-    where
-      turned : (z : ℤ) → z *ℤ pos b ≡ pos b *ℤ z
-      turned z = *ℤ_comm z (pos b)
-
-      less : {i j t : ℤ} → i ≡ j → j <ℤ t → i ≤ℤ t
-      less i l = omega (arith, ints)
-
-      less' : {i j t : ℤ} → i ≡ j → t <ℤ j → t ≤ℤ i
-      less' i l = omega (arith, ints)
-
-      same : {i j : ℤ} → i ≡ j → i ≤ℤ j
-      same i = omega (arith, ints)
-
-      same' : {i j : ℤ} → i ≡ j → j ≤ℤ i
-      same' i = omega (arith, ints)
-
   rising : v <ℤ k → IsReached (border_of v k b g h x) w
-  rising o = elim (cases_lt_ℤ v x) [
-    | inr slow ↦ at_nearest o w.from (moment_of w.from e.from) (record { after = ≤ℤ_refl _; before = e.order; late = inl (inl slow); soon = inr (≤ℤ_refl _) })
-    | inl over ↦ elim (cases_lt_ℤ k x) [
-      | inl fast ↦ at_nearest o w.to (moment_of w.to e.to) (record { after = e.order; before = ≤ℤ_refl _; late = inr (≤ℤ_refl _); soon = inl (inl fast) })
-      | inr within ↦ on_the_way o (record { over = over; within = within })
-    ]
-  ]
+  rising o = let n = nearest v k b g h x w sb e o in at_nearest o n.time (record { some = n.some; least = n.least; most = n.most }) n.near
 
 -- ---- a curve that does not rise: at an end
 

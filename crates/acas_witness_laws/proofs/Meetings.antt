@@ -20,7 +20,7 @@ use Rattle.acas_passes.specs.Flights.{value}
 use Rattle.acas_passes.specs.Search.{Search, unit, low_time, high_time, low_flight, high_flight, CanMeet}
 use Rattle.acas_rulings.specs.Witness.{search_between}
 use Rattle.acas_witness_plans.proofs.Overs.{low_over, high_over}
-use Rattle.acas_witness_plans.proofs.Portions.{finer}
+use Rattle.acas_region_curves.proofs.Climbs.{IsOver-finer}
 
 -- the value of a flight and the gap
 value_gap : (z : ℤ) (b q t : ℕ) (h w : ℤ) → z -ℤ (pos b *ℤ ((h *ℤ pos (q * q * q)) +ℤ ((pos 2 *ℤ (w *ℤ pos (q * q))) *ℤ pos t)))
@@ -48,7 +48,7 @@ above_low half a area w time p u pp i low h q t pq d =
     rw (least_gap-border a area q pq t, low_pull-border a area q pq)
     (over_at_other half s p u q t pp pq
     (rw (least_gap-border a area (p * q) some (u * q), least_gap-border a area (p * q) some (t * p)) at
-    (low.least (p * q) (u * q) (t * p) some (finer time p q (pos u) i) (during_other p q t w d)))
+    (low.least (p * q) (u * q) (t * p) some (IsOver-finer time p q (pos u) i) (during_other p q t w d)))
     (rw (puck half p (s.pull * p)) (rw (least_gap-border a area p pp u, low_pull-border a area p pp) at h)))
 
 -- ---- the high side: an area whose gap at the high extreme is below the puck is clear
@@ -61,7 +61,7 @@ below_high half a area w time p u pp i high h q t pq d =
     rw (greatest_gap-border a area q pq t, high_pull-border a area q pq, mul-neg_ℤ (pos (s.pull * q)) (pos (half * (q * q * q))))
     (neg-lt_ℤ _ _ (over_at_other half s p u q t pp pq
     (turned_le _ _ (rw (greatest_gap-border a area (p * q) some (u * q), greatest_gap-border a area (p * q) some (t * p)) at
-    (high.greatest (p * q) (u * q) (t * p) some (finer time p q (pos u) i) (during_other p q t w d))))
+    (high.greatest (p * q) (u * q) (t * p) some (IsOver-finer time p q (pos u) i) (during_other p q t w d))))
     (rw (puck half p (s.pull * p)) (turned_lt _ _ (rw (greatest_gap-border a area p pp u, high_pull-border a area p pp) at h)))))
   where
     turned_le : (y z : ℤ) → neg_ℤ z ≤ℤ neg_ℤ y → y ≤ℤ z
@@ -97,9 +97,9 @@ module _ (half : ℕ) (a : Demand) (area : Area) (w : Times) (low high : Fractio
   pub can_meet : ¬ IsClear half a area w → CanMeet half (search_between a area low high)
   can_meet not_clear = ⊎_elim (λ c. absurd (not_clear c)) (λ m. m) clear_or_meet
 
--- ---- the same under other names of the half height and of the search
+-- ---- the same under other names of the half height and of what is searched
 
-pub renamed : (P : ℕ → Search → Type 0) (half n : ℕ) (s t : Search) → n ≡ half → s ≡ t → P n s → P half t
+pub renamed : {S : Type 0} (P : ℕ → S → Type 0) (half n : ℕ) (s t : S) → n ≡ half → s ≡ t → P n s → P half t
 renamed P half n s t e f h = subst (λ k. P k t) e (subst (λ x. P n x) f h)
 
 -- ---- tests of contact

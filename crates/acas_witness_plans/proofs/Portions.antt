@@ -5,6 +5,7 @@ use Rattle.std.proofs.lemmas.Bool.{cases_lt}
 use Rattle.acas_frac.proofs.SignedProducts.{mul-le_ℤ, mul-lt_ℤ, le-from_mul_ℤ, lt-from_mul_ℤ}
 use Rattle.acas_frac.proofs.IntRing.{at, num, ◌⊖◌, ◌⊗◌, ring, mul_swapped_ℤ, zero-sub_ℤ}
 use Rattle.acas_flight_curves.proofs.Scales.{cancel_left, pos_inj}
+use Rattle.acas_region_curves.proofs.Climbs.{IsOver-finer}
 use Rattle.acas_region_curves.proofs.LeastGaps.{test_true, strictly}
 use Rattle.acas_frac.specs.Fraction.{Fraction, whole_of}
 use Rattle.acas_flight.specs.Values.{IsOver}
@@ -115,10 +116,6 @@ difference_over f g r n i j pf pg oi oj h is =
     three : (r : ℤ) (m n q : ℕ) → (r *ℤ pos (m * n)) *ℤ pos q ≡ pos (m * n) *ℤ (r *ℤ pos q)
     three r m n q = ring (r ∷ pos m ∷ pos n ∷ pos q ∷ []) ((at 0 ⊗ (at 1 ⊗ at 2)) ⊗ at 3) ((at 1 ⊗ at 2) ⊗ (at 0 ⊗ at 3)) refl
 
--- over a finer denominator
-pub finer : (f : Fraction) (n m : ℕ) (i : ℤ) → IsOver n i f → IsOver (n * m) (i *ℤ pos m) f
-finer f n m i o = ring (i ∷ pos m ∷ pos f.den ∷ []) ((at 0 ⊗ at 1) ⊗ at 2) ((at 0 ⊗ at 2) ⊗ at 1) refl ∙ ap (λ z. z *ℤ pos m) o ∙ ring (f.num ∷ pos n ∷ pos m ∷ []) ((at 0 ⊗ at 1) ⊗ at 2) (at 0 ⊗ (at 1 ⊗ at 2)) refl
-
 minus_over : (f r : Fraction) (n : ℕ) (i : ℤ) → 0 < f.den → IsOver n i f → r.num *ℤ pos f.den ≡ neg_ℤ f.num *ℤ pos r.den → IsOver n (neg_ℤ i) r
 minus_over f r n i p o e =
     cancel_left f.den (neg_ℤ i *ℤ pos r.den) (r.num *ℤ pos n) p
@@ -132,8 +129,8 @@ minus_over f r n i p o e =
 
 pub up_over : (q : ℕ) (v k : ℤ) (b : ℕ) (f g p : Fraction) → 0 < q * q → 0 < f.den → 0 < g.den → IsOver (q * q) v f → IsOver (q * q) k g → IsOver q (pos b) p → int_le (f.num *ℤ pos g.den) (g.num *ℤ pos f.den) ≡ true →
     IsOver (q * (q * b)) (cond (int_le v k) (pos (b * (q * b))) (neg_ℤ (pos (b * (q * b))))) p
-up_over q v k b f g p sq pf pg ov ok op t = rw (is_le v k (le_of (q * q) v k f g sq pf pg ov ok (test_true _ _ t))) (finer p q (q * b) (pos b) op)
+up_over q v k b f g p sq pf pg ov ok op t = rw (is_le v k (le_of (q * q) v k f g sq pf pg ov ok (test_true _ _ t))) (IsOver-finer p q (q * b) (pos b) op)
 
 pub down_over : (q : ℕ) (v k : ℤ) (b : ℕ) (f g p r : Fraction) → 0 < q * q → 0 < f.den → 0 < g.den → 0 < p.den → IsOver (q * q) v f → IsOver (q * q) k g → IsOver q (pos b) p → int_le (f.num *ℤ pos g.den) (g.num *ℤ pos f.den) ≡ false →
     r.num *ℤ pos p.den ≡ neg_ℤ p.num *ℤ pos r.den → IsOver (q * (q * b)) (cond (int_le v k) (pos (b * (q * b))) (neg_ℤ (pos (b * (q * b))))) r
-down_over q v k b f g p r sq pf pg pp ov ok op t e = rw (is_gt v k (lt_of (q * q) v k f g sq pf pg ov ok (strictly _ _ t))) (minus_over p r (q * (q * b)) (pos (b * (q * b))) pp (finer p q (q * b) (pos b) op) e)
+down_over q v k b f g p r sq pf pg pp ov ok op t e = rw (is_gt v k (lt_of (q * q) v k f g sq pf pg ov ok (strictly _ _ t))) (minus_over p r (q * (q * b)) (pos (b * (q * b))) pp (IsOver-finer p q (q * b) (pos b) op) e)

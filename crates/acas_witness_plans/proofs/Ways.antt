@@ -6,7 +6,7 @@ use Rattle.acas_flight_curves.proofs.Held.{sub_scaled}
 use Rattle.acas_frac.specs.Fraction.{Fraction}
 use Rattle.acas_passes.specs.Passes.{Pass, IsLast}
 
-pub exact_last : (p : Pass) (last : ℕ) → p.way ≡ last * p.step → 0 < p.step → IsLast p last
+pub exact_last : {F : Type 0} (p : Pass F) (last : ℕ) → p.way ≡ last * p.step → 0 < p.step → IsLast p last
 exact_last p last e h = record { reaches = omega arith; first = omega arith }
 
 pub eighth_some : (m : ℕ) → 0 < m → 0 < 524288 * (m * m)

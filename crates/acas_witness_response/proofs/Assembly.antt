@@ -1,5 +1,5 @@
 -- A response from its parts.
-use Rattle.std.proofs.Common.{◌≡◌, ◌≢◌, refl, sym, ℕ, ◌-◌, ◌*◌, ◌<◌, ◌≤◌, ap, ◌∙◌, arith, Option, Some, None, List, [], ◌∷◌, ◌++◌, ℤ, pos, neg_ℤ, ◌-ℤ◌, ◌*ℤ◌, ◌≤ℤ◌, unsigned_abs, int_le, cond, mul-pos, of_z}
+use Rattle.std.proofs.Common.{◌≡◌, ◌≢◌, refl, sym, ℕ, ◌-◌, ◌*◌, ◌<◌, ◌≤◌, ap, ◌∙◌, arith, Option, Some, None, [], ◌∷◌, ℤ, pos, neg_ℤ, ◌-ℤ◌, ◌*ℤ◌, ◌≤ℤ◌, unsigned_abs, int_le, cond, mul-pos, of_z}
 use Rattle.std.specs.Int.{w128}
 use Rattle.std.proofs.lemmas.Int.{ints}
 use Rattle.std.proofs.lemmas.Option.{none-some}
@@ -24,10 +24,6 @@ part d a = record { duration = d; acceleration = a }
 
 one_part : (n : ℕ) (s : response.Segment) (f : Segment) → IsPart n s f → AreParts n (s ∷ []) (f ∷ [])
 one_part n s f is = a_part s f [] [] is no_parts
-
-pub AreParts-append : (n : ℕ) (xs ys : List response.Segment) (fs gs : List Segment) → AreParts n xs fs → AreParts n ys gs → AreParts n (xs ++ ys) (fs ++ gs)
-AreParts-append n _ ys _ gs no_parts more = more
-AreParts-append n _ ys _ gs (a_part s f rest others is parts) more = a_part s f (rest ++ ys) (others ++ gs) is (AreParts-append n rest ys others gs parts more)
 
 -- an option that is not left out
 some_first : {X : Type 0} (x : X) (o : Option X) → Some x ≡ None → o ≡ None

@@ -15,7 +15,7 @@ use Rattle.acas_flight.specs.State.{Interval, IsInside}
 use Rattle.acas_flight.specs.Contact.{IsHorizontalContact}
 use Rattle.acas_flight.specs.Window.{IsContactTimeOfBox}
 use Rattle.acas_rulings.specs.Ranges.{IsBoxesRange, IsContactOfBox}
-use Rattle.acas_witness_plans.proofs.Portions.{finer as finer_over}
+use Rattle.acas_region_curves.proofs.Climbs.{IsOver-finer}
 use Rattle.acas_witness_response.proofs.CellRanges.{numbers, same_over}
 use native.Mathlib.Nat.{le_of_mul-le-mul_left, lt_of_mul-lt-mul_left, mul-lt-mul_of_pos_left}
 
@@ -241,7 +241,7 @@ module _ (radius near far slow fast : ℕ) (f r v : Fraction) (a d : ℕ) (ea : 
     where
       by : (q t : ℕ) (x y : ℤ) → IsNearBy radius near far slow fast q t r v → IsOver q x r → IsOver q y v → IsHorizontalContact radius q x y t
       by q t x y n ox oy = coarser radius q n.m t x y n.some
-          (rw (same_over (q * n.m) (x *ℤ pos n.m) (pos n.r) r pr (finer_over r q n.m x ox) n.range, same_over (q * n.m) (y *ℤ pos n.m) (pos n.s) v pv (finer_over v q n.m y oy) n.speed)
+          (rw (same_over (q * n.m) (x *ℤ pos n.m) (pos n.r) r pr (IsOver-finer r q n.m x ox) n.range, same_over (q * n.m) (y *ℤ pos n.m) (pos n.s) v pv (IsOver-finer v q n.m y oy) n.speed)
           (IsHorizontalContact-of radius (q * n.m) n.r n.s (t * n.m) n.contact))
 
 -- ---- by the speed

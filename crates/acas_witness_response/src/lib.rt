@@ -6,5 +6,5 @@ mod reduced;
 mod response;
 
 pub use ranges::{of_box, of_cell};
-pub use reduced::open_flight;
+pub use reduced::{open_flight, open_part, open_witness};
 pub use response::{held_part, segments_of};

@@ -2,10 +2,10 @@
 ghost use Rattle.std.specs.Prelude.{[], ◌∷◌};
 ghost use Rattle.std.specs.List.{All, flat_map};
 ghost use Rattle.acas_frac.specs.Fraction.{IsReduced};
-ghost use Rattle.acas_rulings.specs.Printed.{flight_fractions, hold_part, some_part};
+ghost use Rattle.acas_rulings.specs.Printed.{flight_fractions, fractions_of, hold_part, some_part};
 
 use acas_frac::Frac;
-use acas_rulings::{Flight, Segment};
+use acas_rulings::{Flight, Segment, Witness};
 
 // Opens a fraction.
 fn open(value: &Frac)
@@ -24,8 +24,8 @@ fn open_hold(hold: &Option<Frac>)
     }
 }
 
-// Opens a segment, if there is one.
-fn open_part(part: &Option<Segment>)
+/// Opens a segment, if there is one.
+pub fn open_part(part: &Option<Segment>)
     ensures { All IsReduced (flat_map (λ s. s.duration ∷ s.acceleration ∷ []) (some_part part.now)) }
 {
     match part {
@@ -47,4 +47,13 @@ pub fn open_flight(flight: &Flight)
     open_hold(&flight.hold);
     open_part(&flight.first);
     open_part(&flight.second);
+}
+
+/// Opens each fraction of a witness.
+pub fn open_witness(witness: &Witness)
+    ensures { All IsReduced (fractions_of witness.now) }
+{
+    open(&witness.range);
+    open(&witness.speed);
+    open_flight(&witness.flight);
 }

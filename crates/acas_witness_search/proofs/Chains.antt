@@ -7,9 +7,10 @@ use Rattle.acas_passes.proofs.Halvings.{is_below-Same}
 use Rattle.acas_passes.specs.Flights.{value}
 use Rattle.acas_passes.specs.Passes.{Pass, IsLast, here, later, below_at, IsGentle}
 use Rattle.acas_passes.specs.Search.{Search, IsSearch, unit}
+use Rattle.acas_pass_laws.proofs.Ends.{AllSome}
 use Rattle.acas_pass_laws.proofs.Joins.{joined, own-end}
 use Rattle.acas_pass_laws.proofs.Gentle.{each_gentle}
-use Rattle.acas_pass_laws.proofs.Somes.{AllSome, each_some}
+use Rattle.acas_pass_laws.proofs.Somes.{each_some}
 use Rattle.acas_witness_search.specs.declared.quantity.Quantity.{Quantity}
 use Rattle.acas_witness_search.specs.declared.quantity.Quantity.TheVariants.{Time, Altitude, Intruder, Aim, Pull, Hold, Own}
 use Rattle.acas_witness_search.specs.declared.survey.Survey.{Survey}
@@ -29,7 +30,7 @@ search_fine s = record {
   high = record { some = s.high_end.some; least = s.high_end.least; most = s.high_end.greatest };
 }
 
-pub gentle_of : (q : Quantity) (s : Search) → IsSearch s → IsGentle (unit s) (pass_of q s)
+pub gentle_of : (q : Quantity) (s : Search) → IsSearch s → IsGentle (value (unit s)) (pass_of q s)
 gentle_of Time s is = (each_gentle s is).0
 gentle_of Altitude s is = (each_gentle s is).1.0
 gentle_of Intruder s is = (each_gentle s is).1.1.0
@@ -38,7 +39,7 @@ gentle_of Pull s is = (each_gentle s is).1.1.1.1.0
 gentle_of Hold s is = (each_gentle s is).1.1.1.1.1.0
 gentle_of Own s is = (each_gentle s is).1.1.1.1.1.1.0
 
-pub all_some : (q : Quantity) (s : Search) → IsSearch s → AllSome (unit s) (pass_of q s)
+pub all_some : (q : Quantity) (s : Search) → IsSearch s → AllSome (value (unit s)) (pass_of q s)
 all_some Time s is = (each_some s is).0
 all_some Altitude s is = (each_some s is).1.0
 all_some Intruder s is = (each_some s is).1.1.0
@@ -51,14 +52,16 @@ all_some Own s is = (each_some s is).1.1.1.1.1.1.0
 pub tested : (half : ℕ) (f g : Fraction) (b t : Bool) → 0 < f.den → 0 < g.den → Same f g → b ≡ is_below half f → b ≡ t → is_below half g ≡ t
 tested half f g b t p q e h k = sym (is_below-Same half f g p q e) ∙ sym h ∙ k
 
-pub first_below : (half q : ℕ) (p p' : Pass) → ((last : ℕ) → IsLast p last → p.point last ≡ p'.point 0) → IsMissed half q p → below_at half q p' 0 ≡ true
-first_below half q p p' join m = ap (λ c. is_below half (value q c)) (sym (join m.last m.is_last)) ∙ m.below
+-- ---- passes of any flights
 
-pub end_here : (half q : ℕ) (p : Pass) (rest : List Pass) (f : Plan) → IsHit half q p f → IsEndOf half q (p ∷ rest) f
-end_here half q p rest f h = record { flight = p.point h.at_end; ends = here p rest h.last h.at_end h.is_last h.not_below h.halves; point = h.point; flown = h.flown }
+pub first_below : {F : Type 0} (value : F → Fraction) (half : ℕ) (p p' : Pass F) → ((last : ℕ) → IsLast p last → p.point last ≡ p'.point 0) → IsMissed value half p → below_at value half p' 0 ≡ true
+first_below value half p p' join m = ap (λ c. is_below half (value c)) (sym (join m.last m.is_last)) ∙ m.below
 
-pub end_later : (half q : ℕ) (p : Pass) (rest : List Pass) (f : Plan) → IsMissed half q p → IsEndOf half q rest f → IsEndOf half q (p ∷ rest) f
-end_later half q p rest f m e = record { flight = e.flight; ends = later p rest m.last e.flight m.is_last m.below e.ends; point = e.point; flown = e.flown }
+pub end_here : {F : Type 0} (value : F → Fraction) (half : ℕ) (p : Pass F) (rest : List (Pass F)) (Is : F → Type 0) → IsHit value half p Is → IsEndOf value half (p ∷ rest) Is
+end_here value half p rest Is h = record { flight = p.point h.at_end; ends = here p rest h.last h.at_end h.is_last h.not_below h.halves; point = h.point }
+
+pub end_later : {F : Type 0} (value : F → Fraction) (half : ℕ) (p : Pass F) (rest : List (Pass F)) (Is : F → Type 0) → IsMissed value half p → IsEndOf value half rest Is → IsEndOf value half (p ∷ rest) Is
+end_later value half p rest Is m e = record { flight = e.flight; ends = later p rest m.last e.flight m.is_last m.below e.ends; point = e.point }
 
 -- ---- the passes by the quantities that they move
 
@@ -84,7 +87,7 @@ fewer_after Own next e = absurd cc
 -- after a pass that is missed the next one starts below
 module _ (s : Survey) where
   starts : (q q' : Quantity) → ((last : ℕ) → IsLast (pass_of q (search_of s)) last → (pass_of q (search_of s)).point last ≡ (pass_of q' (search_of s)).point 0) → IsMissedIn s (pass_of q) → StartsBelow s (pass_of q')
-  starts q q' join m = first_below s.half (unit (search_of s)) (pass_of q (search_of s)) (pass_of q' (search_of s)) join m
+  starts q q' join m = first_below (value (unit (search_of s))) s.half (pass_of q (search_of s)) (pass_of q' (search_of s)) join m
 
   pub missed_then : (q next : Quantity) → next_of q ≡ Some next → IsMissedIn s (pass_of q) → StartsBelow s (pass_of next)
   missed_then Time next e m = subst (λ n. StartsBelow s (pass_of n)) (same_Some Altitude next e) (starts Time Altitude (joined (search_of s) (search_fine s)).0 m)
@@ -107,19 +110,19 @@ module _ (s : Survey) where
 
   -- where a pass is hit the passes from it on end, and else where those after it do
   pub ends_here : (q : Quantity) (f : Plan) → IsHitIn s (pass_of q) f → IsEndIn s (passes_from q) f
-  ends_here Time f h = end_here _ _ _ _ f h
-  ends_here Altitude f h = end_here _ _ _ _ f h
-  ends_here Intruder f h = end_here _ _ _ _ f h
-  ends_here Aim f h = end_here _ _ _ _ f h
-  ends_here Pull f h = end_here _ _ _ _ f h
-  ends_here Hold f h = end_here _ _ _ _ f h
-  ends_here Own f h = end_here _ _ _ _ f h
+  ends_here Time f h = end_here _ _ _ _ _ h
+  ends_here Altitude f h = end_here _ _ _ _ _ h
+  ends_here Intruder f h = end_here _ _ _ _ _ h
+  ends_here Aim f h = end_here _ _ _ _ _ h
+  ends_here Pull f h = end_here _ _ _ _ _ h
+  ends_here Hold f h = end_here _ _ _ _ _ h
+  ends_here Own f h = end_here _ _ _ _ _ h
 
   pub ends_later : (q next : Quantity) (f : Plan) → next_of q ≡ Some next → IsMissedIn s (pass_of q) → IsEndIn s (passes_from next) f → IsEndIn s (passes_from q) f
-  ends_later Time next f e m h = end_later _ _ _ _ f m (subst (λ n. IsEndIn s (passes_from n) f) (sym (same_Some Altitude next e)) h)
-  ends_later Altitude next f e m h = end_later _ _ _ _ f m (subst (λ n. IsEndIn s (passes_from n) f) (sym (same_Some Intruder next e)) h)
-  ends_later Intruder next f e m h = end_later _ _ _ _ f m (subst (λ n. IsEndIn s (passes_from n) f) (sym (same_Some Aim next e)) h)
-  ends_later Aim next f e m h = end_later _ _ _ _ f m (subst (λ n. IsEndIn s (passes_from n) f) (sym (same_Some Pull next e)) h)
-  ends_later Pull next f e m h = end_later _ _ _ _ f m (subst (λ n. IsEndIn s (passes_from n) f) (sym (same_Some Hold next e)) h)
-  ends_later Hold next f e m h = end_later _ _ _ _ f m (subst (λ n. IsEndIn s (passes_from n) f) (sym (same_Some Own next e)) h)
+  ends_later Time next f e m h = end_later _ _ _ _ _ m (subst (λ n. IsEndIn s (passes_from n) f) (sym (same_Some Altitude next e)) h)
+  ends_later Altitude next f e m h = end_later _ _ _ _ _ m (subst (λ n. IsEndIn s (passes_from n) f) (sym (same_Some Intruder next e)) h)
+  ends_later Intruder next f e m h = end_later _ _ _ _ _ m (subst (λ n. IsEndIn s (passes_from n) f) (sym (same_Some Aim next e)) h)
+  ends_later Aim next f e m h = end_later _ _ _ _ _ m (subst (λ n. IsEndIn s (passes_from n) f) (sym (same_Some Pull next e)) h)
+  ends_later Pull next f e m h = end_later _ _ _ _ _ m (subst (λ n. IsEndIn s (passes_from n) f) (sym (same_Some Hold next e)) h)
+  ends_later Hold next f e m h = end_later _ _ _ _ _ m (subst (λ n. IsEndIn s (passes_from n) f) (sym (same_Some Own next e)) h)
   ends_later Own next f e m h = absurd cc

@@ -4,7 +4,7 @@ use Rattle.acas_flight.specs.Response.{Demand}
 use Rattle.acas_region_curves.specs.Chases.{demand_from}
 use Rattle.acas_region_curves.specs.View.{area_of}
 use Rattle.acas_passes.specs.Value.{is_below}
-use Rattle.acas_passes.specs.Flights.{value}
+use Rattle.acas_passes.specs.Flights.{Flight, value}
 use Rattle.acas_passes.specs.Passes.{Pass, below_at}
 use Rattle.acas_passes.specs.Search.{Search, unit, rate_step, high_flight_from, high_flight, time_pass, altitude_pass, intruder_pass, aim_pass, pull_pass, hold_pass, own_pass}
 use Rattle.acas_witness_search.specs.declared.survey.Survey.{Survey}
@@ -22,7 +22,7 @@ abbrev pub search_of : Survey → Search
 search_of s = record { demand = asked_in s; area = area_of s.area; low = s.low; high = s.high }
 
 -- the pass over a quantity
-abbrev pub pass_of : Quantity → Search → Pass
+abbrev pub pass_of : Quantity → Search → Pass Flight
 pass_of Time s = time_pass s
 pass_of Altitude s = altitude_pass s
 pass_of Intruder s = intruder_pass s
@@ -34,7 +34,7 @@ pass_of Own s = own_pass s
 -- ---- the flights of a survey
 
 -- the plan is that of the flight of that number in a pass
-abbrev pub IsPointOf : Survey → (Search → Pass) → ℕ → Plan → Type 0
+abbrev pub IsPointOf : Survey → (Search → Pass Flight) → ℕ → Plan → Type 0
 IsPointOf s pass i p = IsPlanOf (unit (search_of s)) ((pass (search_of s)).point i) p
 
 -- the plan is that of the high flight from a rate of so many steps
@@ -42,8 +42,8 @@ abbrev pub IsHighPlan : Survey → ℤ → Plan → Type 0
 IsHighPlan s rate p = IsPlanOf (unit (search_of s)) (high_flight_from (search_of s) (rate *ℤ pos (rate_step (search_of s)))) p
 
 -- the first flight of a pass is below
-abbrev pub StartsBelow : Survey → (Search → Pass) → Type 0
-StartsBelow s pass = below_at s.half (unit (search_of s)) (pass (search_of s)) 0 ≡ true
+abbrev pub StartsBelow : Survey → (Search → Pass Flight) → Type 0
+StartsBelow s pass = below_at (value (unit (search_of s))) s.half (pass (search_of s)) 0 ≡ true
 
 -- the high flight is not below
 abbrev pub EndsNotBelow : Survey → Type 0

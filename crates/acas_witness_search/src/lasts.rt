@@ -33,8 +33,8 @@ fn time_steps_between(a: u64, b: u64, c: u64, d: u64) -> u32
     ((way + (b * d - 1)) / (b * d)) as u32
 }
 
-// The steps from one rate up to another.
-fn rate_steps_between(least: i64, greatest: i64) -> u32
+/// The steps from one whole rate up to another. Rates are in ft/min, of at most 10,000 in size; a step is one of eight parts.
+pub fn rate_steps_between(least: i64, greatest: i64) -> u32
     requires least { unsigned_abs least ≤ unsigned_abs GREATEST_RATE }
     requires greatest { unsigned_abs greatest ≤ unsigned_abs GREATEST_RATE }
     requires order { least ≤ℤ greatest }

@@ -7,5 +7,8 @@ mod quantity;
 mod search;
 mod survey;
 
+pub use lasts::rate_steps_between;
+pub use plans::{falling_place, rising_place};
+pub use quantity::Quantity;
 pub use search::through;
 pub use survey::Survey;

@@ -42,8 +42,8 @@ fn whole_hold(value: u64) -> Frac
     Frac::whole(value as i64)
 }
 
-// The number further up, or the end. Neither is above ten million in size.
-fn rising_place(from: i64, to: i64, number: u32) -> i64
+/// The number further up, or the end. Neither end is above ten million in size.
+pub fn rising_place(from: i64, to: i64, number: u32) -> i64
     requires from { unsigned_abs from ≤ 10000000 }
     requires to { unsigned_abs to ≤ 10000000 }
     requires order { from ≤ℤ to }
@@ -52,8 +52,8 @@ fn rising_place(from: i64, to: i64, number: u32) -> i64
     (from + i64::from(number)).min(to)
 }
 
-// The number further down, or the end.
-fn falling_place(from: i64, to: i64, number: u32) -> i64
+/// The number further down, or the end. Neither end is above ten million in size.
+pub fn falling_place(from: i64, to: i64, number: u32) -> i64
     requires from { unsigned_abs from ≤ 10000000 }
     requires to { unsigned_abs to ≤ 10000000 }
     requires order { to ≤ℤ from }

@@ -13,7 +13,7 @@ use acas_witness_plans::{Outcome, Plan, fly, is_under};
 
 /// The quantity that a pass moves.
 #[derive(Clone, Copy)]
-pub(crate) enum Quantity {
+pub enum Quantity {
     Time,
     Altitude,
     Intruder,
@@ -25,7 +25,7 @@ pub(crate) enum Quantity {
 
 impl Quantity {
     /// The quantity that the next pass moves.
-    pub(crate) fn next(self) -> Option<Quantity>
+    pub fn next(self) -> Option<Quantity>
         ensures { result ≡ next_of self }
     {
         match self {
@@ -49,8 +49,8 @@ pub(crate) struct SearchPass {
 }
 
 impl Survey {
-    // The flight of a pass.
-    fn plan_at(&self, quantity: Quantity, number: u32) -> Plan
+    /// The flight of that number of the pass over a quantity.
+    pub fn plan_at(&self, quantity: Quantity, number: u32) -> Plan
         ensures point { IsPointOf self.now (pass_of quantity) number result }
         ensures flown { CanBeFlown result }
     {
@@ -65,8 +65,8 @@ impl Survey {
         }
     }
 
-    /// The number of the last point of a pass.
-    pub(crate) fn last(&self, quantity: Quantity) -> u32
+    /// The number of the last point of the pass over a quantity.
+    pub fn last(&self, quantity: Quantity) -> u32
         ensures { IsLast (pass_of quantity (search_of self.now)) result }
     {
         match quantity {

@@ -1,8 +1,11 @@
-use Rattle.std.proofs.Common.{refl}
+use Rattle.std.proofs.Common.{refl, subst}
 use Rattle.acas_outside.specs.Outside.{Outside, outside}
-use Rattle.acas_command.specs.Answers.{ended, report_ended}
+use Rattle.acas_command.specs.Answers.{Answers, ended, report_ended}
 use Rattle.acas_audit_commands.proofs.Worth.{audit-worth, regions-worth}
 use Rattle.acas_encounter_commands.proofs.Worth.{replay-worth}
+use Rattle.acas_manoeuvre.specs.Intruder.{Manoeuvre}
+use Rattle.acas_manoeuvre_commands.specs.Calls.{CallsForManoeuvre}
+use Rattle.acas_manoeuvre_commands.proofs.Worth.{manoeuvre-worth}
 use Rattle.acas_risk_commands.proofs.Worth.{risk-worth}
 use Rattle.acas_safeable_commands.proofs.Worth.{safeable-worth}
 use Rattle.acas_table_commands.proofs.MigratedTables.{migrate-worth}
@@ -49,6 +52,24 @@ returns-in-Regions-clause-headline g c =
     let after : Outside = outside g.F.Folder g.O.Sink c.regions.new.folder c.regions.new.out in
     rw (c.in-Regions.is, c.cause_of_report-in-Regions.ensures)
     (regions-worth c.in-Regions.model.now c.in-Regions.boxes.now (report_ended c.regions.result) before after c.regions.ensures.answers)
+
+pub returns-in-Manoeuvre-clause-headline : goal.returns-in-Manoeuvre-clause-headline
+returns-in-Manoeuvre-clause-headline g c =
+    let before : Outside = outside g.F.Folder g.O.Sink c.args.folder.now c.args.out.now in
+    let after : Outside = outside g.F.Folder g.O.Sink c.manoeuvre.new.folder c.manoeuvre.new.out in
+    let model = c.in-Manoeuvre.model.now in
+    let boxes = c.in-Manoeuvre.boxes.now in
+    rw (c.in-Manoeuvre.is, c.cause_of_report-in-Manoeuvre.ensures)
+    (manoeuvre-worth model boxes (record { accel = c.in-Manoeuvre.accel; rate = c.in-Manoeuvre.rate }) (report_ended c.manoeuvre.result) before after
+    (subst (λ (may : Manoeuvre). Answers (CallsForManoeuvre model boxes may) (report_ended c.manoeuvre.result) before after) c.manoeuvre_of-may.ensures c.manoeuvre.ensures.answers))
+
+pub returns-in-Manoeuvre-clause-answers : goal.returns-in-Manoeuvre-clause-answers
+returns-in-Manoeuvre-clause-answers g c =
+    let before : Outside = outside g.F.Folder g.O.Sink c.args.folder.now c.args.out.now in
+    let after : Outside = outside g.F.Folder g.O.Sink c.manoeuvre.new.folder c.manoeuvre.new.out in
+    rw (c.in-Manoeuvre.is, c.cause_of_report-in-Manoeuvre.ensures)
+    (subst (λ (may : Manoeuvre). Answers (CallsForManoeuvre c.in-Manoeuvre.model.now c.in-Manoeuvre.boxes.now may) (report_ended c.manoeuvre.result) before after)
+    c.manoeuvre_of-may.ensures c.manoeuvre.ensures.answers)
 
 pub returns-in-Safeable-clause-headline : goal.returns-in-Safeable-clause-headline
 returns-in-Safeable-clause-headline g c =

@@ -2,13 +2,13 @@ use Rattle.std.proofs.Common.{map, arith}
 use Rattle.std.proofs.lemmas.List.{length-map}
 use Rattle.std.specs.Prelude.{string_bytes}
 use Rattle.acas_cli_words.proofs.OtherWords.{form_of-none}
-use Rattle.acas_cli_words.proofs.words.command_of.Goals.{in_default-via-then-words-lt2, in_default-via-else-words-lt2+else-words-lt3+else-words-lt4+else-words-lt5}
+use Rattle.acas_cli_words.proofs.words.command_of.Goals.{in_default-via-then-words-lt2, in_default-via-else-words-lt2+else-words-lt3+else-words-lt4+else-words-lt5+else-words-lt6}
 use Rattle.acas_cli_words.proofs.words.command_of.Goals as goal
 
 pub returns-in_default : goal.returns-in_default
 returns-in_default c =
     let same = length-map c.args.words.now string_bytes in
     elim c.in_default.branch [
-      | in_default-via-then-words-lt2 w ↦ form_of-none (map string_bytes c.args.words.now) (λ two. grind (arith, same, two)) (λ three. grind (arith, same, three)) (λ four. grind (arith, same, four))
-      | in_default-via-else-words-lt2+else-words-lt3+else-words-lt4+else-words-lt5 w ↦ form_of-none (map string_bytes c.args.words.now) (λ two. grind (arith, same, two)) (λ three. grind (arith, same, three)) (λ four. grind (arith, same, four))
+      | in_default-via-then-words-lt2 w ↦ form_of-none (map string_bytes c.args.words.now) (λ two. grind (arith, same, two)) (λ three. grind (arith, same, three)) (λ four. grind (arith, same, four)) (λ five. grind (arith, same, five))
+      | in_default-via-else-words-lt2+else-words-lt3+else-words-lt4+else-words-lt5+else-words-lt6 w ↦ form_of-none (map string_bytes c.args.words.now) (λ two. grind (arith, same, two)) (λ three. grind (arith, same, three)) (λ four. grind (arith, same, four)) (λ five. grind (arith, same, five))
     ]

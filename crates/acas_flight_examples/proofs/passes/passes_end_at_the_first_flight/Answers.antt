@@ -1,7 +1,7 @@
 use Rattle.std.proofs.Common.{◌≡◌, ℕ, List, [], ◌∷◌, false, true≢false, pos, refl, sym, subst, arith}
 use Rattle.acas_flight.specs.Curves.{approach}
 use Rattle.acas_passes.specs.Halving.{ends, raises, lowers}
-use Rattle.acas_passes.specs.Flights.{Flight}
+use Rattle.acas_passes.specs.Flights.{Flight, value}
 use Rattle.acas_passes.specs.Passes.{EndsAt, IsLast, Pass, below_at, here, later}
 use Rattle.acas_flight_examples.specs.Searched.{at_start, far_below, up_to_it}
 use Rattle.acas_flight_examples.proofs.passes.passes_end_at_the_first_flight.Goals as goal
@@ -9,7 +9,7 @@ use Rattle.acas_flight_examples.proofs.passes.passes_end_at_the_first_flight.Goa
 third_is_last : IsLast up_to_it 3
 third_is_last = record { reaches = omega arith; first = omega arith }
 
-ends_there : EndsAt 120 1 (up_to_it ∷ []) (at_start (pos 100))
+ends_there : EndsAt (value 1) 120 (up_to_it ∷ []) (at_start (pos 100))
 unfolding approach
 ends_there = here up_to_it [] 3 2 third_is_last refl (raises 0 3 2 (omega arith) refl (lowers 1 3 2 (omega arith) refl (ends 1 2 (omega arith))))
 
@@ -21,19 +21,19 @@ unfolding approach
 returns-clause-two c = later far_below (up_to_it ∷ []) 2 (at_start (pos 100)) (record { reaches = omega arith; first = omega arith }) refl ends_there
 
 -- the flight of 300 ticks is the last of the first pass, and it is below
-last_is_below : (last : ℕ) → IsLast far_below last → below_at 120 1 far_below last ≡ false → ⊥
+last_is_below : (last : ℕ) → IsLast far_below last → below_at (value 1) 120 far_below last ≡ false → ⊥
 unfolding approach
 last_is_below last l =
     let e : last ≡ 2 = omega (arith, l.reaches, l.first) in
     rw e (λ t. true≢false t)
 
-ends_nowhere : (ps : List Pass) (c : Flight) → ps ≡ far_below ∷ [] → EndsAt 120 1 ps c → ⊥
+ends_nowhere : (ps : List (Pass Flight)) (c : Flight) → ps ≡ far_below ∷ [] → EndsAt (value 1) 120 ps c → ⊥
 ends_nowhere _ _ e (here p rest last at l t h) =
     let same : p ≡ far_below = cc in
-    subst (λ (x : Pass). IsLast x last → below_at 120 1 x last ≡ false → ⊥) (sym same) (last_is_below last) l t
+    subst (λ (x : Pass Flight). IsLast x last → below_at (value 1) 120 x last ≡ false → ⊥) (sym same) (last_is_below last) l t
 ends_nowhere _ _ e (later p rest last c l t h) = nothing rest c (cc) h
   where
-    nothing : (ps : List Pass) (c : Flight) → ps ≡ [] → EndsAt 120 1 ps c → ⊥
+    nothing : (ps : List (Pass Flight)) (c : Flight) → ps ≡ [] → EndsAt (value 1) 120 ps c → ⊥
     nothing _ _ e (here p rest last at l t h) = cc
     nothing _ _ e (later p rest last c l t h) = cc
 

@@ -1,8 +1,8 @@
-use Rattle.acas_pass_laws.proofs.Founds.{endangers, found, response}
+use Rattle.acas_pass_laws.proofs.Founds.{endangers, finds, response}
 use Rattle.acas_pass_laws.proofs.laws.searches_find_a_flight.Goals as goal
 
 pub returns-clause-found : goal.returns-clause-found
-returns-clause-found c = found
+returns-clause-found c = finds
 
 pub returns-clause-response : goal.returns-clause-response
 returns-clause-response c = response

@@ -1,4 +1,4 @@
-use Rattle.acas_cli_words.specs.Words.{Audit, Check, Compile, Drill, Migrate, Regions, Replay, Risk, Safeable, Values}
+use Rattle.acas_cli_words.specs.Words.{Audit, Check, Compile, Drill, Manoeuvre, Migrate, Regions, Replay, Risk, Safeable, Values}
 use Rattle.acas_run_laws.proofs.NotRefused.{ends-well, worth-form}
 use Rattle.acas_run_laws.proofs.ends.right_files_are_not_refused.Goals as goal
 
@@ -16,6 +16,9 @@ returns c = record {
       ends-well cause before after none ((worth-form (Audit model table which) cause files before after told h).not_refused bytes given m t says there accepted);
   regions = λ model boxes bytes given m said cause files before after told says there short text none h.
       ends-well cause before after none ((worth-form (Regions model boxes) cause files before after told h).not_refused bytes given m said says there short text);
+  manoeuvre = λ model boxes bytes given accel rate m said cause files before after told says there short text rates none h.
+      ends-well cause before after none ((worth-form (Manoeuvre model boxes accel rate) cause files before after told h).not_refused m said
+      (record { bytes = bytes; given = given; says = says; file = there; short = short; boxes_text = text }) rates);
   safeable = λ model table bytes given m t cause files before after told says there accepted none h.
       ends-well cause before after none ((worth-form (Safeable model table) cause files before after told h).not_refused bytes given m t says there accepted);
   replay = λ model table encounter bytes given flown_bytes m t flown cause files before after told says there accepted flown_there short text none h.

@@ -15,4 +15,6 @@ returns c = record {
   reported_cell = λ m name w h. shown m name.advice _ w h;
   certified_box = λ m boxes place h. h;
   reported_box = λ m boxes place w h. shown m _ _ w h;
+  certified_meeting = λ m may boxes place h. h;
+  reported_meeting = λ m may boxes place w h. (h.q, h.state, h.response, h.flight, h.meeting);
 }

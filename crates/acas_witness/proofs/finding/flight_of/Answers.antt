@@ -2,7 +2,7 @@ use Rattle.std.proofs.Common.{◌≡◌, ◌∙◌, ◌-◌, ◌*◌, ◌≤◌,
 use Rattle.std.specs.Int.{w64}
 use Rattle.std.proofs.lemmas.Int.{ints}
 use Rattle.acas_flight_curves.proofs.Held.{min_scaled, sub_scaled}
-use Rattle.acas_witness_plans.proofs.Portions.{finer}
+use Rattle.acas_region_curves.proofs.Climbs.{IsOver-finer}
 use Rattle.acas_witness_response.proofs.Assembly.{fine_some}
 use Rattle.acas_witness.proofs.Contacts.{planned_dens}
 use Rattle.acas_witness.proofs.finding.flight_of.Goals as goal
@@ -18,8 +18,8 @@ pub returns-clause-prints : goal.returns-clause-prints
 returns-clause-prints c = record {
   over = λ q n p is.
       let f = fine_some q n.pull c.args.plan.now.pull c.requires.limits.curve.pull p is.pull in
-      let t = finer c.args.plan.now.time q (q * n.pull) (pos n.time) is.time in
-      let g = finer c.args.plan.now.hold q (q * n.pull) (pos n.hold) is.hold in
+      let t = IsOver-finer c.args.plan.now.time q (q * n.pull) (pos n.time) is.time in
+      let g = IsOver-finer c.args.plan.now.hold q (q * n.pull) (pos n.hold) is.hold in
       let h : to_z w64 (of_z w64 c.args.plan.now.altitude) ≡ c.args.plan.now.altitude = omega (arith, ints, c.requires.altitude) in
       record {
         time = is.time;

@@ -1,5 +1,6 @@
 use Rattle.acas_passes.specs.Flights.{value}
-use Rattle.acas_passes.specs.Search.{unit, low_flight, high_flight, at_low, at_high, between}
+use Rattle.acas_passes.specs.Passes.{at_low, at_high, between}
+use Rattle.acas_passes.specs.Search.{unit, low_flight, high_flight}
 use Rattle.acas_pass_laws.proofs.Somes.{low_some, high_some}
 use Rattle.acas_pass_laws.proofs.Ends.{below_or_not}
 use Rattle.acas_witness_search.specs.Surveys.{search_of}
@@ -48,7 +49,7 @@ returns-clause-found c =
           (not_within_of c.args.survey.now.half (clearance_of c.low_outcome-lowest.result.climb c.low_outcome-lowest.result.intruder_end) (value (unit s) (low_flight s)) c.is_in_contact.result (low_some s (search_fine c.args.survey.now)) c.low_outcome-lowest.ensures.same c.is_in_contact.ensures c.if-is_in_contact.false)
           (not_within_of c.args.survey.now.half (clearance_of c.high_outcome-highest.result.climb c.high_outcome-highest.result.intruder_end) (value (unit s) (high_flight s)) c.is_in_contact-2.result (high_some s (search_fine c.args.survey.now)) c.high_outcome-highest.ensures.same c.is_in_contact-2.ensures c.if-is_in_contact-2.false)
           c.through.ensures.ends;
-      point = c.through.ensures.point;
+      point = c.through.ensures.point.0;
     }
 
 pub returns-then-is_in_contact-clause-flown : goal.returns-then-is_in_contact-clause-flown
@@ -58,4 +59,4 @@ pub returns-then-is_in_contact-2-clause-flown : goal.returns-then-is_in_contact-
 returns-then-is_in_contact-2-clause-flown c = c.high_outcome-highest.ensures.flown
 
 pub returns-clause-flown : goal.returns-clause-flown
-returns-clause-flown c = c.through.ensures.flown
+returns-clause-flown c = c.through.ensures.point.1

@@ -38,6 +38,5 @@ returns-else-is_below c =
       not_below = tested c.args.survey.now.half (clearance_of c.at.result.climb c.at.result.intruder_end) (value (unit s) ((pass_of c.args.quantity s).point c.last.result)) c.is_below.result false
           c.at.ensures.some (all_some c.args.quantity s (search_fine c.args.survey.now) c.last.result) c.at.ensures.value c.is_below.ensures c.if-is_below.false;
       halves = c.halve.ensures.end.1;
-      point = c.halve.ensures.end.3.0;
-      flown = c.halve.ensures.end.3.1;
+      point = c.halve.ensures.end.3;
     }

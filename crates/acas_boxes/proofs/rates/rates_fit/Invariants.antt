@@ -1,0 +1,8 @@
+use Rattle.std.proofs.Common.{ℕ, ◌<◌}
+use Rattle.acas_manoeuvre.specs.Intruder.{RatesFit}
+use Rattle.acas_manoeuvre.specs.View.{may_of}
+use Rattle.acas_rulings.specs.Boxes.{box_at}
+use Rattle.acas_boxes.proofs.rates.rates_fit.Given as goal
+
+abbrev pub invariant-loop-place : goal.invariant-loop-place
+invariant-loop-place l = record { before : (k : ℕ) → k < l.place → RatesFit (may_of l.may) (box_at l.boxes k).states.intruder }

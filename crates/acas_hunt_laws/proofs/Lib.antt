@@ -1,0 +1,10 @@
+pub mod Shifts
+pub mod Steps
+pub mod Joins
+pub mod Somes
+pub mod Gentle
+pub mod Flown
+pub mod Founds
+pub mod Verdicts
+pub mod Prints
+pub mod Showing

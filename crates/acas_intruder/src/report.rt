@@ -1,0 +1,50 @@
+//! The report of a box file against an intruder that may change its rate.
+ghost use Rattle.std.specs.Prelude.{◌≡◌, ◌<◌, ℕ, List, IfOk, IsErrOf, length};
+ghost use Rattle.acas_outside.specs.Bytes.{Appends};
+ghost use Rattle.acas_outside.specs.Frame.{Emits};
+ghost use Rattle.acas_rulings.specs.Boxes.{AreBoxesOf, box_at};
+ghost use Rattle.acas_manoeuvre.specs.Intruder.{RatesFit};
+ghost use Rattle.acas_manoeuvre.specs.View.{may_of};
+ghost use Rattle.acas_report_lines.specs.Meetings.{IsMeetingsBegun, IsMeetingsReport};
+
+use crate::verdict::meet_verdict;
+use acas_base::Model;
+use acas_manoeuvre::Manoeuvre;
+use acas_meetings::MeetVerdict;
+use acas_outside::Sink;
+use acas_report_lines::{MeetCounts, MeetFault, MeetRulings, write_meetings_by};
+use acas_rulings::{AuditBox, Boxes};
+use std::alloc::Global;
+
+/// The source that gives each box a verdict of its own.
+#[derive(Drop)]
+pub struct BoxByBox;
+
+impl MeetRulings for BoxByBox {
+    fn verdict(&self, model: &Model, may: &Manoeuvre, area: &AuditBox) -> MeetVerdict {
+        meet_verdict(model, area, may)
+    }
+}
+
+/// Writes the report of a box file against an intruder that may change its rate, and answers its counts. The intruder may have each
+/// intruder rate of each box. It takes all its memory before the first byte goes out.
+pub fn write_meetings<S: Sink>(
+    alloc: Global,
+    model: &Model,
+    boxes: &Boxes,
+    may: &Manoeuvre,
+    sink: &mut S,
+) -> Result<MeetCounts, MeetFault>
+    requires fits { AreBoxesOf model.now boxes.now }
+    requires rates { (place : ℕ) → place < length boxes.now →
+        RatesFit (may_of may.now) (box_at boxes.now place).states.intruder }
+    ensures report { IfOk result (λ counts. (text : List ℕ)
+        × IsMeetingsReport model.now (may_of may.now) boxes.now counts text
+        × Appends (S.written sink.old) (S.written sink.new) text) }
+    ensures part { IsErrOf result MeetFault.Sink →
+        IsMeetingsBegun model.now (may_of may.now) boxes.now (S.written sink.old) (S.written sink.new) }
+    ensures memory { IsErrOf result MeetFault.Memory → S.written sink.new ≡ S.written sink.old }
+    ensures frame { Emits S.Sink sink.old sink.new (IsErrOf result MeetFault.Sink) }
+{
+    write_meetings_by(alloc, model, boxes, may, &BoxByBox, sink)
+}

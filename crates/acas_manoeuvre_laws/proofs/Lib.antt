@@ -1,0 +1,12 @@
+pub mod Flown
+pub mod Envelope
+pub mod Safe
+pub mod Windows
+pub mod Valleys
+pub mod Paces
+pub mod Crossings
+pub mod Races
+pub mod Scales
+pub mod FirstTimes
+pub mod Stays
+pub mod Steadies

@@ -1,0 +1,5 @@
+pub mod Pulls
+pub mod Ones
+pub mod LeastTimes
+pub mod Printed
+pub mod Somes

@@ -1,0 +1,4 @@
+pub mod Values
+pub mod Pursuits
+pub mod Turns
+pub mod Chains

@@ -1,0 +1,4 @@
+pub mod Turns
+pub mod Stages
+pub mod View
+pub mod Courses

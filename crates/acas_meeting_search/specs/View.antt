@@ -1,0 +1,8 @@
+-- The hunt of a pursuit.
+use Rattle.acas_manoeuvre.specs.View.{may_of}
+use Rattle.acas_witness_search.specs.Surveys.{search_of}
+use Rattle.acas_meetings.specs.Hunt.{Hunt}
+use Rattle.acas_meeting_search.specs.declared.pursuit.Pursuit.{Pursuit}
+
+abbrev pub hunt_of : Pursuit → Hunt
+hunt_of p = record { search = search_of p.survey; may = may_of p.may }

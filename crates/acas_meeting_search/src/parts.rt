@@ -1,0 +1,24 @@
+//! Courses in fractions.
+ghost use Rattle.std.specs.Prelude.{◌≤◌, unsigned_abs};
+ghost use Rattle.acas_region_curves.specs.Sizes.{altitude_size};
+
+use acas_frac::Frac;
+use acas_witness_plans::Plan;
+
+/// What an intruder does for a time in seconds: it goes from a rate to a goal, both in ft/min, and then keeps the goal.
+#[derive(Drop, Clone, Copy)]
+pub struct Turn {
+    pub time: Frac,
+    pub intruder: Frac,
+    pub goal: Frac,
+}
+
+/// A course as flown: the own plan and the intruder's turn, and the climb of each in ticks.
+#[derive(Drop, Clone, Copy)]
+pub struct Flown {
+    pub plan: Plan,
+    pub turn: Turn,
+    pub climb: Frac,
+    pub ascent: Frac,
+    ghost low: { unsigned_abs plan.altitude ≤ altitude_size },
+}

@@ -1,0 +1,3 @@
+pub mod Hunt
+pub mod Printed
+pub mod Verdicts

@@ -1,0 +1,12 @@
+-- What the structs stand for.
+use Rattle.acas_region_curves.specs.declared.parts.Moment.{Moment}
+use Rattle.acas_manoeuvre.specs.Race.{Race}
+use Rattle.acas_manoeuvre.specs.Turns.{Instant}
+use Rattle.acas_race.specs.Runs.{race_of}
+use Rattle.acas_race.specs.declared.contest.Contest.{Contest}
+
+abbrev pub race_in : Contest → Race
+race_in c = race_of c.start c.aim c.pull c.hold c.height c.rate c.goal c.accel
+
+abbrev pub instant_at : Moment → Instant
+instant_at t = record { num = t.num; den = t.den }

@@ -1,0 +1,54 @@
+//! The times between which a meeting is searched.
+ghost use Rattle.std.specs.Prelude.{◌<◌};
+ghost use Rattle.acas_frac.specs.Fraction.{IsReduced};
+ghost use Rattle.acas_flight.specs.Response.{demand_of};
+ghost use Rattle.acas_region_curves.specs.Limits.{IsEnd};
+ghost use Rattle.acas_region_curves.specs.View.{area_of, times_of};
+ghost use Rattle.acas_manoeuvre.specs.Intruder.{RatesFit};
+ghost use Rattle.acas_manoeuvre.specs.Least.{IsFirstLeastTime};
+ghost use Rattle.acas_manoeuvre.specs.Race.{high_race, low_race, turned};
+ghost use Rattle.acas_manoeuvre.specs.View.{may_of};
+
+use crate::nearest::nearest_time;
+use crate::sides::{high_contest, low_contest};
+use acas_base::Model;
+use acas_frac::Frac;
+use acas_manoeuvre::Manoeuvre;
+use acas_region::asked_by;
+use acas_region_curves::{BoxState, Window};
+
+/// When the low curve of an area is first nearest the intruder that goes to its greatest rate, and when the high curve is first nearest
+/// the one that goes to its least: in seconds, from 0 to 600, over 5000 at most.
+#[derive(Clone, Copy, Debug)]
+pub struct SearchTimes {
+    pub low: Frac,
+    pub high: Frac,
+}
+
+/// The two times of an area in a window, under an advisory. The intruder's rates in the area are at most its greatest.
+pub fn search_times(
+    model: &Model,
+    may: &Manoeuvre,
+    area: &BoxState,
+    window: &Window,
+    advisory: u8,
+) -> SearchTimes
+    requires advisory { advisory < model.now.grid.advisories }
+    requires fits { RatesFit (may_of may.now) (area_of area.now).intruder }
+    ensures low { IsFirstLeastTime
+        (low_race (demand_of model.now advisory) (may_of may.now) (area_of area.now))
+        (times_of window.now) result.low }
+    ensures high { IsFirstLeastTime
+        (turned (high_race (demand_of model.now advisory) (may_of may.now) (area_of area.now)))
+        (times_of window.now) result.high }
+    ensures low_end { IsEnd result.low }
+    ensures high_end { IsEnd result.high }
+    ensures low_reduced { IsReduced result.low }
+    ensures high_reduced { IsReduced result.high }
+{
+    let asked = asked_by(model, advisory);
+    SearchTimes {
+        low: nearest_time(&low_contest(&asked, may, area), window),
+        high: nearest_time(&high_contest(&asked, may, area), window),
+    }
+}

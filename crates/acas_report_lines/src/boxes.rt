@@ -1,0 +1,143 @@
+//! The report on boxes, with rulings of any kind from a source of them.
+ghost use Rattle.std.specs.Prelude.{◌≡◌, ◌+◌, ◌<◌, ◌^◌, ℕ, List, [], ◌∷◌, OnOk, OnErr, IfOk, IsErr, IsErrOf, length};
+ghost use Rattle.acas_spec.specs.Model.{ModelData};
+ghost use Rattle.acas_outside.specs.Bytes.{Appends};
+ghost use Rattle.acas_outside.specs.Frame.{Emits};
+ghost use Rattle.acas_rulings.specs.Boxes.{AuditedBox, audited, box_at};
+ghost use Rattle.acas_report_lines.specs.Plan.{Broke, Room, Wrote, box_plan, progress, total};
+ghost use Rattle.acas_report_lines.specs.Regions.{IsSaidAt, boxes_text, places};
+ghost use Rattle.acas_report_lines.specs.Report.{IsBegun, IsReportOn};
+
+use crate::counts::{Counts, ReportFault};
+use crate::lines::{write_box_counts, write_box_line};
+use crate::pen::Pen;
+use crate::said::Said;
+use acas_base::Model;
+use acas_outside::{Failed, Sink};
+use acas_rulings::{AuditBox, Boxes};
+use std::alloc::Global;
+
+/// A source of rulings of some kind on boxes.
+pub(crate) trait BoxSource {
+    /// What is said of a box.
+    type Ruling: Said + Copy;
+
+    /// It rules on such a box beside a model.
+    ghost takes: { Self → ModelData → AuditedBox → Type 0 };
+
+    /// This is a ruling of the box beside the model.
+    ghost rules: { Self → ModelData → AuditedBox → Self.Ruling → Type 0 };
+
+    /// The ruling of a box.
+    fn ruling(&self, model: &Model, area: &AuditBox) -> Self::Ruling
+        requires { takes self.now model.now (audited area.now) }
+        ensures { rules self.now model.now (audited area.now) result };
+}
+
+/// Writes the report on boxes, with rulings from a source of them, and answers its counts, with no clear cells. It takes all its memory
+/// before the first byte goes out.
+pub(crate) fn write_boxes_by<R: BoxSource, S: Sink>(
+    alloc: Global,
+    model: &Model,
+    boxes: &Boxes,
+    rulings: &R,
+    sink: &mut S,
+) -> Result<Counts, ReportFault>
+    requires { (place : ℕ) → place < length boxes.now → R.takes rulings.now model.now (box_at boxes.now place) }
+    ensures report { IfOk result (λ counts. (text : List ℕ)
+        × IsReportOn (IsSaidAt (R.rules rulings.now model.now) boxes.now) R.Ruling.certified (places boxes.now) 0
+        (boxes_text R.Ruling.certified R.Ruling.text) counts text
+        × Appends (S.written sink.old) (S.written sink.new) text) }
+    ensures part { IsErrOf result ReportFault.Sink →
+        IsBegun (IsSaidAt (R.rules rulings.now model.now) boxes.now) (places boxes.now)
+        (boxes_text R.Ruling.certified R.Ruling.text) (S.written sink.old) (S.written sink.new) }
+    ensures memory { IsErrOf result ReportFault.Memory → S.written sink.new ≡ S.written sink.old }
+    ensures frame { Emits S.Sink sink.old sink.new (IsErrOf result ReportFault.Sink) }
+{
+    let Ok(mut pen) = Pen::make(alloc) else {
+        return Err(ReportFault::Memory);
+    };
+    match write_whole(model, boxes, rulings, sink, &mut pen) {
+        Ok(()) => Ok(pen.counts),
+        Err(_) => Err(ReportFault::Sink),
+    }
+}
+
+// Writes the lines of all boxes, and then the counts, with a pen that has written and counted nothing.
+fn write_whole<R: BoxSource, S: Sink>(
+    model: &Model,
+    boxes: &Boxes,
+    rulings: &R,
+    sink: &mut S,
+    pen: &mut Pen,
+) -> Result<(), Failed>
+    requires boxes { (place : ℕ) → place < length boxes.now → R.takes rulings.now model.now (box_at boxes.now place) }
+    requires empty { pen.old.buffer ≡ [] }
+    requires certified { pen.old.counts.certified ≡ 0 }
+    requires reported { pen.old.counts.reported ≡ 0 }
+    requires clear { pen.old.counts.clear ≡ 0 }
+    ensures ok { OnOk result ((text : List ℕ)
+        × IsReportOn (IsSaidAt (R.rules rulings.now model.now) boxes.now) R.Ruling.certified (places boxes.now) 0
+        (boxes_text R.Ruling.certified R.Ruling.text) pen.new.counts text
+        × Appends (S.written sink.old) (S.written sink.new) text) }
+    ensures err { OnErr result
+        (IsBegun (IsSaidAt (R.rules rulings.now model.now) boxes.now) (places boxes.now)
+        (boxes_text R.Ruling.certified R.Ruling.text) (S.written sink.old) (S.written sink.new)) }
+    ensures frame { Emits S.Sink sink.old sink.new (IsErr result) }
+{
+    // There is room for the counts, since the number of boxes is one of 32 bits.
+    let _ = boxes.len();
+    write_boxes(model, boxes, rulings, sink, pen)?;
+    let counts = pen.counts;
+    write_box_counts(&mut pen.line, &counts);
+    pen.end(sink)?;
+    Ok(())
+}
+
+// Writes the lines of all boxes.
+fn write_boxes<R: BoxSource, S: Sink>(
+    model: &Model,
+    boxes: &Boxes,
+    rulings: &R,
+    sink: &mut S,
+    pen: &mut Pen,
+) -> Result<(), Failed>
+    requires boxes { (place : ℕ) → place < length boxes.now → R.takes rulings.now model.now (box_at boxes.now place) }
+    requires room { Room (box_plan (R.rules rulings.now model.now) R.Ruling.certified R.Ruling.text boxes.now)
+        pen.old.counts (places boxes.now) }
+    ensures ok { OnOk result (Wrote (box_plan (R.rules rulings.now model.now) R.Ruling.certified R.Ruling.text boxes.now)
+        (progress (S.written sink.old) pen.old) (progress (S.written sink.new) pen.new) (places boxes.now)) }
+    ensures err { OnErr result (Broke (box_plan (R.rules rulings.now model.now) R.Ruling.certified R.Ruling.text boxes.now)
+        (S.written sink.old) pen.old.buffer (S.written sink.new) (places boxes.now)) }
+    ensures frame { Emits S.Sink sink.old sink.new (IsErr result) }
+{
+    for place in 0..boxes.len() {
+        write_box(model, boxes, rulings, place, sink, pen)?;
+    }
+    Ok(())
+}
+
+// Writes the line of a box, and counts it.
+fn write_box<R: BoxSource, S: Sink>(
+    model: &Model,
+    boxes: &Boxes,
+    rulings: &R,
+    place: u32,
+    sink: &mut S,
+    pen: &mut Pen,
+) -> Result<(), Failed>
+    requires takes { R.takes rulings.now model.now (box_at boxes.now place) }
+    requires place { place < length boxes.now }
+    requires room { total pen.old.counts + 1 < 2 ^ 64 }
+    ensures ok { OnOk result (Wrote (box_plan (R.rules rulings.now model.now) R.Ruling.certified R.Ruling.text boxes.now)
+        (progress (S.written sink.old) pen.old) (progress (S.written sink.new) pen.new) (place ∷ [])) }
+    ensures err { OnErr result (Broke (box_plan (R.rules rulings.now model.now) R.Ruling.certified R.Ruling.text boxes.now)
+        (S.written sink.old) pen.old.buffer (S.written sink.new) (place ∷ [])) }
+    ensures frame { Emits S.Sink sink.old sink.new (IsErr result) }
+{
+    let ruling = rulings.ruling(model, boxes.at(place));
+    pen.counts.count(ruling.is_certified());
+    write_box_line(&mut pen.line, place, &ruling);
+    pen.buffer.print(sink, pen.line.bytes())?;
+    Ok(())
+}
