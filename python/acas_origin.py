@@ -7,10 +7,12 @@ from pathlib import Path
 
 FORMS = {
     "values": ("model",), "check": ("model", "table"), "audit": ("model", "table"), "regions": ("model", "boxes"),
-    "replay": ("model", "table", "encounter"), "risk": ("model", "table"),
+    "manoeuvre": ("model", "boxes"), "replay": ("model", "table", "encounter"), "risk": ("model", "table"),
     "safeable": ("model", "table"),
 }
 """The commands that print what is kept, and the files that each reads, in the order of the words."""
+NUMBERS = {"manoeuvre": 2}
+"""How many numbers stand behind the files: of `manoeuvre` the intruder's greatest acceleration and its greatest rate."""
 FILES = ("model", "table", "boxes", "encounter")
 DIGITS = frozenset("0123456789abcdef")
 

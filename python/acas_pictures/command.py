@@ -12,15 +12,15 @@ from acas_pictures.policy import draw_policy
 from acas_pictures.progress import Progress
 from acas_pictures.risk import draw_risk
 from acas_pictures.safeable import draw_safeable
+from acas_pictures.separation import draw_separation
 from acas_pictures.slices import name_of, slice_of
 from acas_pictures.verdicts import cell_slice, draw_verdicts
 from acas_pictures.witness import draw_witness, title_of
 from acas_origin import beside
 from acas_table import (
-    BoxLine, Fault, Model, Table, check_origin, check_replay, read_line, read_model, read_replay, read_report, read_risk, read_safeable,
-    read_table,
+    BoxLine, Fault, Manoeuvre, Model, Table, check_flight, check_origin, check_replay, read_line, read_model, read_replay, read_report,
+    read_risk, read_safeable, read_separations, read_table,
 )
-from acas_table.flight import check_flight
 from acas_table.report import check_line
 
 WORDS = argparse.Namespace
@@ -73,22 +73,41 @@ def witness(words: WORDS) -> Figure:
     model = read_model(words.model)
     line = read_line(sys.stdin.read() if words.line == "-" else words.line)
     if isinstance(line, BoxLine):
-        return _box_witness(model, line, words.advisory, words.title)
+        return _box_witness(model, line, words)
     if words.advisory is not None:
-        raise Fault("line", "advice", f"is {line.advice}: --advisory is for the lines of acas regions")
+        raise Fault("line", "advice", f"is {line.advice}: --advisory is for the lines of acas regions and acas manoeuvre")
+    _refuse_against(words)
     advisory = check_line(model, line, "line")
     return draw_witness(model, advisory, line.flight, title_of(model, line) if words.title is None else words.title)
 
 
-def _box_witness(model: Model, line: BoxLine, name: str | None, title: str | None) -> Figure:
+def _box_witness(model: Model, line: BoxLine, words: WORDS) -> Figure:
+    name = words.advisory
     if name is None:
-        raise Fault("line", "advisory", "is not said by a line of acas regions: give --advisory NAME")
+        raise Fault("line", "advisory", "is not said by a line of acas regions or acas manoeuvre: give --advisory NAME")
     advisory = model.advisories[model.number(name)]
     if line.flight is None:
         raise Fault("line", "verdict", "is certified, and no flight is printed")
-    check_flight(model, advisory, line.flight, "line")
-    words = f"{name_of(model)}: box {line.box} under {name}" if title is None else title
-    return draw_witness(model, advisory, line.flight, words)
+    if line.flight.against is None:
+        _refuse_against(words)
+    check_flight(model, advisory, line.flight, "line", Manoeuvre(*words.against or ()))
+    title = f"{name_of(model)}: box {line.box} under {name}"
+    if words.against is not None:
+        title += ", an intruder of up to {} ft/min per s and {} ft/min".format(*words.against)
+    return draw_witness(model, advisory, line.flight, title if words.title is None else words.title)
+
+
+def _refuse_against(words: WORDS) -> None:
+    if words.against is not None:
+        raise Fault("line", "against", "is not there: --against is for the lines of acas manoeuvre")
+
+
+def separation(words: WORDS) -> Figure:
+    """The picture of `acas_plot separation`."""
+    model = read_model(words.model)
+    found = read_separations(text_of(words.separations), words.separations)
+    words.note = note_of(words.separations, model, None, "study/separation")
+    return draw_separation(model, found, words.box, words.title)
 
 
 def replay(words: WORDS) -> Figure:
@@ -105,12 +124,12 @@ def table_of(words: WORDS, model: Model) -> Table | None:
     return read_table(words.table, model) if words.table is not None else None
 
 
-def note_of(name: str, model: Model, table: Table | None) -> str:
+def note_of(name: str, model: Model, table: Table | None, writer: str = "acas_run") -> str:
     """What is to be said of a text that nothing ties to its model; a fault where the file beside it says that it is of another."""
     if name == "-":
         return "input: nothing says of which model and table it is"
     if check_origin(name, model, table) is None:
-        return f"{name}: no {beside(Path(name).name)} says of which model and table it is: acas_run writes one"
+        return f"{name}: no {beside(Path(name).name)} says of which model and table it is: {writer} writes one"
     return ""
 
 
@@ -123,7 +142,10 @@ def text_of(name: str) -> str:
         raise Fault(name, "text", "is not UTF-8") from None
 
 
-DRAWN = {"policy": policy, "cost": cost, "verdicts": verdicts, "risk": risk, "safeable": safeable, "witness": witness, "replay": replay}
+DRAWN = {
+    "policy": policy, "cost": cost, "verdicts": verdicts, "risk": risk, "safeable": safeable, "witness": witness, "separation": separation,
+    "replay": replay,
+}
 
 
 def main(chosen: WORDS) -> int:

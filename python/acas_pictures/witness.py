@@ -1,5 +1,6 @@
 """The vertical profile of a reported flight."""
 from fractions import Fraction
+from itertools import accumulate
 
 from matplotlib.axes import Axes
 from matplotlib.figure import Figure
@@ -18,19 +19,23 @@ Points = tuple[list[float], list[float]]
 
 
 def draw_witness(model: Model, advisory: Advisory, flight: Flight, title: str) -> Figure:
-    """Both paths until contact, the puck at that time, and between which curves a pilot may fly who meets the advisory."""
+    """Both paths until contact, the puck at that time, and between which curves a pilot may fly who meets the advisory. Of an intruder that
+    manoeuvres a square stands where each of its segments begins."""
     figure = new_figure(8.0, 4.4)
     axes = figure.add_subplot()
     first, last = passing(model, flight)
     end = last + (last - first) / 8
     low, high = (
-        path(flight, response(model, advisory, flight.own, end), end) for response in (lowest_response, highest_response)
+        path(flight.own, response(model, advisory, flight.own, end), end) for response in (lowest_response, highest_response)
     )
     axes.plot(*high, color=CURVES, linewidth=1.1, linestyle=(0, (5, 2)), label="highest climb")
     axes.plot(*low, color=CURVES, linewidth=1.1, linestyle=(0, (1, 1.5)), label="lowest climb")
     axes.add_patch(_puck(model, flight))
-    axes.plot(*path(flight, flight.response, flight.time), color=OWN, linewidth=2.2, label="own path")
-    _draw_intruder(axes, flight, end)
+    axes.plot(*path(flight.own, flight.response, flight.time), color=OWN, linewidth=2.2, label="own path")
+    if flight.against is None:
+        _draw_intruder(axes, flight, end)
+    else:
+        _draw_manoeuvre(axes, flight, flight.against)
     _draw_response(axes, flight)
     _draw_contact(axes, flight)
     axes.set(xlabel="time [s]", ylabel="altitude above the own at first [ft]", xlim=(0, float(end)))
@@ -56,15 +61,16 @@ def passing(model: Model, flight: Flight) -> tuple[Fraction, Fraction]:
     return max(Fraction(0), (flight.range - model.radius) / flight.speed), (flight.range + model.radius) / flight.speed
 
 
-def path(flight: Flight, response: tuple[Segment, ...], end: Fraction) -> Points:
-    """Times in s and altitudes in ft of who flies a response: its bends, and many times between them."""
+def path(rate: Fraction, segments: tuple[Segment, ...], end: Fraction, ticks: Fraction = Fraction(0)) -> Points:
+    """Times in s and altitudes in ft of who flies segments from a rate and an altitude in ticks: their ends, and many times between them."""
     times = {end * step / STEPS for step in range(STEPS + 1)}
-    bend = Fraction(0)
-    for duration, _ in response:
-        bend += duration
-        if bend < end:
-            times.add(bend)
-    return ([float(time) for time in sorted(times)], [_feet(climb(flight.own, response, time)) for time in sorted(times)])
+    times |= {time for time in begins(segments) if time < end}
+    return ([float(time) for time in sorted(times)], [_feet(ticks + climb(rate, segments, time)) for time in sorted(times)])
+
+
+def begins(segments: tuple[Segment, ...]) -> list[Fraction]:
+    """When each segment begins, and when the last one ends."""
+    return list(accumulate((duration for duration, _ in segments), initial=Fraction(0)))
 
 
 def _feet(ticks: Fraction) -> float:
@@ -90,14 +96,28 @@ def _draw_intruder(axes: Axes, flight: Flight, end: Fraction) -> None:
         axes.plot([float(time) for time in ends], altitudes, color=INTRUDER, **look)
 
 
+def _draw_manoeuvre(axes: Axes, flight: Flight, against: tuple[Segment, ...]) -> None:
+    """The path of an intruder that manoeuvres, to the contact."""
+    times, altitudes = path(flight.intruder, against, flight.time, flight.ticks)
+    squares = [times.index(float(begin)) for begin in begins(against)[: max(1, len(against))]]
+    axes.plot(
+        times, altitudes, color=INTRUDER, linewidth=2.2, marker="s", markevery=squares, markersize=5, markerfacecolor="white",
+        label="intruder's path",
+    )
+
+
 def _draw_response(axes: Axes, flight: Flight) -> None:
-    """A dot where each segment of the response begins, and the segments in words beside the picture."""
-    begin = Fraction(0)
-    for duration, _ in flight.response:
+    """A dot where each segment of the response begins, and the segments in words beside the picture; those of the intruder too."""
+    for begin in begins(flight.response)[: len(flight.response)]:
         axes.plot([float(begin)], [_feet(flight.own_at(begin))], "o", color=OWN, markersize=4)
-        begin += duration
-    words = "\n".join(["response", *(_segment_words(segment) for segment in flight.response)] if flight.response else ["no response"])
-    axes.text(1.03, 0.0, words, transform=axes.transAxes, fontsize=8, va="bottom", linespacing=1.5)
+    words = _listed("response", flight.response)
+    if flight.against is not None:
+        words += ["", *_listed("intruder's manoeuvre", flight.against)]
+    axes.text(1.03, 0.0, "\n".join(words), transform=axes.transAxes, fontsize=8, va="bottom", linespacing=1.5)
+
+
+def _listed(name: str, segments: tuple[Segment, ...]) -> list[str]:
+    return [name, *(_segment_words(segment) for segment in segments)] if segments else [f"no {name}"]
 
 
 def _segment_words(segment: Segment) -> str:
@@ -113,9 +133,12 @@ def _draw_contact(axes: Axes, flight: Flight) -> None:
 
 def reach(model: Model, flight: Flight, end: Fraction) -> tuple[float, float]:
     """The altitudes that the picture shows: both paths and the puck, and a margin."""
-    own = path(flight, flight.response, flight.time)[1]
+    own = path(flight.own, flight.response, flight.time)[1]
     seen = [*own, own[-1] - model.half_height, own[-1] + model.half_height]
-    seen += [_feet(flight.intruder_at(Fraction(time))) for time in (0, end)]
+    if flight.against is None:
+        seen += [_feet(flight.intruder_at(Fraction(time))) for time in (0, end)]
+    else:
+        seen += path(flight.intruder, flight.against, flight.time, flight.ticks)[1]
     margin = 0.12 * (max(seen) - min(seen))
     return min(seen) - margin, max(seen) + margin
 

@@ -12,6 +12,7 @@ COMMANDS = (
     ("risk", ("MODEL", "RISK"), True, "the chance of contact with the table and without, and the ratio of the two"),
     ("safeable", ("MODEL", "REPORT", "SAFEABLE"), True, "the verdicts on those cells, and what safeable says of the clear ones"),
     ("witness", ("MODEL", "LINE"), False, "the vertical profile of a reported flight"),
+    ("separation", ("MODEL", "SEPARATIONS"), False, "the altitudes at which a box is certified, over the intruder's acceleration"),
     ("replay", ("MODEL", "TABLE", "REPLAY"), False, "the profile of an encounter with the advice of each second"),
 )
 """Each command: the files that it reads, whether it shows a slice, and what it draws."""
@@ -21,7 +22,8 @@ HELP = {
     "REPORT": "a file with what acas audit has printed; - for the input",
     "RISK": "a file with what acas risk has printed; - for the input",
     "SAFEABLE": "a file with what acas safeable has printed; - for the input",
-    "LINE": "a line of acas audit or of acas regions; - for the input",
+    "LINE": "a line of acas audit, acas regions or acas manoeuvre; - for the input",
+    "SEPARATIONS": "a table that study/separation has written; - for the input",
     "REPLAY": "a file with what acas replay has printed; - for the input",
     "PICTURE": "the file to write, which ends in .png, .svg or .pdf",
 }
@@ -49,7 +51,12 @@ def parser() -> Parser:
         if name in ("verdicts", "risk", "safeable"):
             command.add_argument("--table", metavar="TABLE", help=f"the table that the {files[-1].lower()} is to be of")
         if name == "witness":
-            command.add_argument("--advisory", metavar="NAME", help="of a line of acas regions: the advisory of its box")
+            command.add_argument("--advisory", metavar="NAME", help="of a line of acas regions or acas manoeuvre: the advisory of its box")
+            command.add_argument(
+                "--against", nargs=2, type=int, metavar=("ACCEL", "RATE"), help="of a line of acas manoeuvre: what the intruder may do"
+            )
+        if name == "separation":
+            command.add_argument("--box", type=int, default=0, metavar="PLACE", help="which box of the file, counted from 0, else the first")
         command.add_argument("--title", metavar="TEXT", help="the title, in the place of one that says what is drawn")
         command.add_argument("--size", metavar="WIDTHxHEIGHT", type=size, help="the size in inches, as 7x4.5")
         command.add_argument("--dpi", metavar="NUMBER", type=dpi, help="how many points a .png has for each inch, else 150")

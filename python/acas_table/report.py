@@ -1,4 +1,4 @@
-"""What `acas audit` prints, and single lines of it and of `acas regions`."""
+"""What `acas audit` prints, what `acas regions` and `acas manoeuvre` print, and single lines of them."""
 import math
 from dataclasses import dataclass
 from fractions import Fraction
@@ -42,6 +42,21 @@ class BoxLine:
 
 
 @dataclass(frozen=True)
+class Regions:
+    """What is said of the boxes of a file."""
+
+    source: str
+    """What the text is called in faults."""
+    lines: tuple[BoxLine, ...]
+    """One for each box, in the order of the file."""
+
+    @property
+    def reported(self) -> tuple[BoxLine, ...]:
+        """The lines of the reported boxes."""
+        return tuple(line for line in self.lines if line.flight is not None)
+
+
+@dataclass(frozen=True)
 class Report:
     """A report of an audit."""
 
@@ -74,7 +89,7 @@ def read_report(text: str, source: str = "report", progress: Progress | None = N
         if counts is not None:
             raise Fault(words.source, "end", "is missing: a line follows the counts")
         if words.peek() == "certified":
-            counts = _counts(words)
+            counts = _counts(words, ("certified", "reported", "clear"))
         else:
             found.append(_cell(words, known))
         if progress is not None:
@@ -86,13 +101,42 @@ def read_report(text: str, source: str = "report", progress: Progress | None = N
     return report
 
 
+def read_regions(text: str, source: str = "regions") -> Regions:
+    """Reads what `acas regions` or `acas manoeuvre` has printed, to its last line. A fault names the line and the word that is not as it has
+    to be; and a flight of an intruder that manoeuvres beside one of an intruder that keeps its rate."""
+    lines: list[BoxLine] = []
+    counts = None
+    for words in lines_of(text, source):
+        if counts is not None:
+            raise Fault(words.source, "end", "is missing: a line follows the counts")
+        if words.peek() == "certified":
+            counts = _counts(words, ("certified", "reported"))
+            continue
+        lines.append(_box(words))
+        if lines[-1].box != len(lines) - 1:
+            raise Fault(words.source, "box", f"is {lines[-1].box}, not {len(lines) - 1}")
+    if counts is None:
+        raise Fault(source, "counts", "are missing: the last line has none")
+    found = Regions(source, tuple(lines))
+    _check_number(source, "reported", counts[1], len(found.reported))
+    _check_number(source, "certified", counts[0], len(lines) - len(found.reported))
+    if len({line.flight.against is None for line in found.reported if line.flight}) > 1:
+        raise Fault(source, "against", "stands in some reported lines, and not in all")
+    return found
+
+
 def read_line(line: str, source: str = "line") -> CellLine | BoxLine:
-    """Reads one line of `acas audit` or of `acas regions`."""
+    """Reads one line of `acas audit`, of `acas regions` or of `acas manoeuvre`."""
     words = Words(line.removesuffix("\n"), source)
-    if words.peek() != "box":
-        return _cell(words, {})
+    return _box(words) if words.peek() == "box" else _cell(words, {})
+
+
+def _box(words: Words) -> BoxLine:
     words.word("box")
-    return BoxLine(words.whole("box", 0, 9999), _ruling(words, {}))
+    box = words.whole("box", 0, 9999)
+    flight = read_flight(words, may_manoeuvre=True) if words.word("certified", "reported") == "reported" else None
+    words.end()
+    return BoxLine(box, flight)
 
 
 def _cell(words: Words, known: dict[str, Flight | None]) -> CellLine:
@@ -112,13 +156,13 @@ def _ruling(words: Words, known: dict[str, Flight | None]) -> Flight | None:
     return known[text]
 
 
-def _counts(words: Words) -> tuple[int, int, int]:
+def _counts(words: Words, names: tuple[str, ...]) -> tuple[int, ...]:
     counts = []
-    for name in ("certified", "reported", "clear"):
+    for name in names:
         words.word(name)
         counts.append(words.whole(name, 0))
     words.end()
-    return counts[0], counts[1], counts[2]
+    return tuple(counts)
 
 
 def _array(found: list[CellLine]) -> np.ndarray:
@@ -135,10 +179,14 @@ def _array(found: list[CellLine]) -> np.ndarray:
 def _check_counts(report: Report) -> None:
     reported = int(report.cells["reported"].sum())
     certified = len(report.cells) - reported
-    if report.reported != reported:
-        raise Fault(report.source, "counts", f"say reported {report.reported}, but so many lines are: {reported}")
-    if certified not in (report.certified, 0):
-        raise Fault(report.source, "counts", f"say certified {report.certified}, but so many lines are: {certified}")
+    _check_number(report.source, "reported", report.reported, reported)
+    if certified:
+        _check_number(report.source, "certified", report.certified, certified)
+
+
+def _check_number(source: str, name: str, said: int, lines: int) -> None:
+    if said != lines:
+        raise Fault(source, "counts", f"say {name} {said}, but so many lines are: {lines}")
 
 
 NUMBERED = np.dtype([("second", "i2"), ("present", "u1"), *((axis, "i2") for axis in AXES), ("advice", "u1"), ("reported", "?")])

@@ -207,11 +207,17 @@ def box_window(site: Site, cause: Cause) -> Advice:
     return f"{found} = {GREATEST_WINDOW * slowest}", f"one of these is enough: {'; '.join(ways)}"
 
 
+def box_rate(site: Site, cause: Cause) -> Advice:
+    least, greatest, rate = cause.allowed
+    fastest = max(-least, greatest)
+    return f"[{least}, {greatest}]", f"write rates from -{rate} to {rate}, or give the intruder a rate of at least {fastest} among the words"
+
+
 RULES: dict[str, Callable[[Site, Cause], Advice]] = {
     rule.__name__: rule
     for rule in (
         unknown, missing, kind, name, outside, count, short_axis, long_axis, not_rising, repeated_name, interval, no_choice,
-        unknown_name, repeated_choice, weights, window, entries, box_window,
+        unknown_name, repeated_choice, weights, window, entries, box_window, box_rate,
     )
 }
 """The rules of models, boxes and encounters, and of the keys of a study."""

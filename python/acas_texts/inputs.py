@@ -24,28 +24,33 @@ class Needs:
     """The greatest radius of the puck that all boxes allow; None of an encounter, which asks for none."""
 
 
-def boxes_of(content: bytes, source: str, model: ModelText | None = None) -> Needs:
-    """Looks at boxes by every rule of the format: beside a model as `acas` does, and else by those that ask for no model."""
+def boxes_of(content: bytes, source: str, model: ModelText | None = None, rate: int | None = None) -> Needs:
+    """Looks at boxes by every rule of the format: beside a model as `acas` does, and else by those that ask for no model. With a greatest rate
+    of an intruder that manoeuvres, it looks last for the first box whose intruder may be faster."""
     keys = Keys(source, document_of(content, source))
     keys.only("version", "box")
     keys.number("version", 1, 1)
     needs = [_box(place, box, model) for place, box in enumerate(keys.tables("box", 1, GREATEST_BOXES))]
-    return Needs(tuple(dict.fromkeys(name for name, _ in needs)), min(radius for _, radius in needs))
+    for place, (_, _, (least, greatest)) in enumerate(needs):
+        if rate is not None and (least < -rate or greatest > rate):
+            raise Fault(source, "rate", f"at {place}", Cause("box_rate", ("box", place, "intruder"), (least, greatest, rate)))
+    return Needs(tuple(dict.fromkeys(name for name, _, _ in needs)), min(radius for _, radius, _ in needs))
 
 
-def _box(place: int, box: Keys, model: ModelText | None) -> tuple[str, int]:
-    """The advisory of a box, and the greatest radius that it allows."""
+def _box(place: int, box: Keys, model: ModelText | None) -> tuple[str, int, tuple[int, int]]:
+    """The advisory of a box, the greatest radius that it allows, and the rates of its intruder."""
     box.only("advisory", "range", "closing", "altitude", "own", "intruder")
     advisory = _advisory(box, place, model)
     _, farthest = box.pair("range", 0, GREATEST_RANGE)
     slowest, _ = box.pair("closing", 1, GREATEST_SPEED)
-    for name in ("altitude", "own", "intruder"):
+    for name in ("altitude", "own"):
         box.pair(name, -GREATEST_RATE, GREATEST_RATE)
+    intruder = box.pair("intruder", -GREATEST_RATE, GREATEST_RATE)
     radius = GREATEST_WINDOW * slowest - farthest
     if radius < (model.radius if model else 1):
         cause = Cause("box_window", (*box.steps, "range"), (farthest, slowest, model.radius if model else 1))
         raise Fault(box.source, "window", f"at {place}", cause)
-    return advisory, radius
+    return advisory, radius, intruder
 
 
 def encounter_of(content: bytes, source: str, model: ModelText | None = None) -> Needs:

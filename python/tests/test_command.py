@@ -9,12 +9,13 @@ import pytest
 from conftest import EXAMPLES, TOP
 
 from test_replay import TEXT as REPLAY
-from test_report import CERTIFIED, REPORTED
+from test_report import CERTIFIED, CHASED, MET, REPORTED
 from test_report import WHOLE as REPORT
 from test_risk import TEXT as RISK
 from test_safeable import FAR, NOTHING_ADVISED, TWO_SECONDS
 from test_safeable import TEXT as SAFEABLE
 
+SEPARATIONS = "box,accel,rate,below,above\n0,1,1500,357,3070\n0,480,1500,-101,3602\n"
 PLOT = TOP / "python" / "acas_plot"
 LEVEL = ("--present", "clear", "--own", "0", "--intruder", "0")
 CELLS = ("--present", "clear", "--own", "0", "--intruder", "-60")
@@ -38,6 +39,7 @@ def files(tmp_path) -> Path:
     (tmp_path / "far.toml").write_text((EXAMPLES / "c.toml").read_text().replace(*TWO_SECONDS).replace(*FAR))
     (tmp_path / "clear.txt").write_text(NOTHING_ADVISED)
     (tmp_path / "safeable.txt").write_text(SAFEABLE)
+    (tmp_path / "separations.txt").write_text(SEPARATIONS)
     (tmp_path / "old.png").write_bytes(b"old")
     return tmp_path
 
@@ -50,14 +52,16 @@ def test_each_picture_by_its_ending(files, ending, begin):
         ("verdicts", MODEL, files / "report.txt", picture, *CELLS), ("witness", MODEL, REPORTED, picture),
         ("replay", MODEL, TABLE, files / "replay.txt", picture), ("risk", OF_RISK, files / "risk.txt", picture, *LEVEL),
         ("safeable", files / "far.toml", files / "clear.txt", files / "safeable.txt", picture, *CELLS),
+        ("witness", EXAMPLES / "d.toml", CHASED, picture, "--advisory", "climb"),
+        ("separation", EXAMPLES / "d.toml", files / "separations.txt", picture),
     ):
         ended = plot(*words)
         assert (ended.returncode, ended.stdout) == (0, "")
-        said = r"acas_plot: .*/(report|replay|risk|clear|safeable).txt: no .* says of which model and table it is.*\n"
+        said = r"acas_plot: .*/(report|replay|risk|clear|safeable|separations).txt: no .* says of which model and table it is.*\n"
         assert not ended.stderr or re.fullmatch(said, ended.stderr)
         assert picture.read_bytes().startswith(begin)
         picture.unlink()
-    kept = ["clear.txt", "far.toml", "old.png", "replay.txt", "report.txt", "risk.txt", "safeable.txt"]
+    kept = ["clear.txt", "far.toml", "old.png", "replay.txt", "report.txt", "risk.txt", "safeable.txt", "separations.txt"]
     assert sorted(path.name for path in files.iterdir()) == kept
 
 
@@ -76,6 +80,7 @@ def test_title_size_and_points(files):
         ("policy", MODEL, TABLE, *LEVEL), ("cost", MODEL, TABLE, *LEVEL), ("verdicts", MODEL, files / "report.txt", *CELLS),
         ("witness", MODEL, REPORTED), ("replay", MODEL, TABLE, files / "replay.txt"), ("risk", OF_RISK, files / "risk.txt", *LEVEL),
         ("safeable", files / "far.toml", files / "clear.txt", files / "safeable.txt", *CELLS),
+        ("separation", EXAMPLES / "d.toml", files / "separations.txt"), ("witness", EXAMPLES / "d.toml", MET, "--advisory", "climb"),
     ):
         count = 4 if words[0] in ("replay", "safeable") else 3
         for name in ("picture.svg", "picture.png"):
@@ -98,6 +103,7 @@ def test_two_runs_write_the_same(files, name):
     (("verdicts", MODEL, "-"), CELLS, REPORT),
     (("replay", MODEL, TABLE, "-"), (), REPLAY),
     (("risk", OF_RISK, "-"), LEVEL, RISK),
+    (("separation", EXAMPLES / "d.toml", "-"), (), SEPARATIONS),
 ])
 def test_input_in_the_place_of_a_file(files, words, options, given):
     ended = plot(*words, files / "new.svg", *options, given=given)
@@ -110,8 +116,24 @@ def test_line_of_a_box_wants_its_advisory(files):
     line = "box 1 reported time 20 range 10500 speed 500 ticks 43320 own 0 intruder 0 response 25/8@480 135/8@0"
     words = ("witness", EXAMPLES / "d.toml", line, files / "old.png")
     assert plot(*words, "--advisory", "climb").returncode == 0
-    assert plot(*words).stderr == "acas_plot: line: advisory is not said by a line of acas regions: give --advisory NAME\n"
+    assert plot(*words).stderr == "acas_plot: line: advisory is not said by a line of acas regions or acas manoeuvre: give --advisory NAME\n"
     assert plot(*words, "--advisory", "descend").stderr.startswith("acas_plot: line: response does not meet descend in ")
+    given = plot(*words, "--advisory", "climb", "--against", "480", "1500")
+    assert given.stderr == "acas_plot: line: against is not there: --against is for the lines of acas manoeuvre\n"
+
+
+def test_line_of_an_intruder_that_manoeuvres(files):
+    """What it may do is in the title, and a line of one that does more is refused."""
+    words = ("witness", EXAMPLES / "d.toml", CHASED, files / "new.svg", "--advisory", "climb")
+    assert plot(*words, "--against", "480", "1500").returncode == 0
+    text = (files / "new.svg").read_text(encoding="utf-8")
+    title = "d.toml: box 0 under climb, an intruder of up to 480 ft/min per s and 1500 ft/min"
+    assert f">{title}</text>" in text and ">intruder's manoeuvre</text>" in text
+    ended = plot(*words, "--against", "480", "1499")
+    assert (ended.returncode, ended.stderr) == (1, "acas_plot: line: against has the rate 1500 ft/min, over 1499\n")
+    assert (files / "new.svg").read_text(encoding="utf-8") == text
+    ended = plot("witness", MODEL, REPORTED, files / "old.png", "--against", "480", "1500")
+    assert ended.stderr == "acas_plot: line: against is not there: --against is for the lines of acas manoeuvre\n"
 
 
 BAD = [
@@ -134,6 +156,9 @@ BAD = [
     ("certified", ("witness", MODEL, CERTIFIED, "old.png"), "line: verdict is certified, and no flight is printed"),
     ("two lines", ("witness", MODEL, CERTIFIED + CERTIFIED, "old.png"), "line: word certified is 'certified\\ncell'"),
     ("line of another model", ("witness", EXAMPLES / "d.toml", REPORTED, "old.png"), "line: ticks is -20400, outside the cell in "),
+    ("meeting of another model", ("witness", MODEL, CHASED, "old.png", "--advisory", "descend"), "line: response does not meet descend in "),
+    ("no separations", ("separation", MODEL, "replay.txt", "old.png"), "replay.txt line 1: columns are "),
+    ("no such box", ("separation", MODEL, "separations.txt", "old.png", "--box", "1"), "separations.txt: box 1 is not there"),
     ("ending", ("policy", MODEL, TABLE, "old.gif", *LEVEL), "old.gif: ending is none of .png, .svg and .pdf"),
     ("too many points", ("policy", MODEL, TABLE, "old.png", *LEVEL, "--size", "40x40", "--dpi", "2400"), "words: size makes 96000 by 96000 points"),
     ("no folder", ("policy", MODEL, TABLE, "nowhere/new.png", *LEVEL), "nowhere/new.png: cannot be written: No such file or directory"),
@@ -148,6 +173,8 @@ WRONG = [
     ("size", ("policy", MODEL, TABLE, "old.png", *LEVEL, "--size", "7"), "argument --size: '7' is not WIDTHxHEIGHT, each 1 to 40 inches"),
     ("great size", ("policy", MODEL, TABLE, "old.png", *LEVEL, "--size", "7x41"), "argument --size: '7x41' is not WIDTHxHEIGHT, each 1 to 40"),
     ("dpi", ("policy", MODEL, TABLE, "old.png", *LEVEL, "--dpi", "-1"), "argument --dpi: '-1' is not a whole number from 20 to 2400"),
+    ("half of an intruder", ("witness", MODEL, CHASED, "old.png", "--against", "480"), "argument --against: expected 2 arguments"),
+    ("no box", ("separation", MODEL, "separations.txt", "old.png", "--box", "first"), "argument --box: invalid int value"),
     ("two lines in a word", ("policy", MODEL, TABLE, "old.png", *LEVEL, "a\nb"), "unrecognized arguments: a b"),
 ]
 

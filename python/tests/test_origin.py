@@ -56,6 +56,7 @@ def test_report_and_what_it_is_of(acas, folder):
 @pytest.mark.parametrize("words", [
     ("values", "c.toml"), ("check", "c.toml", "c.acxt"), (*WORDS, "--reported"), ("regions", "d.toml", "d-boxes.toml"),
     ("replay", "c.toml", "c.acxt", "e.toml"), ("risk", "c.toml", "c.acxt"), ("safeable", "c.toml", "c.acxt"),
+    ("manoeuvre", "d.toml", "d-boxes.toml", "480", "1500"),
 ])
 def test_each_command_that_prints(acas, folder, words):
     for name in ("d.toml", "d-boxes.toml"):
@@ -77,6 +78,9 @@ def test_each_command_that_prints(acas, folder, words):
     (("audit", "c.toml"), 2, "use: acas_run "),
     (("compile", "c.toml", "new.acxt"), 2, "use: acas_run "),
     (("migrate", "c.toml", "c.acxt", "new.acxt"), 2, "use: acas_run "),
+    (("manoeuvre", "c.toml", "c.acxt", "480"), 2, "use: acas_run "),
+    (("manoeuvre", "c.toml", "c.acxt", "480", "0"), 2, "acas: words refused\n"),
+    (("manoeuvre", "c.toml", "c.toml", "480", "1500"), 6, "acas: input refused: "),
 ])
 def test_what_acas_refuses_is_not_written(acas, folder, words, code, said):
     """The code and the line are those of acas, and the files that were there stay."""

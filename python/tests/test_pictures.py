@@ -14,11 +14,15 @@ from acas_pictures.encounter import draw_replay, profile
 from acas_pictures.policy import draw_policy
 from acas_pictures.risk import draw_risk
 from acas_pictures.safeable import draw_safeable
+from acas_pictures.separation import draw_separation
 from acas_pictures.slices import slice_of
 from acas_pictures.verdicts import cell_slice, draw_verdicts
 from acas_pictures.witness import draw_witness, title_of
-from acas_table import Fault, check_replay, read_line, read_model, read_replay, read_report, read_risk, read_safeable, read_table
+from acas_table import (
+    Fault, check_replay, read_line, read_model, read_replay, read_report, read_risk, read_safeable, read_separations, read_table,
+)
 from test_replay import TEXT as REPLAY
+from test_report import AT_ONCE, CHASED, MET
 from test_report import CERTIFIED as CERTIFIED_LINE
 from test_report import REPORTED as REPORTED_LINE
 from test_report import WHOLE as REPORT
@@ -26,6 +30,7 @@ from test_risk import TEXT as RISK
 from test_safeable import FAR, NOTHING_ADVISED, TWO_SECONDS
 from test_safeable import OPEN as OPEN_CELLS
 from test_safeable import TEXT as SAFEABLE_CELLS
+from test_separation import TEXT as SEPARATIONS
 
 COLOURS = {"climb": UP[1], "descend": DOWN[1]}
 TO_GO = "time to loss of horizontal separation [s]"
@@ -301,6 +306,71 @@ def test_witness_of_contact_at_once(model):
     axes = draw_witness(model, model.advisories[1], flight, "title").axes[0]
     assert line_of(axes, "contact at 0 s") == ([0], [10])
     assert axes.get_xlim() == pytest.approx((0, 1.6 + 0.2))
+
+
+def test_witness_of_a_manoeuvre():
+    """The intruder climbs 39.0625 ft in 3.125 s from 100 ft below, and 25 ft a second then, as the own aircraft does. It is drawn to the contact,
+    with a square where each of its two segments begins."""
+    other = read_model(EXAMPLES / "d.toml")
+    axes = draw_witness(other, other.advisories[1], read_line(CHASED).flight, "title").axes[0]
+    times, altitudes = line_of(axes, "intruder's path")
+    assert [altitudes[times.index(time)] for time in (0, 3.125, 20)] == [-100, -60.9375, 360.9375]
+    own_times, own = line_of(axes, "own path")
+    assert times == own_times and [high - low for high, low in zip(own, altitudes)] == pytest.approx([100] * len(own))
+    (path,) = [line for line in axes.lines if line.get_label() == "intruder's path"]
+    assert path.get_marker() == "s" and [times[place] for place in path.get_markevery()] == [0, 3.125]
+    assert line_of(axes, "contact at 20 s") == ([20], [360.9375])
+    segments = ["3.125 s at +480 ft/min per s", "16.875 s at the same rate"]
+    assert axes.texts[0].get_text().splitlines() == ["response", *segments, "", "intruder's manoeuvre", *segments]
+    assert list(legend_of(axes)) == ["highest climb", "lowest climb", "puck at contact", "own path", "intruder's path", "contact at 20 s"]
+    low, high = axes.get_ylim()
+    assert low < -100 and high > 560.9375
+
+
+def test_witness_of_a_manoeuvre_that_comes_down():
+    """The intruder, 120 ft up, may end above the puck: it takes back its climb at 1482.875 ft/min, and is 99.9988 ft above the own aircraft."""
+    other = read_model(EXAMPLES / "d.toml")
+    axes = draw_witness(other, other.advisories[1], read_line(MET).flight, "title").axes[0]
+    times, altitudes = line_of(axes, "intruder's path")
+    assert (times[0], altitudes[0], times[-1]) == (0, 120, 3.2) and 179.99 < altitudes[-1] < 180
+    assert line_of(axes, "own path")[1][-1] == 80
+
+
+def test_witness_of_a_manoeuvre_at_once():
+    other = read_model(EXAMPLES / "d.toml")
+    axes = draw_witness(other, other.advisories[1], read_line(AT_ONCE).flight, "title").axes[0]
+    assert line_of(axes, "intruder's path") == ([0], [0])
+    assert axes.texts[0].get_text().splitlines() == ["no response", "", "no intruder's manoeuvre"]
+
+
+def test_separation_by_hand():
+    """Up to an acceleration the borders are those found for it, and one that is nowhere leaves all reported."""
+    other = read_model(EXAMPLES / "d.toml")
+    figure = draw_separation(other, read_separations(SEPARATIONS), 0)
+    high, low = figure.axes
+    assert line_of(high, "above which it is certified") == ([1, 480, 2000], [3070, 3602, 3631])
+    assert line_of(low, "below which it is certified") == ([1, 480, 2000], [357, -101, -130])
+    assert high.get_xlim() == low.get_xlim() == (1, 2000)
+    for accel, altitude, colour in ((200, -90, REPORTED), (200, -110, CERTIFIED), (1000, -125, REPORTED), (1000, -135, CERTIFIED)):
+        assert colour_at(figure, low, accel, altitude) == colour
+    for accel, altitude, colour in ((200, 3590, REPORTED), (200, 3615, CERTIFIED), (1000, 3620, REPORTED), (1000, 3640, CERTIFIED)):
+        assert colour_at(figure, high, accel, altitude) == colour
+    assert legend_of(high) == {"certified": CERTIFIED, "reported at the next mark": REPORTED}
+    assert (low.get_xlabel(), figure._supylabel.get_text()) == ("intruder's greatest acceleration [ft/min per s]", ALTITUDE)
+    assert high.get_title("left") == "d.toml: box 0, an intruder of up to 1500 ft/min"
+    puck = [line.get_ydata()[0] for line in low.lines if line.get_color() == "white"]
+    assert puck == [-100, 100] and not any(line.get_color() == "white" for line in high.lines)
+
+
+def test_separation_of_a_box_that_is_never_certified():
+    other = read_model(EXAMPLES / "d.toml")
+    figure = draw_separation(other, read_separations(SEPARATIONS), 1)
+    high, low = figure.axes
+    assert colour_at(figure, high, 1000, 500) == REPORTED and colour_at(figure, low, 1000, -9000) == REPORTED
+    assert high.get_ylim() == (-10000, 10000)
+    for box, fault in ((2, "box 2 has one acceleration, and a picture wants two"), (3, "box 3 is not there")):
+        with pytest.raises(Fault, match=fault):
+            draw_separation(other, read_separations(SEPARATIONS), box)
 
 
 def test_replay_by_hand(model, table):

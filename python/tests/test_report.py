@@ -4,7 +4,7 @@ from fractions import Fraction
 import pytest
 from conftest import EXAMPLES
 
-from acas_table import BoxLine, Fault, Segment, numbered, read_line, read_model, read_report
+from acas_table import BoxLine, Fault, Manoeuvre, Segment, check_flight, numbered, read_line, read_model, read_regions, read_report
 from acas_table.flight import climb, highest_response, lowest_response
 from acas_table.report import check_line
 
@@ -14,6 +14,16 @@ REPORTED = (
 )
 COUNTS = "certified 1 reported 1 clear 2\n"
 WHOLE = CERTIFIED + REPORTED + COUNTS
+# Of examples/d.toml, under climb: an intruder 100 ft below that climbs as the own aircraft does, and one that ends just above the puck.
+CHASED = (
+    "box 0 reported time 20 range 10500 speed 500 ticks -12000 own 0 intruder 0 response 25/8@480 135/8@0 against 25/8@480 135/8@0\n"
+)
+MET = (
+    "box 2 reported time 16/5 range 15500 speed 5000 ticks 14400 own 1500 intruder 0 response 16/5@0 "
+    "against 11863/7680@960 12713/7680@0\n"
+)
+MEETINGS = CHASED + "box 1 certified\n" + MET + "certified 1 reported 2\n"
+AT_ONCE = "box 0 reported time 0 range 0 speed 500 ticks 0 own 0 intruder 0 response none against none\n"
 
 
 @pytest.fixture
@@ -124,6 +134,97 @@ def test_single_lines(model):
     assert box.flight.response == (Segment(Fraction(25, 8), Fraction(480)), Segment(Fraction(135, 8), Fraction(0)))
     assert read_line("box 3 certified").flight is None
     assert read_line("box 0 reported time 0 range 0 speed 1 ticks 0 own 0 intruder 0 response none").flight.response == ()
+
+
+def test_meetings():
+    regions = read_regions(MEETINGS)
+    assert [line.box for line in regions.lines] == [0, 1, 2] and [line.box for line in regions.reported] == [0, 2]
+    chased, none, met = (line.flight for line in regions.lines)
+    assert none is None
+    assert chased.response == chased.against == (Segment(Fraction(25, 8), Fraction(480)), Segment(Fraction(135, 8), Fraction(0)))
+    assert met.against == (Segment(Fraction(11863, 7680), Fraction(960)), Segment(Fraction(12713, 7680), Fraction(0)))
+    assert read_line(MET) == regions.lines[2] and read_line(AT_ONCE).flight.against == ()
+    plain = read_regions("box 0 reported time 3 range 15500 speed 5000 ticks 14400 own 1500 intruder 0 response 3@0\ncertified 0 reported 1\n")
+    assert plain.lines[0].flight.against is None and read_regions("certified 0 reported 0\n").lines == ()
+
+
+def test_intruder_by_hand():
+    """The first climbs 39.0625 ft in 3.125 s, and 25 ft a second from then on, 100 ft below the own aircraft. The other comes up to 1482.875
+    ft/min, and is then 80 ft and not quite 100 ft more above the own first altitude, which the own aircraft has left by 80 ft."""
+    chased, met = (read_line(line).flight for line in (CHASED, MET))
+    assert [chased.intruder_at(Fraction(time)) for time in (0, 1, 2)] == [-12000, -12000 + 480, -12000 + 1920]
+    assert chased.intruder_at(Fraction(25, 8)) == -12000 + Fraction(625, 16) * 120
+    assert chased.intruder_at(Fraction(20)) == -12000 + (Fraction(625, 16) + 25 * Fraction(135, 8)) * 120
+    for time in (Fraction(0), Fraction(7, 3), Fraction(25, 8), Fraction(20)):
+        assert chased.own_at(time) - chased.intruder_at(time) == 12000
+    turned = Fraction(11863, 7680)
+    assert met.intruder + 960 * turned == Fraction(11863, 8)
+    assert met.intruder_at(turned) == 14400 + 960 * turned**2
+    assert met.intruder_at(met.time) == 14400 + 960 * turned**2 + 2 * Fraction(11863, 8) * (met.time - turned)
+    assert met.own_at(met.time) == 9600 and 11999 < met.intruder_at(met.time) - 9600 < 12000
+
+
+def test_meetings_are_looked_at():
+    """In examples/d.toml: the intruder's segments last as long, keep to what it may do, and it ends in the puck."""
+    model = read_model(EXAMPLES / "d.toml")
+    climbing = model.advisories[1]
+    for line, may in ((CHASED, (480, 1500)), (MET, (960, 10000)), (AT_ONCE, (1, 1))):
+        check_flight(model, climbing, read_line(line).flight, "line", Manoeuvre(*may))
+        check_flight(model, climbing, read_line(line).flight, "line")
+    for line, may, fault in [
+        (CHASED, (479, 1500), "line: against accelerates by 480 ft/min per s, over 479"),
+        (CHASED, (480, 1499), "line: against has the rate 1500 ft/min, over 1499"),
+        (CHASED.replace("against 25/8@480 ", "against 25/8@-480 "), (480, 1500), "line: ticks differ by 122625 at the end, outside the puck of "),
+        (CHASED.replace("against 25/8@480 135/8@0", "against 25/8@480"), (480, 1500), "line: against lasts 25/8 s, not the time 20"),
+        (CHASED.replace("against 25/8@480 135/8@0", "against none"), (480, 1500), "line: against lasts 0 s, not the time 20"),
+        (CHASED.replace("against 25/8@480 135/8@0", "against 21@0 -1@0"), (480, 1500), "line: against has a segment of -1 s"),
+        (CHASED.replace("intruder 0", "intruder 1501"), (480, 1500), "line: against has the rate 1501 ft/min, over 1500"),
+        (CHASED.replace("against 25/8@480 135/8@0", "against 20@2001"), (2000, 10000), "line: against accelerates by 2001 ft/min per s, over 2000"),
+        (CHASED.replace("response 25/8@480 135/8@0", "response 20@0"), (480, 1500), "line: response does not meet climb in "),
+        (MET.replace("11863/7680@960 12713/7680@0", "16/5@960"), (960, 10000), "line: ticks differ by 73152/5 at the end, outside the puck of "),
+    ]:
+        with pytest.raises(Fault) as raised:
+            check_flight(model, climbing, read_line(line).flight, "line", Manoeuvre(*may))
+        assert str(raised.value).startswith(fault)
+
+
+@pytest.mark.parametrize(("text", "fault"), [
+    ("", "regions line 1: end is missing"),
+    (MEETINGS[:-2], "regions line 4: end is missing"),
+    (CHASED, "regions: counts are missing"),
+    (MEETINGS + CHASED, "regions line 5: end is missing: a line follows the counts"),
+    (MEETINGS.replace("box 1 certified\n", ""), "regions line 2: box is 2, not 1"),
+    (MEETINGS.replace("certified 1 r", "certified 2 r"), "regions: counts say certified 2, but so many lines are: 1"),
+    (MEETINGS.replace("reported 2\n", "reported 1\n"), "regions: counts say reported 1, but so many lines are: 2"),
+    (MEETINGS.replace("reported 2\n", "reported 2 clear 0\n"), "regions line 4: end is missing: 'clear' follows"),
+    (MEETINGS.replace(" against 11863/7680@960 12713/7680@0", ""), "regions: against stands in some reported lines, and not in all"),
+    (MEETINGS.replace(" against 11863/7680@960 12713/7680@0", " against"), "regions line 3: against is missing"),
+    (MEETINGS.replace("7680@0", "7680"), "regions line 3: against is '12713/7680', not DURATION@ACCELERATION"),
+    (MEETINGS.replace("against 25/8@480", "against 50/16@480"), "regions line 1: against is '50/16', not a number in lowest terms"),
+    (MEETINGS.replace("response 16/5@0 against", "response against"), "regions line 3: response is 'against', not DURATION@ACCELERATION"),
+    (MEETINGS.replace("against", "again"), "regions line 1: response is 'again', not DURATION@ACCELERATION"),
+    (AT_ONCE.replace("none\n", "none 1@0\n") + "certified 0 reported 1\n", "regions line 1: end is missing: '1@0' follows"),
+    (REPORTED + COUNTS, "regions line 1: word box is 'cell', not box"),
+])
+def test_broken_meetings_name_the_word(text, fault):
+    with pytest.raises(Fault) as raised:
+        read_regions(text)
+    assert str(raised.value).startswith(fault)
+
+
+def test_cells_have_no_manoeuvre():
+    with pytest.raises(Fault, match="report line 2: end is missing: 'against' follows"):
+        read_report(WHOLE.replace("3@-960", "3@-960 against 3@0"))
+
+
+def test_program_prints_meetings(acas):
+    """What the program prints on the example's boxes meets the advisory, keeps to what the intruder may do, and ends in contact."""
+    model = read_model(EXAMPLES / "d.toml")
+    for may in (Manoeuvre(480, 1500), Manoeuvre(960, 10000), Manoeuvre(1, 1)):
+        regions = read_regions(acas.output("manoeuvre", EXAMPLES / "d.toml", EXAMPLES / "d-manoeuvre.toml", *may))
+        assert len(regions.lines) == 3
+        for line in regions.reported:
+            check_flight(model, model.advisories[1], line.flight, f"box {line.box}", may)
 
 
 def test_curves_by_hand(changed):

@@ -36,6 +36,15 @@ def said(folder, *words) -> tuple[int, list[str]]:
     ("d-boxes.toml", 'advisory = "climb"', 'advisory = "Climb"', ["--model", EXAMPLES / "d.toml"], [
         "t: input refused: unknown advisory at 0", '  line 17: advisory = "Climb"', '  found: "Climb"',
         "  wanted: one of the advisories clear, climb, descend, level", "  to do: nearest is climb: write climb in its place"]),
+    ("d-boxes.toml", "", "", ["--model", EXAMPLES / "d.toml", "--rate", "999"], [
+        "t: input refused: rate at 3", "  line 57: intruder = [0, 1000]", "  found: [0, 1000]",
+        "  wanted: The least and the greatest vertical rate of the intruder in ft/min, -10000 to 10000. Up is positive.",
+        "  to do: write rates from -999 to 999, or give the intruder a rate of at least 1000 among the words"]),
+    ("d-boxes.toml", "range = [10500, 11000]", "range = [10500, 299501]", ["--model", EXAMPLES / "d.toml", "--rate", "1"], [
+        "t: input refused: window at 0", "  line 19: range = [10500, 299501]",
+        "  found: range[1] 299501 + puck.radius 500 of the model = 300001, over 600 * closing[0] 500 = 300000",
+        "  wanted: The least and the greatest range in feet, 0 to 3000000.",
+        "  to do: one of these is enough: closing[0] at least 501; range[1] at most 299500"]),
     ("e-encounter.toml", "-300, -300, ", "", [], [
         "t: input refused: key intruder_accel value 26 outside 28 to 28", "  line 40: intruder_accel = [", "  found: 26 items",
         "  wanted: The intruder's acceleration in each second, in ft/min per second: as many numbers as in `own_accel`, each -2000 to 2000.",
@@ -79,6 +88,16 @@ def test_what_boxes_ask_of_a_model(tmp_path):
     assert said(tmp_path, "--model", EXAMPLES / "d.toml", "t")[1][:3] == [
         "t: input refused: window at 0", "  line 19: range = [10500, 299501]",
         "  found: range[1] 299501 + puck.radius 500 of the model = 300001, over 600 * closing[0] 500 = 300000"]
+
+
+def test_rates_of_an_intruder(tmp_path):
+    """Boxes are ok with the greatest rate that one of them has, and without a model too; a rate that is none is no word."""
+    for words in (("--rate", "1000"), ("--model", EXAMPLES / "d.toml", "--rate", "10000"), ()):
+        assert said(tmp_path, *words, EXAMPLES / "d-boxes.toml")[0] == 0
+    assert said(tmp_path, "--rate", "999", EXAMPLES / "d-boxes.toml")[1][0].endswith("input refused: rate at 3")
+    for rate in ("0", "10001", "-1", "1.0", "one"):
+        command = [sys.executable, "-B", "-S", VALIDATE, "--rate", rate, EXAMPLES / "d-boxes.toml"]
+        assert subprocess.run(command, capture_output=True, check=False).returncode == 2
 
 
 def test_a_refused_model_beside(tmp_path):
