@@ -64,7 +64,7 @@ def types_of(text):
         named = re.match(r"use ((?:\w+::)+)\{?([^{};]*)\}?;", code)
         if named:
             uses += [(named.group(1), name) for name in re.split(r",\s*", named.group(2).strip(" ,\n"))]
-        elif TYPE.match(code) or code.startswith("impl std::marker::Model for "):
+        elif TYPE.match(code) or re.match(r"impl (std::marker::)?Model for ", code):
             types.append(item)
         elif code.startswith("ghost use "):
             uses.append(item)
@@ -126,7 +126,8 @@ def laws_alone(where, laws, bared, modules):
     lemmas_beside(crate, bared)
     texts = "\n".join(map(read, citing(crate, {laws: crate})))
     cited = set(re.findall(r"\b(?:Rattle\.)?(\w+)(?=::|\.)", texts))
-    return [name for name in listed()[laws] if name in cited]
+    used = dict.fromkeys(name for crate in [laws, *bared] for name in listed().get(crate, []))
+    return [name for name in used if name in cited]
 
 
 def lemmas_beside(crate, bared):
