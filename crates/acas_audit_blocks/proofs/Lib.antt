@@ -4,3 +4,4 @@ pub mod Filled
 pub mod Blocks
 pub mod Counted
 pub mod Ruled
+pub mod Rows

@@ -1,22 +1,18 @@
 //! Decides all cells of n seconds and a present advisory, block by block.
-ghost use Rattle.std.specs.Prelude.{◌≡◌, ℕ, ◌+◌, ◌*◌, ◌-◌, ◌<◌, ◌≤◌, ◌^◌, true, false};
+ghost use Rattle.std.specs.Prelude.{◌≡◌, ℕ, ◌+◌, ◌*◌, ◌<◌, ◌≤◌, ◌^◌};
 ghost use Rattle.acas_units.specs.declared.limits.TheConstants.{GREATEST_ADVISORIES};
-ghost use Rattle.acas_spec.specs.Model.{ModelData};
 ghost use Rattle.acas_base.specs.Advices.{AdvicesData, AreAdvicesOf};
 ghost use Rattle.acas_flight.specs.Contact.{IsEndangeredCell};
-ghost use Rattle.acas_cells.specs.Blocks.{IsBlockOf, IsInBlock, IsSome, cells_in, first_half, is_one_cell, second_half};
-ghost use Rattle.acas_cells.specs.Cells.{IsCellOf, cell_at};
-ghost use Rattle.acas_cells.specs.Corners.{is_advised};
+ghost use Rattle.acas_cells.specs.Blocks.{IsBlockOf, cells_in, is_one_cell};
 ghost use Rattle.acas_cells.specs.DecisionCounts.{most_decisions};
 ghost use Rattle.acas_audit_blocks.specs.Decisions.{AreDecisionsOf, IsDecidedBy};
-ghost use Rattle.acas_audit_blocks.specs.Audits.{AreExact, AreListsOf, HasLists, HaveSameCells, IsAuditOf, IsBlockIn, IsPlace, IsRuledIn, Waits, cell_count, certified_at, place_of, reported_at};
-ghost use Rattle.acas_cells.specs.Sets.{holds};
+ghost use Rattle.acas_audit_blocks.specs.Audits.{AreListsOf, HasLists, IsAuditOf, IsBlockIn, IsRuledIn, Waits};
 
 use crate::block_audit::BlockAudit;
 use crate::clear::block_clear;
 use crate::decisions::Decisions;
 use acas_base::{Advices, Model};
-use acas_cells::{AdviceSet, Block, advices_at};
+use acas_cells::Block;
 
 impl BlockAudit {
     /// Decides the cells of n seconds and a present advisory under all advices that are tabled at their corners: block by block, each
@@ -87,27 +83,6 @@ impl BlockAudit {
         let (first, second) = block.halves();
         self.decide_block(model, n, advice, &first, count);
         self.decide_block(model, n, advice, &second, count);
-    }
-
-    // Whether an advice waits in the second set of some cell of a block.
-    fn waits(&self, advice: u8, block: &Block) -> bool
-        requires lists { HasLists self.now }
-        requires block { IsBlockIn self.now block.now }
-        requires advice { advice < GREATEST_ADVISORIES }
-        ensures some { result ≡ true
-            → (i : ℕ) × (j : ℕ) × (k : ℕ) × IsInBlock block.now i j k × (holds (reported_at self.now i j k) advice ≡ true) }
-        ensures none { result ≡ false → (i j k : ℕ) → IsInBlock block.now i j k
-            → holds (reported_at self.now i j k) advice ≡ false }
-    {
-        if block.is_one_cell() {
-            let set = self.reported(block.i0, block.j0, block.k0);
-            return set.has(advice);
-        }
-        let (first, second) = block.halves();
-        if self.waits(advice, &first) {
-            return true;
-        }
-        self.waits(advice, &second)
     }
 
     // Takes an advice from the second set to the first for each cell of a block.

@@ -8,6 +8,7 @@ mod deciding;
 mod decision_laws;
 mod decisions;
 mod moving;
+mod waiting;
 
 pub use block_audit::BlockAudit;
 pub use clear::block_clear;
