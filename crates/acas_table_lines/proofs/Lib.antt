@@ -1,2 +1,3 @@
 pub mod TableLines
 pub mod SweptLines
+pub mod Heads

@@ -1,3 +1,4 @@
 pub mod LayerParts
 pub mod ValuesText
 pub mod LineRows
+pub mod Heads

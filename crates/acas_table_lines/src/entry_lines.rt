@@ -1,36 +1,77 @@
 //! The lines of a table's entries.
-ghost use Rattle.std.specs.Prelude.{◌≡◌, ◌+◌, ◌≤◌, ◌<◌, ◌++◌, ◌∷◌, [], length};
+ghost use Rattle.std.specs.Prelude.{◌≡◌, ◌+◌, ◌≤◌, ◌<◌, ◌++◌, length};
+ghost use Rattle.std.specs.Fmt.{signed_decimal};
 ghost use Rattle.acas_grid.specs.Grid.{IsVertex};
-ghost use Rattle.acas_table_lines.specs.ValuesText.{advice_text, entry_line};
+ghost use Rattle.acas_command.specs.Fields.{field};
+ghost use Rattle.acas_table_lines.specs.Heads.{line_behind, line_head};
+ghost use Rattle.acas_table_lines.specs.ValuesText.{advice_text};
 
 use acas_base::Model;
-use acas_command::{put_count_field, put_millionths_field, put_state_fields};
+use acas_command::{put_count_field, put_millionths_field, put_number};
 use acas_grid::Vertex;
-use acas_units::{GREATEST_NAME_BYTES, LINE_BYTES, Line, Pair};
+use acas_units::{GREATEST_NAME_BYTES, LINE_BYTES, Line, Pair, TICKS_PER_FOOT};
 
-/// Makes the line of an entry.
-#[tactic(auto, unfolding(crate::specs::ValuesText::entry_line))]
+/// Makes what the lines of a vertex, and of those beside it on the axis of intruder rate, begin with.
+#[tactic(auto, unfolding(crate::specs::Heads::line_head))]
+pub(crate) fn write_head(head: &mut Line, model: &Model, n: u32, present: u8, vertex: Vertex)
+    requires present { present < model.now.grid.advisories }
+    requires vertex { IsVertex model.now.grid vertex }
+    ensures value { head.new ≡ line_head model.now n present vertex.i vertex.j }
+    ensures short { length head.new ≤ 128 }
+{
+    let grid = model.grid();
+    head.clear();
+    put_count_field(head, u64::from(n));
+    put_name_field(head, model.name(present));
+    put_number_field(head, grid.h.value(vertex.i) / i64::from(TICKS_PER_FOOT));
+    put_number_field(head, grid.v0.value(vertex.j));
+}
+
+/// Makes the line of an entry behind what it begins with: the intruder's rate by its place, the two values and the advice.
 pub(crate) fn write_entry(
     line: &mut Line,
+    head: &Line,
     model: &Model,
     n: u32,
-    present: u8,
-    vertex: Vertex,
+    k: u32,
     pair: Pair,
     advice: u8,
 )
-    requires present { present < model.now.grid.advisories }
-    requires vertex { IsVertex model.now.grid vertex }
-    ensures value { line.new ≡ entry_line model.now n present vertex pair.lower pair.upper advice }
+    requires place { k < length model.now.grid.v1 }
+    requires head { length head.now ≤ 128 }
+    ensures value { line.new ≡ line_behind model.now n k pair.lower pair.upper advice head.now }
     ensures short { length line.new ≤ LINE_BYTES }
 {
     line.clear();
-    put_count_field(line, u64::from(n));
-    put_state_fields(line, model, present, vertex);
+    line.push(head.bytes());
+    put_number_field(line, model.grid().v1.value(k));
     put_millionths_field(line, pair.lower);
     put_millionths_field(line, pair.upper);
     line.push(advice_name(model, n, advice));
     line.push(b"\n");
+}
+
+// Appends a name and a space.
+#[tactic(auto, unfolding(acas_command::specs::Fields::field))]
+fn put_name_field(line: &mut Line, name: &[u8])
+    requires short { length name.now ≤ GREATEST_NAME_BYTES }
+    requires room { length line.old + GREATEST_NAME_BYTES + 1 ≤ LINE_BYTES }
+    ensures value { line.new ≡ line.old ++ field name.now }
+    ensures room { length line.new ≤ length line.old + GREATEST_NAME_BYTES + 1 }
+{
+    line.push(name);
+    line.push(b" ");
+}
+
+// Appends a number and a space.
+#[tactic(auto, unfolding(acas_command::specs::Fields::field))]
+fn put_number_field(line: &mut Line, value: i64)
+    requires { length line.old + 21 ≤ LINE_BYTES }
+    ensures value { line.new ≡ line.old ++ field (signed_decimal value) }
+    ensures room { length line.new ≤ length line.old + 21 }
+{
+    put_number(line, value);
+    line.push(b" ");
 }
 
 // The advice by name, and `-` with no second to go and where its number is no advisory's.

@@ -4,10 +4,11 @@ ghost use Rattle.acas_spec.specs.Model.{states};
 ghost use Rattle.acas_outside.specs.Bytes.{AppendsPart};
 ghost use Rattle.acas_outside.specs.Frame.{Emits};
 ghost use Rattle.acas_print.specs.Printing.{Prints};
+ghost use Rattle.acas_table_lines.specs.Heads.{BeginsLine, HasHead};
 ghost use Rattle.acas_table_lines.specs.LayerParts.{layer_data, IsWholeLayer};
 ghost use Rattle.acas_table_lines.specs.ValuesText.{listed_line, listed_lines};
 
-use crate::entry_lines::write_entry;
+use crate::entry_lines::{write_entry, write_head};
 use acas_base::Model;
 use acas_grid::{state_present, state_vertex};
 use acas_outside::{Failed, Sink};
@@ -15,9 +16,11 @@ use acas_print::PrintBuffer;
 use acas_units::{LINE_BYTES, Line, Pair};
 use std::alloc::{AllocError, Global};
 
-/// What printing takes: a line to build in, and the bytes that wait to be written. Its memory is taken when it is made.
+/// What printing takes: what the lines of neighbouring states begin with, a line to build in, and the bytes that wait to be written. Its
+/// memory is taken when it is made.
 #[derive(Drop)]
 pub struct Pen {
+    pub(crate) head: Line,
     pub(crate) line: Line,
     pub(crate) buffer: PrintBuffer,
 }
@@ -27,9 +30,10 @@ impl Pen {
     pub fn make(alloc: Global) -> Result<Pen, AllocError>
         ensures { IfOk result (λ pen. pen.buffer ≡ []) }
     {
+        let head = Line::make(alloc)?;
         let line = Line::make(alloc)?;
         let buffer = PrintBuffer::make(alloc)?;
-        Ok(Pen { line, buffer })
+        Ok(Pen { head, line, buffer })
     }
 }
 
@@ -71,32 +75,50 @@ fn print_state<O: Sink>(
 ) -> Result<(), Failed>
     requires layer { IsWholeLayer model.now.grid layer.now }
     requires state { state < states model.now.grid }
+    requires head { HasHead model.now layer.now.n state pen.old.head }
     ensures ok { OnOk result (Prints (O.written out.old) (O.written out.new)
         pen.old.buffer pen.new.buffer (listed_line model.now (layer_data layer.now) state)) }
     ensures err { OnErr result (AppendsPart (O.written out.old) (O.written out.new)
         (pen.old.buffer ++ listed_line model.now (layer_data layer.now) state)) }
     ensures frame { Emits O.Sink out.old out.new (IsErr result) }
+    ensures head { BeginsLine model.now layer.now.n state pen.new.head }
 {
-    write_state(&mut pen.line, model, layer, state);
+    write_state(&mut pen.head, &mut pen.line, model, layer, state);
     pen.buffer.print(out, pen.line.bytes())?;
     Ok(())
 }
 
 // Makes the line of a state.
-fn write_state(line: &mut Line, model: &Model, layer: &Layer<'_>, state: u32)
+fn write_state(head: &mut Line, line: &mut Line, model: &Model, layer: &Layer<'_>, state: u32)
     requires layer { IsWholeLayer model.now.grid layer.now }
     requires state { state < states model.now.grid }
+    requires head { HasHead model.now layer.now.n state head.old }
     ensures value { line.new ≡ listed_line model.now (layer_data layer.now) state }
     ensures short { length line.new ≤ LINE_BYTES }
+    ensures head { BeginsLine model.now layer.now.n state head.new }
 {
-    let grid = model.grid();
+    renew_head(head, model, layer.n, state);
     write_entry(
         line,
+        head,
         model,
         layer.n,
-        state_present(grid, state),
-        state_vertex(grid, state),
+        state_vertex(model.grid(), state).k,
         layer.pairs[state as usize],
         layer.advice[state as usize],
     );
+}
+
+// Makes what the line of a state begins with where the state is at the first place of the axis of intruder rate: the lines at the other
+// places begin so too.
+fn renew_head(head: &mut Line, model: &Model, n: u32, state: u32)
+    requires state { state < states model.now.grid }
+    requires head { HasHead model.now n state head.old }
+    ensures { BeginsLine model.now n state head.new }
+{
+    let grid = model.grid();
+    let vertex = state_vertex(grid, state);
+    if vertex.k == 0 {
+        write_head(head, model, n, state_present(grid, state), vertex);
+    }
 }
