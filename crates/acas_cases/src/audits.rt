@@ -3,21 +3,16 @@ use crate::runner::pass;
 use std::test::Fail;
 
 const CASES: &str = r##"
-# Under clear climb at the lower altitude and descend at the upper one; clear under the others. A read gives the whole
-# text, one the version of the table and one all the rest, and another finds the end of each. One write prints all three
-# lines; or there are more, of 64 bytes each.
+# Under clear climb at the lower altitude and descend at the upper one; clear under the others.
 [[cases]]
 name = "a certified and a reported cell"
 files = [["c", "model c"], ["t", "compiled c", "values 10000000 -10000000", "advices 1 0 010101010202020200000000000000000000000000000000", "seal 24"]]
-most = "$1"
-rows = [["65536", ""], ["4096", "5 0 0 1 0"], ["64", "28 0 0 3 0"]]
 runs = ["acas audit c t"]
 ends = ["1 reported"]
 output = """cell 0 clear 0 0 0 climb certified
 cell 0 clear 0 0 0 descend reported time 3 range 1000 speed 500 ticks -20400 own 0 intruder 0 response 3@-960
 certified 1 reported 1 clear 2
 """
-each_call = "$2"
 
 [[cases]]
 name = "the reported cells alone, and all counts"
@@ -133,14 +128,6 @@ error = "acas: table refused: other model c0c006ad59876e780a5a408e9498cdc55b7f3a
 
 # Files are looked at in order: the model first.
 [[cases]]
-name = "an absent table"
-files = [["c", "model c"]]
-rows = [["acas audit c t"], ["acas audit c t --reported"]]
-runs = ["$1"]
-ends = ["3 absent table"]
-error = "acas: absent: t\n"
-
-[[cases]]
 name = "an absent model before an absent table"
 runs = ["acas audit c t"]
 ends = ["3 absent model"]
@@ -176,25 +163,6 @@ rows = [
 runs = ["$1"]
 ends = ["2 words"]
 error = "acas: words refused\n"
-
-# The write that fails, and what is printed, at seven bytes a call.
-[[cases]]
-name = "a failing write of an audit"
-files = [["c", "model c"], ["t", "compiled c", "values 10000000 -10000000", "advices 1 0 010101010202020200000000000000000000000000000000", "seal 24"]]
-most = "7"
-failing = ["write $1"]
-rows = [
-  ["0", ""],
-  ["1", "cell 0 "],
-  ["5", "cell 0 clear 0 0 0 climb certified\n"],
-  ["24", """cell 0 clear 0 0 0 climb certified
-cell 0 clear 0 0 0 descend reported time 3 range 1000 speed 500 ticks -20400 own 0 intruder 0 response 3@-960
-certified 1 reported 1 """],
-]
-runs = ["acas audit c t"]
-ends = ["8 output"]
-output = "$2"
-error = "acas: output failed\n"
 "##;
 
 #[test]

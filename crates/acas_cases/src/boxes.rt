@@ -127,14 +127,7 @@ runs = ["acas regions d b"]
 ends = ["6 input"]
 error = "acas: input refused: $2\n"
 
-# Files are looked at in order: the model first, and each for absence and length before what it says.
-[[cases]]
-name = "an absent file of boxes"
-files = [["d", "model d"]]
-runs = ["acas regions d b"]
-ends = ["3 absent boxes"]
-error = "acas: absent: b\n"
-
+# Files are looked at in order: the model first.
 [[cases]]
 name = "an absent model before absent boxes"
 runs = ["acas regions d b"]
@@ -147,13 +140,6 @@ files = [["d", "text horizon = 1"]]
 runs = ["acas regions d b"]
 ends = ["4 model"]
 error = "acas: model refused: key version missing\n"
-
-[[cases]]
-name = "a file of boxes that is too long"
-files = [["d", "model d"], ["b", "pad 35 1000001"]]
-runs = ["acas regions d b"]
-ends = ["9 too long boxes"]
-error = "acas: too long: b\n"
 
 [[cases]]
 name = "a file of boxes as long as one may be"
@@ -169,17 +155,6 @@ files = [["d", "model d"]]
 runs = ["acas regions d d"]
 ends = ["6 input"]
 error = "acas: input refused: key advisory unknown\n"
-
-# Each text is read by a call, and one call finds its end; a write prints both lines. Or there are more calls, of 64 bytes each.
-[[cases]]
-name = "each call of regions"
-files = [["d", "model d"], ["b", "text version = 1\n[[box]]\nadvisory = \"climb\"\nrange = [10500, 11000]\nclosing = [500, 500]\naltitude = [0, 361]\nown = [0, 0]\nintruder = [0, 0]\n"]]
-most = "$1"
-rows = [["65536", "4 0 0 1 0"], ["64", "17 0 0 2 0"]]
-runs = ["acas regions d b"]
-ends = ["1 reported"]
-output = "box 0 reported time 20 range 10500 speed 500 ticks 43320 own 0 intruder 0 response 25/8@480 135/8@0\ncertified 0 reported 1\n"
-each_call = "$2"
 "##;
 
 #[test]

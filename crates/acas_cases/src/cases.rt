@@ -1,15 +1,18 @@
 //! A case, as it is read.
 use crate::fault::Fault;
+use crate::outside::File;
 use acas_tests_data::filled;
 use std::alloc::Global;
 use toml::{Table, Value};
 
 // The keys of a case, which the crate's own lines explain.
-const KEYS: [&str; 25] = [
+const KEYS: [&str; 28] = [
     "name",
     "rows",
     "numbers",
+    "forms",
     "files",
+    "without",
     "most",
     "failing",
     "endless",
@@ -22,6 +25,7 @@ const KEYS: [&str; 25] = [
     "output_length",
     "output_sha256",
     "error",
+    "error_begins",
     "lines_sha256",
     "after",
     "after_sha256",
@@ -54,11 +58,12 @@ pub fn keys_of(item: &Value) -> Result<&Table, Fault> {
     Ok(keys)
 }
 
-/// A case: its keys, and the values of its row, which stand in its texts.
+/// A case: its keys, the values of its row, which stand in its texts, and the files of the forms, if it is one of them.
 #[derive(Clone, Copy)]
 pub struct Case<'t> {
     pub keys: &'t Table,
     pub row: &'t [String],
+    pub files: &'t [File],
 }
 
 impl Case<'_> {

@@ -3,18 +3,15 @@ use crate::runner::pass;
 use std::test::Fail;
 
 const CASES: &str = r##"
-# The version of the table, and what a call gives and takes. The intruder is 2000 to 3000 ft below, and nothing is advised. From the cell a
-# second leads to 361200 to 239040 ticks below, and to own rates from -960 to 1020; from there a climb is clear. The model has 595 bytes,
-# the table of version 2 has 1380, and the lines have 129. Two calls read the model and three the table: its letters and version, the rest,
-# and its end. At 64 bytes a call there are 10 and 1 of the model, and 1, 22 and 1 of the table.
+# The version of the table. The intruder is 2000 to 3000 ft below, and nothing is advised. From the cell a second leads to 361200 to 239040
+# ticks below, and to own rates from -960 to 1020; from there a climb is clear.
 [[cases]]
 name = "cells far above the intruder"
 files = [
   ["g", "model c", "replace horizon = 1 => horizon = 2", "replace -1000, -170 => -3000, -2000"],
   ["t", "compiled g", "$1"],
 ]
-most = "$2"
-rows = [["text ", "4096", "5 0 0 1 0"], ["text ", "64", "35 0 0 3 0"], ["whole", "65536", "5 0 0 1 0"], ["whole", "1", ""]]
+rows = [["text "], ["whole"]]
 runs = ["acas safeable g t"]
 ends = ["0 done"]
 output = """
@@ -23,7 +20,6 @@ cell 1 climb 0 0 0 safeable climb
 cell 1 descend 0 0 0 safeable climb
 safeable 3 open 0 near 3
 """
-each_call = "$3"
 backups = "0"
 turned = "0"
 decisions = "0"
@@ -35,8 +31,7 @@ files = [
   ["g", "model c", "replace horizon = 1 => horizon = 2", "replace -1000, -170 => -100, 0"],
   ["t", "compiled g", "$1"],
 ]
-most = "$2"
-rows = [["text ", "65536", "5 0 0 1 0"], ["whole", "65536", "5 0 0 1 0"], ["text ", "16", ""]]
+rows = [["text "], ["whole"]]
 runs = ["acas safeable g t"]
 ends = ["1 reported"]
 output = """
@@ -45,7 +40,6 @@ cell 1 climb 0 0 0 open
 cell 1 descend 0 0 0 open
 safeable 0 open 3 near 3
 """
-each_call = "$3"
 
 # What the first run has stored is read by the second.
 [[cases]]
@@ -345,12 +339,9 @@ error = "acas: $3\n"
 name = "files of safeable that are absent, too long or of another kind"
 files = [["c", "model c"], ["n"], ["long", "pad 35 1000001"], ["t", "text ACX"]]
 rows = [
-  ["acas safeable none t", "3 absent model", "absent: none"],
   ["acas safeable none nor", "3 absent model", "absent: none"],
-  ["acas safeable c none", "3 absent table", "absent: none"],
   ["acas safeable n t", "4 model", "model refused: key version missing"],
   ["acas safeable n none", "4 model", "model refused: key version missing"],
-  ["acas safeable long t", "9 too long model", "too long: long"],
   ["acas safeable c n", "5 table", "table refused: length 0 of 940"],
   ["acas safeable c long", "5 table", "table refused: magic"],
   ["acas safeable c t", "5 table", "table refused: length 3 of 940"],
@@ -389,34 +380,6 @@ files = [
 runs = ["acas safeable g t"]
 ends = ["5 table"]
 error = "acas: table refused: other model 79a5af123b51b6f47b16dc4e952cb7c8cb48bf7a8bd7a7ad2d7a327398da0b0d found 920af935e2a9dcaf48f71c0cf7ca5a85ff887b3d251ba0af125c1b90ef03213a\n"
-
-# The model is read by two calls and the table by three.
-[[cases]]
-name = "a failing read of safeable"
-files = [["b", "model b"], ["t", "compiled b"]]
-most = "4096"
-failing = ["read $1"]
-rows = [["0"], ["1"], ["2"], ["3"], ["4"]]
-runs = ["acas safeable b t"]
-ends = ["7 folder"]
-error = "acas: folder failed\n"
-
-[[cases]]
-name = "a failing write of safeable, at seven bytes a call"
-files = [["b", "model b"], ["t", "compiled b"]]
-most = "7"
-failing = ["write $1"]
-rows = [
-  ["0", ""],
-  ["1", "cell 1 "],
-  ["2", "cell 1 clear 0"],
-  ["4", "cell 1 clear 0 0 0 open\ncell"],
-  ["10", "cell 1 clear 0 0 0 open\ncell 1 level 0 0 0 open\nsafeable 0 open 2 near"],
-]
-runs = ["acas safeable b t"]
-ends = ["8 output"]
-output = "$2"
-error = "acas: output failed\n"
 "##;
 
 #[test]

@@ -11,17 +11,6 @@ runs = ["acas drill 0"]
 ends = ["1 reported"]
 output = "drill 0 states 2275 entries 25025 bytes 425837\naccepted\ncertified 6342 reported 5978 clear 5012\n"
 
-# The write that fails, and what is printed, at seven bytes a call.
-[[cases]]
-name = "a failing write of a drill"
-most = "7"
-failing = ["write $1"]
-rows = [["0", ""], ["7", "drill 0 states 2275 entries 25025 bytes 425837\nac"]]
-runs = ["acas drill 0"]
-ends = ["8 output"]
-output = "$2"
-error = "acas: output failed\n"
-
 # A number is written in digits, without a sign or leading zeros, and is at most 999999999.
 [[cases]]
 name = "words of no drill"

@@ -23,9 +23,24 @@ pub fn judge_each_call(
             let failing = vec![in alloc; format!(in alloc; "{kind} {number}")?]?;
             let failed = perform(alloc, start, &failing)?;
             judge_failed(kind, start, end, &failed, report)?;
+            judge_taken(kind, number, start, &failed, report)?;
         }
     }
     Ok(())
+}
+
+// Where the write of this number failed, what the writes before it took is printed: of one block as much as each can take.
+fn judge_taken(
+    kind: &str,
+    number: u64,
+    start: &Start,
+    failed: &End,
+    report: &mut Report,
+) -> Result<(), Fault> {
+    let found = failed.out.sink.written();
+    let taken = number.saturating_mul(u64::from(start.most));
+    let is_so = kind != "write" || found.len() as u64 == taken;
+    Ok(report.holds("the output before the failed write", found, is_so)?)
 }
 
 // How many calls of each kind the case made.

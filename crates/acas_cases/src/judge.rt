@@ -22,8 +22,7 @@ pub fn judge(
         judge_ends(alloc, case, end, report)?;
     }
     if !case.has("lines_sha256") {
-        let error = case.text_or(alloc, "error", "")?;
-        report.same("the error output", end.err.sink.written(), error.as_bytes())?;
+        judge_error(alloc, case, end.err.sink.written(), report)?;
         judge_output(alloc, case, end.out.sink.written(), report)?;
     }
     judge_number(alloc, case, "taken", end.folder.taken, report)?;
@@ -55,6 +54,25 @@ fn judge_code(
     let found = end.ends.last().map_or("", |text| text.as_str());
     let is_so = found.as_bytes().first() == Some(&wanted);
     Ok(report.holds("the code", found.as_bytes(), is_so)?)
+}
+
+// The error output: as the case says, or one line that begins so.
+fn judge_error(
+    alloc: Global,
+    case: Case<'_>,
+    found: &[u8],
+    report: &mut Report,
+) -> Result<(), Fault> {
+    let Some(front) = case.text(alloc, "error_begins")? else {
+        let error = case.text_or(alloc, "error", "")?;
+        return Ok(report.same("the error output", found, error.as_bytes())?);
+    };
+    let text = std::str::from_utf8(found).unwrap_or("");
+    let is_so = match text.split_once('\n') {
+        Some((line, rest)) => rest.is_empty() && line.starts_with(front.as_str()),
+        None => false,
+    };
+    Ok(report.holds("the error output", found, is_so)?)
 }
 
 // All that was printed: as the case says, or nothing.

@@ -213,12 +213,10 @@ name = "files of manoeuvre that are absent, too long or of another kind"
 files = [["d", "model d"], ["n"], ["toml", "text version == 1"], ["long", "pad 35 1000001"], ["full", "text version = 1\nbox = []\n", "pad 35 1000000"]]
 rows = [
   ["none nor", "3 absent model", "absent: none"],
-  ["d none", "3 absent boxes", "absent: none"],
   ["n none", "4 model", "model refused: key version missing"],
   ["n n", "4 model", "model refused: key version missing"],
   ["toml none", "4 model", "model refused: not toml"],
   ["long none", "9 too long model", "too long: long"],
-  ["d long", "9 too long boxes", "too long: long"],
   ["d n", "6 input", "input refused: key version missing"],
   ["d toml", "6 input", "input refused: not toml"],
   ["d full", "6 input", "input refused: key box value 0 outside 1 to 10000"],
@@ -239,17 +237,6 @@ ends = ["2 words"]
 error = "acas: words refused\n"
 absent = ["none", "nor"]
 
-# Each text is read by a call, and one call finds its end; a write prints both lines. Or there are more calls, of 64 bytes each.
-[[cases]]
-name = "each call of manoeuvre"
-files = [["d", "model d"], ["b", "text version = 1\n[[box]]\nadvisory = \"climb\"\nrange = [10500, 11000]\nclosing = [500, 500]\naltitude = [-100, -100]\nown = [0, 0]\nintruder = [0, 0]\n"]]
-most = "$1"
-rows = [["65536", "4 0 0 1 0"], ["64", "17 0 0 3 0"]]
-runs = ["acas manoeuvre d b 480 1500"]
-ends = ["1 reported"]
-output = "box 0 reported time 20 range 10500 speed 500 ticks -12000 own 0 intruder 0 response 25/8@480 135/8@0 against 25/8@480 135/8@0\ncertified 0 reported 1\n"
-each_call = "$2"
-
 [[cases]]
 name = "each call of a manoeuvre that is refused, at a byte a call"
 files = [["d", "model d"], ["b", "text version = 1\n[[box]]\nadvisory = \"climb\"\nrange = [10500, 11000]\nclosing = [500, 500]\naltitude = [0, 0]\nown = [0, 0]\nintruder = [0, 1501]\n"]]
@@ -258,50 +245,6 @@ runs = ["acas manoeuvre d b 480 1500"]
 ends = ["6 input"]
 error = "acas: input refused: rate at 0\n"
 each_call = "903 0 0 0 31"
-
-# The write that fails, and what is printed, at seven bytes a call.
-[[cases]]
-name = "a failing write of manoeuvre"
-files = [["d", "model d"], ["b", "text version = 1\n[[box]]\nadvisory = \"climb\"\nrange = [10500, 11000]\nclosing = [500, 500]\naltitude = [-100, -100]\nown = [0, 0]\nintruder = [0, 0]\n"]]
-most = "7"
-failing = ["write $1"]
-rows = [
-  ["0", ""],
-  ["1", "box 0 r"],
-  ["2", "box 0 reported"],
-  ["5", "box 0 reported time 20 range 10500 "],
-  ["13", "box 0 reported time 20 range 10500 speed 500 ticks -12000 own 0 intruder 0 response 25/8@48"],
-  ["14", "box 0 reported time 20 range 10500 speed 500 ticks -12000 own 0 intruder 0 response 25/8@480 135/8"],
-  ["15", "box 0 reported time 20 range 10500 speed 500 ticks -12000 own 0 intruder 0 response 25/8@480 135/8@0 agai"],
-  ["18", "box 0 reported time 20 range 10500 speed 500 ticks -12000 own 0 intruder 0 response 25/8@480 135/8@0 against 25/8@480 135/8@0\n"],
-  ["19", "box 0 reported time 20 range 10500 speed 500 ticks -12000 own 0 intruder 0 response 25/8@480 135/8@0 against 25/8@480 135/8@0\ncertifi"],
-  ["20", "box 0 reported time 20 range 10500 speed 500 ticks -12000 own 0 intruder 0 response 25/8@480 135/8@0 against 25/8@480 135/8@0\ncertified 0 re"],
-  ["21", "box 0 reported time 20 range 10500 speed 500 ticks -12000 own 0 intruder 0 response 25/8@480 135/8@0 against 25/8@480 135/8@0\ncertified 0 reported "],
-]
-runs = ["acas manoeuvre d b 480 1500"]
-ends = ["8 output"]
-output = "$2"
-error = "acas: output failed\n"
-
-[[cases]]
-name = "writes past the lines of manoeuvre are not made"
-files = [["d", "model d"], ["b", "text version = 1\n[[box]]\nadvisory = \"climb\"\nrange = [10500, 11000]\nclosing = [500, 500]\naltitude = [-100, -100]\nown = [0, 0]\nintruder = [0, 0]\n"]]
-most = "7"
-failing = ["write 22"]
-runs = ["acas manoeuvre d b 480 1500"]
-ends = ["1 reported"]
-output = "box 0 reported time 20 range 10500 speed 500 ticks -12000 own 0 intruder 0 response 25/8@480 135/8@0 against 25/8@480 135/8@0\ncertified 0 reported 1\n"
-
-# Both texts are read by two calls each.
-[[cases]]
-name = "a failing read of manoeuvre"
-files = [["d", "model d"], ["b", "text version = 1\n[[box]]\nadvisory = \"climb\"\nrange = [10500, 11000]\nclosing = [500, 500]\naltitude = [-100, -100]\nown = [0, 0]\nintruder = [0, 0]\n"]]
-most = "4096"
-failing = ["read $1"]
-rows = [["0"], ["1"], ["2"], ["3"]]
-runs = ["acas manoeuvre d b 480 1500"]
-ends = ["7 folder"]
-error = "acas: folder failed\n"
 "##;
 
 #[test]

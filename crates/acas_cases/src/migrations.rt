@@ -95,12 +95,9 @@ error = "acas: $3\n"
 name = "files that are absent, too long or of another kind"
 files = [["b", "model b"], ["c"], ["long", "pad 35 1000001"], ["t", "text ACX"], ["u", "text before"]]
 rows = [
-  ["acas migrate none t u", "3 absent model", "absent: none"],
   ["acas migrate none nor u", "3 absent model", "absent: none"],
-  ["acas migrate b none u", "3 absent table", "absent: none"],
   ["acas migrate c t u", "4 model", "model refused: key version missing"],
   ["acas migrate c none u", "4 model", "model refused: key version missing"],
-  ["acas migrate long t u", "9 too long model", "too long: long"],
   ["acas migrate b c u", "5 table", "table refused: length 0 of 972"],
   ["acas migrate b long u", "5 table", "table refused: magic"],
   ["acas migrate b t u", "5 table", "table refused: length 3 of 972"],
@@ -130,25 +127,6 @@ runs = ["acas migrate b t u"]
 ends = ["5 table"]
 error = "acas: table refused: $3\n"
 
-# Two calls read the model, and three the table: its letters and version, the rest, and its end; or a call reads each
-# byte. Then come the create, the appends of the header and of three layers and their digests, and the write of the
-# line.
-[[cases]]
-name = "each call of a migration"
-files = [["b", "model b"], ["t", "compiled b", "$1"], ["other", "text other"], ["u", "text before"]]
-most = "$2"
-rows = [
-  ["whole", "4096", "5 1 7 1 0"],
-  ["text ", "4096", "5 1 7 1 0"],
-  ["whole", "1", "1421 1 972 38 0"],
-  ["text ", "1", "1485 1 972 38 0"],
-]
-runs = ["acas migrate b t u"]
-ends = ["0 done"]
-output = "migrated layers 3 states 16 bytes 972\n"
-after_sha256 = [["u", "41f5439a1c822efb03ec5cac28c42785cc2e43b859275a65005a61f5337994d5"]]
-each_call = "$3"
-
 # The append that fails, and how many bytes are stored then.
 [[cases]]
 name = "a failing append of a migration leaves a proper prefix, which is refused"
@@ -169,19 +147,6 @@ runs = ["acas migrate b t u"]
 ends = ["7 folder"]
 error = "acas: folder failed\n"
 absent = ["u"]
-
-# The line is printed last: the file is whole, whichever write fails.
-[[cases]]
-name = "a failing write of a migration"
-files = [["b", "model b"], ["t", "compiled b", "whole"]]
-most = "7"
-failing = ["write $1"]
-rows = [["0", ""], ["1", "migrate"], ["5", "migrated layers 3 states 16 bytes 9"]]
-runs = ["acas migrate b t u"]
-ends = ["8 output"]
-output = "$2"
-error = "acas: output failed\n"
-after_sha256 = [["u", "41f5439a1c822efb03ec5cac28c42785cc2e43b859275a65005a61f5337994d5"]]
 "##;
 
 #[test]

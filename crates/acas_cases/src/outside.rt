@@ -47,6 +47,20 @@ pub fn held<'f>(files: &'f [File], name: &str) -> Result<&'f [u8], Fault> {
     Err(Fault::Text("no file of this name"))
 }
 
+/// These files once more, but for the one of this name.
+pub fn without(alloc: Global, files: &[File], name: &str) -> Result<Vec<File>, Fault> {
+    let mut all = Vec::new(alloc);
+    for file in files {
+        if file.name.as_str() != name {
+            all.push(File {
+                name: file.name.clone()?,
+                bytes: file.bytes.clone()?,
+            })?;
+        }
+    }
+    Ok(all)
+}
+
 /// Runs the commands of a case, while the listed calls fail, each given by its kind and its number, as `read 0`.
 pub fn perform(alloc: Global, start: &Start, failing: &[String]) -> Result<End, Fault> {
     let mut end = beginning(alloc, start, failing)?;

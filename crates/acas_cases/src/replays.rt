@@ -4,8 +4,7 @@ use std::test::Fail;
 
 const CASES: &str = r##"
 # Under clear the table advises climb at the lower altitude and descend at the upper one. In the first second the two are within half the
-# height of the puck after half a second alone. Each of the three files is read by a call, and another finds its end. One write prints all
-# lines; or there are more, of 64 bytes each.
+# height of the puck after half a second alone.
 [[cases]]
 name = "a contact within a second alone"
 files = [
@@ -13,15 +12,12 @@ files = [
   ["t", "compiled c", "values 10000000 -10000000", "advices 1 0 010101010202020200000000000000000000000000000000", "seal 24"],
   ["e", "text version = 1\nadvisory = \"clear\"\nrange = 500\nclosing = 500\naltitude = 101\nown = 240\nintruder = 0\nown_accel = [-480, 0]\nintruder_accel = [0, 0]\n"],
 ]
-most = "$1"
-rows = [["65536", ""], ["4096", "7 0 0 1 0"], ["64", "32 0 0 3 0"]]
 runs = ["acas replay c t e"]
 ends = ["0 done"]
 output = """0 descend range 500 ticks 12120 own 240 intruder 0 contact
 1 clear range 0 ticks 12120 own -240 intruder 0 apart
 seconds 2 contact 1
 """
-each_call = "$2"
 
 # The range falls by the closing speed and goes on below 0. A puck behind the intruder is advised clear.
 [[cases]]
@@ -67,13 +63,6 @@ error = "acas: input refused: $3\n"
 
 # Files are looked at in order: the model, the table, the encounter.
 [[cases]]
-name = "an absent encounter"
-files = [["c", "model c"], ["t", "compiled c"]]
-runs = ["acas replay c t e"]
-ends = ["3 absent encounter"]
-error = "acas: absent: e\n"
-
-[[cases]]
 name = "a refused table before an absent encounter"
 files = [["c", "model c"], ["t", "text ACX"]]
 runs = ["acas replay c t e"]
@@ -86,13 +75,6 @@ files = [["c", "model c"], ["e", "text version = 2"]]
 runs = ["acas replay c t e"]
 ends = ["3 absent table"]
 error = "acas: absent: t\n"
-
-[[cases]]
-name = "an encounter that is too long"
-files = [["c", "model c"], ["t", "compiled c"], ["e", "pad 35 1000001"]]
-runs = ["acas replay c t e"]
-ends = ["9 too long encounter"]
-error = "acas: too long: e\n"
 
 [[cases]]
 name = "words of a replay"

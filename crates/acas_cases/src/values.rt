@@ -3,25 +3,20 @@ use crate::runner::pass;
 use std::test::Fail;
 
 const CASES: &str = r##"
-# What a call gives and takes, changes of the first model's text, and the calls: its own text, that model in version 2, and the same model in
-# other words. At a byte a call, one call reads each byte of the model, and one finds its end; the lines have 592 bytes.
+# Changes of the first model's text: none, that model in version 2, and the same model in other words.
 [[cases]]
 name = "the lines of a model"
-files = [["a", "model a", "$2", "$3", "$4", "$5"]]
+files = [["a", "model a", "$1", "$2", "$3", "$4"]]
 rows = [
-  ["4096", "text ", "text ", "text ", "text ", ""],
-  ["1", "text ", "text ", "text ", "text ", "426 0 0 592 0"],
-  ["4096", "replace version = 1 => version = 2", "replace limit = 960 => limit = 960\ndelay = 7", "text ", "text ", ""],
+  ["text ", "text ", "text ", "text "],
+  ["replace version = 1 => version = 2", "replace limit = 960 => limit = 960\ndelay = 7", "text ", "text "],
   [
-    "65536",
     "replace [puck]\nradius = 500\nhalf_height = 100\n => ",
     "replace [closing]\nleast = 500\ngreatest = 500\n => [closing]\ngreatest = 500\nleast = 500\n",
     "replace version = 1\n => # a comment\npuck = { half_height = 100, radius = 500 }\ncost.contact = 5\nversion = 1\n",
     "replace [cost]\ncontact = 5\n => ",
-    "",
   ],
 ]
-most = "$1"
 runs = ["acas values a"]
 ends = ["0 done"]
 output = '''
@@ -42,7 +37,6 @@ output = '''
 0 level 200 600 0 0.000000 0.000000 -
 0 level 200 600 600 0.000000 0.000000 -
 '''
-each_call = "$6"
 
 [[cases]]
 name = "contact is at most half the height"

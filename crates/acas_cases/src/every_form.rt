@@ -1,0 +1,166 @@
+//! What is promised of all forms of words, tried of each.
+use crate::runner::pass;
+use std::test::Fail;
+
+const CALLS: &str = r##"
+[[cases]]
+name = "each call of a form"
+forms = "all"
+runs = ["acas $1"]
+ends = ["$3"]
+output_sha256 = "$4"
+after = [["u", "$5"]]
+each_call = "$6"
+
+[[cases]]
+name = "a form at a byte a call"
+forms = "all"
+most = "1"
+runs = ["acas $1"]
+ends = ["$3"]
+output_sha256 = "$4"
+after = [["u", "$5"]]
+"##;
+
+#[test]
+fn each_call_of_each_form(rt: HostRuntime) -> Result<(), Fail> {
+    pass(rt.alloc(), CALLS)
+}
+
+const BYTES: &str = r##"
+[[cases]]
+name = "each call of a form at a byte a call"
+forms = "all"
+most = "$7"
+runs = ["acas $1"]
+ends = ["$3"]
+output_sha256 = "$4"
+after = [["u", "$5"]]
+each_call = "$8"
+"##;
+
+#[test]
+fn each_byte_of_each_form(rt: HostRuntime) -> Result<(), Fail> {
+    pass(rt.alloc(), BYTES)
+}
+
+const OUTSIDES: &str = r##"
+# What `compile` and `migrate` store is whole then.
+[[cases]]
+name = "an output that takes nothing"
+forms = "all"
+stuck = "write"
+runs = ["acas $1"]
+ends = ["8 output"]
+error = "acas: output failed\n"
+after = [["u", "$5"]]
+
+# The output that takes nothing, and the call that fails.
+[[cases]]
+name = "an error output that takes nothing, and one that fails"
+forms = "all"
+rows = [["error", "error 1"], ["", "error 0"]]
+stuck = "$1"
+failing = ["$2"]
+runs = ["acas $3 more"]
+ends = ["2 words"]
+
+[[cases]]
+name = "an absent file"
+forms = "file"
+without = "$2"
+runs = ["acas $1"]
+ends = ["3 absent $3"]
+error = "acas: absent: $2\n"
+absent = ["$2"]
+
+[[cases]]
+name = "an absent file that is not told"
+forms = "file"
+rows = [["error", "error 1"], ["", "error 0"]]
+without = "$4"
+stuck = "$1"
+failing = ["$2"]
+runs = ["acas $3"]
+ends = ["3 absent $5"]
+absent = ["$4"]
+
+[[cases]]
+name = "a text that is too long by a byte"
+forms = "text"
+files = [["$2", "held $2", "pad 35 1000001"]]
+runs = ["acas $1"]
+ends = ["9 too long $3"]
+error = "acas: too long: $2\n"
+
+# Of a text the greatest length and one byte more are read, and of a table its length and one byte more.
+[[cases]]
+name = "a text that never ends"
+forms = "text"
+endless = "$2"
+runs = ["acas $1"]
+ends = ["9 too long $3"]
+error = "acas: too long: $2\n"
+taken = "$4"
+
+[[cases]]
+name = "a table that never ends"
+forms = "table"
+endless = "$2"
+runs = ["acas $1"]
+ends = ["5 table"]
+error = "acas: table refused: length 941 of 940\n"
+taken = "$4"
+
+# The table that is too long, which version 1 makes 32 bytes shorter.
+[[cases]]
+name = "a table that is too long by a byte, or is of version 1 and never ends"
+forms = "table"
+rows = [["text ", "hex 00", "", "length 941 of 940"], ["whole", "hex 00", "", "length 909 of 908"], ["whole", "text ", "t", "length 909 of 908"]]
+files = [["t", "held t", "$1", "$2"]]
+endless = "$3"
+runs = ["acas $5"]
+ends = ["5 table"]
+error = "acas: table refused: $4\n"
+"##;
+
+#[test]
+fn each_file_and_output_of_each_form(rt: HostRuntime) -> Result<(), Fail> {
+    pass(rt.alloc(), OUTSIDES)
+}
+
+// Of the smallest table, which has 364 bytes in either version: as many bytes as the number says, and the byte of this number changed in
+// its lowest and in its highest bit.
+const VERSION_2: &str = r##"
+[[cases]]
+name = "a table that is cut, and one of which a bit is changed"
+forms = "table"
+numbers = 364
+rows = [["cut", ""], ["flip", " 1"], ["flip", " 128"]]
+files = [["c", "held a"], ["t", "held least", "$2 $1$3"]]
+runs = ["acas $4"]
+ends = ["5 table"]
+error_begins = "acas: table refused: "
+"##;
+
+#[test]
+fn each_damage_of_a_table_under_each_form(rt: HostRuntime) -> Result<(), Fail> {
+    pass(rt.alloc(), VERSION_2)
+}
+
+const VERSION_1: &str = r##"
+[[cases]]
+name = "a table of version 1 that is cut, and one of which a bit is changed"
+forms = "table"
+numbers = 364
+rows = [["cut", ""], ["flip", " 1"], ["flip", " 128"]]
+files = [["c", "held a"], ["t", "held least", "whole", "$2 $1$3"]]
+runs = ["acas $4"]
+ends = ["5 table"]
+error_begins = "acas: table refused: "
+"##;
+
+#[test]
+fn each_damage_of_an_older_table_under_each_form(rt: HostRuntime) -> Result<(), Fail> {
+    pass(rt.alloc(), VERSION_1)
+}
