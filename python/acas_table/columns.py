@@ -80,10 +80,10 @@ def cells_of(longest: int) -> np.dtype:
 
 def columns_of(text: str, source: str) -> Columns | None:
     """The lines and the counts of a report; None where they are not found to be as they have to be."""
-    *lines, last, rest = ["", *text.split("\n")]
+    *lines, last = text.removesuffix("\n").split("\n")
     counts = COUNTS.fullmatch(last)
-    rows = [line.split(" ", PARTS - 1) for line in lines[1:]]
-    if counts is None or rest or any(len(row) != PARTS for row in rows):
+    rows = [line.split(" ", PARTS - 1) for line in lines]
+    if not text.endswith("\n") or counts is None or any(len(row) != PARTS for row in rows):
         return None
     cell, second, present, *places, advice, ruling = list(zip(*rows)) or [()] * PARTS
     if not {"cell"}.issuperset(cell) or "" in present or "" in advice or not _are_rulings(set(ruling)):
