@@ -85,7 +85,7 @@ def columns_of(text: str, source: str) -> Columns | None:
     rows = [line.split(" ", PARTS - 1) for line in lines]
     if not text.endswith("\n") or counts is None or any(len(row) != PARTS for row in rows):
         return None
-    cell, second, present, *places, advice, ruling = list(zip(*rows)) or [()] * PARTS
+    cell, second, present, *places, advice, ruling = ([row[place] for row in rows] for place in range(PARTS))
     if not {"cell"}.issuperset(cell) or "" in present or "" in advice or not _are_rulings(set(ruling)):
         return None
     cells = np.empty(len(rows), dtype=cells_of(max(map(len, (*present, *advice)), default=1)))

@@ -87,7 +87,7 @@ def read_table(path: str | os.PathLike[str], model: Model | None = None) -> Tabl
     if len(content) != header.length:
         raise Fault(source, "length", f"{len(content)} of {header.length}")
     layers = _layers_of_whole(content, header, source) if header.version == 1 else _layers_of_chain(content, header, source)
-    _check_advice(layers["advice"], source, model)
+    check_advice(layers["advice"], source, model)
     return Table(source, header, layers, model)
 
 
@@ -146,20 +146,20 @@ def _check_shape(shape: list[int], source: str, model: Model | None) -> None:
             raise Fault(source, f"shape {place}", f"is {number} not {wanted}")
 
 
-def _check_advice(advice: np.ndarray, source: str, model: Model | None) -> None:
-    """Refuses the first advice that may not stand where it does. `advice` is uint8 of the shape of the entries."""
+def check_advice(advice: np.ndarray, source: str, model: Model | None) -> None:
+    """Refuses the first advice that may not stand where it does. `advice` has the shape of the entries and whole numbers from 0 to 255."""
     advisories = advice.shape[1]
     wrong = advice >= advisories
     wrong[0] = advice[0] != NO_ADVICE
     if wrong.any():
         place = int(np.argmax(wrong))
-        raise Fault(source, _state(advice.shape, place), f"byte {advice.flat[place]}")
+        raise Fault(source, state_at(advice.shape, place), f"byte {advice.flat[place]}")
     if model is not None:
         _check_choices(advice[1:], source, model)
 
 
 def _check_choices(advice: np.ndarray, source: str, model: Model) -> None:
-    """Refuses the first advice that is none of the choices. `advice` is uint8, of the layers from 1 on."""
+    """Refuses the first advice that is none of the choices. `advice` is that of the layers from 1 on."""
     allowed = np.zeros((len(model.advisories), len(model.advisories)), dtype=bool)
     for number, advisory in enumerate(model.advisories):
         allowed[number, list(advisory.choices)] = True
@@ -167,10 +167,10 @@ def _check_choices(advice: np.ndarray, source: str, model: Model) -> None:
     wrong = ~allowed[present, advice]
     if wrong.any():
         place = int(np.argmax(wrong)) + math.prod(model.shape[1:])
-        raise Fault(source, _state(model.shape, place), "advice not allowed")
+        raise Fault(source, state_at(model.shape, place), "advice not allowed")
 
 
-def _state(shape: tuple[int, ...], place: int) -> str:
+def state_at(shape: tuple[int, ...], place: int) -> str:
     """The layer and the state of the entry at a place among all."""
     layer, state = divmod(place, math.prod(shape[1:]))
     return f"layer {layer} state {state}"
