@@ -5,13 +5,18 @@ from typing import Iterable, NamedTuple
 
 from acas_texts import Fault
 from acas_table.model import Advisory, Model
-from acas_table.words import Words
+from acas_table.words import NUMBER, Words
 
 TICKS_PER_FOOT = 120
 """Altitudes are in ticks of 1/120 ft: at `v` ft/min and `a` ft/min per second an aircraft climbs `2*v*t + a*t*t` of them in `t` s."""
 GREATEST_ACCELERATION = 2000
 GREATEST_RATE = 10000
 """What `acas manoeuvre` allows an intruder at most, in ft/min per second and in ft/min."""
+LABELS = ("time", "range", "speed", "ticks", "own", "intruder")
+"""The numbers of a flight, as they are printed."""
+SEGMENT = f"{NUMBER}@{NUMBER}"
+FLIGHT = "".join(f"{label} {NUMBER} " for label in LABELS) + f"response (?:none|{SEGMENT}(?: {SEGMENT})*)"
+"""The words of a flight of an intruder that keeps its rate, from `time` on: those that `read_flight` reads, but for the terms of fractions."""
 
 
 class Segment(NamedTuple):
@@ -64,7 +69,7 @@ class Flight:
 
 def read_flight(words: Words, may_manoeuvre: bool = False) -> Flight:
     """The words of a line from `time` on. The intruder's segments may follow where it may manoeuvre."""
-    numbers = {name: words.labelled(name) for name in ("time", "range", "speed", "ticks", "own", "intruder")}
+    numbers = {name: words.labelled(name) for name in LABELS}
     words.word("response")
     response, against = _segments(words, "response"), None
     if may_manoeuvre and words.peek() == "against":

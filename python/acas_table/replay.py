@@ -27,6 +27,9 @@ class Replay:
     below 0 once the intruder has passed; `ticks`, int64, how far the intruder is above, in ticks of 1/120 ft; `own` and `intruder`,
     int64, the two vertical rates in ft/min; `contact`, bool, whether there is contact at some time of the second."""
 
+    def __repr__(self) -> str:
+        return f"<Replay {self.source}: {len(self.seconds)} seconds, {np.count_nonzero(self.seconds['contact'])} in contact>"
+
 
 def read_replay(text: str, source: str = "replay") -> Replay:
     """Reads what `acas replay` has printed, to its last line. A fault names the line and the word that is not as it has to be."""

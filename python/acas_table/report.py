@@ -2,12 +2,13 @@
 import math
 from dataclasses import dataclass
 from fractions import Fraction
-from typing import Callable
+from typing import Callable, Sequence
 
 import numpy as np
 
 from acas_texts import Fault
 from acas_table.cells import PLACE, cell_shape, numbers_of, refuse_disorder, refuse_first, refuse_outside
+from acas_table.columns import cells_of, columns_of
 from acas_table.flight import TICKS_PER_FOOT, Flight, check_flight, read_flight
 from acas_table.model import AXES, Advisory, Model
 from acas_table.words import Words, lines_of
@@ -55,6 +56,9 @@ class Regions:
         """The lines of the reported boxes."""
         return tuple(line for line in self.lines if line.flight is not None)
 
+    def __repr__(self) -> str:
+        return f"<Regions {self.source}: {len(self.lines)} boxes, {len(self.reported)} reported>"
+
 
 @dataclass(frozen=True)
 class Report:
@@ -65,8 +69,8 @@ class Report:
     cells: np.ndarray
     """Structured, shape (lines,), in the order of the text. Fields: `second`, int16, in s; `present` and `advice`, names, str;
     `altitude`, `own_rate` and `intruder_rate`, int16, the places of the cell on the model's axes; `reported`, bool."""
-    flights: tuple[Flight | None, ...]
-    """For each of the lines the flight that is printed; None where the cell is certified."""
+    flights: Sequence[Flight | None]
+    """For each of the lines the flight that is printed; None where the cell is certified. A flight is made when it is first asked for."""
     certified: int
     reported: int
     """How many lines of each kind the audit has."""
@@ -78,9 +82,26 @@ class Report:
         """Whether the certified lines are there. `acas audit --reported` leaves them out."""
         return len(self.cells) == self.certified + self.reported
 
+    def __repr__(self) -> str:
+        counts = f"certified {self.certified}, reported {self.reported}, clear {self.clear}"
+        return f"<Report {self.source}: {len(self.cells)} lines; {counts}>"
+
 
 def read_report(text: str, source: str = "report", progress: Progress | None = None) -> Report:
     """Reads what `acas audit` has printed, to its last line. A fault names the line and the word that is not as it has to be."""
+    columns = columns_of(text, source)
+    if columns is None:
+        report = _read_lines(text, source, progress)
+    else:
+        report = Report(source, columns.cells, columns.flights, *columns.counts)
+        if progress is not None:
+            progress(len(columns.cells) + 1, len(columns.cells) + 1)
+    _check_counts(report)
+    return report
+
+
+def _read_lines(text: str, source: str, progress: Progress | None) -> Report:
+    """Reads a report line by line, to the first fault."""
     found: list[CellLine] = []
     known: dict[str, Flight | None] = {}
     total = text.count("\n")
@@ -96,9 +117,7 @@ def read_report(text: str, source: str = "report", progress: Progress | None = N
             progress(number, total)
     if counts is None:
         raise Fault(source, "counts", "are missing: the last line has none")
-    report = Report(source, _array(found), tuple(line.flight for line in found), *counts)
-    _check_counts(report)
-    return report
+    return Report(source, _array(found), tuple(line.flight for line in found), *counts)
 
 
 def read_regions(text: str, source: str = "regions") -> Regions:
@@ -167,13 +186,11 @@ def _counts(words: Words, names: tuple[str, ...]) -> tuple[int, ...]:
 
 def _array(found: list[CellLine]) -> np.ndarray:
     longest = max((max(len(line.present), len(line.advice)) for line in found), default=1)
-    name, place = f"U{longest}", "i2"
-    fields = [("second", place), ("present", name), *((axis, place) for axis in AXES), ("advice", name), ("reported", "?")]
     rows = [
         (line.second, line.present, line.altitude, line.own_rate, line.intruder_rate, line.advice, line.flight is not None)
         for line in found
     ]
-    return np.array(rows, dtype=fields)
+    return np.array(rows, dtype=cells_of(longest))
 
 
 def _check_counts(report: Report) -> None:

@@ -31,6 +31,10 @@ class Risk:
     """Structured, shape (states,), in the order of the text. Fields: `present`, name, str; `altitude`, int64, in ft; `own_rate` and
     `intruder_rate`, int64, in ft/min; and those of `RISK`, each with `lower` and `upper`, int64, in millionths."""
 
+    def __repr__(self) -> str:
+        advisories = len(np.unique(self.states["present"]))
+        return f"<Risk {self.source}: {len(self.states)} states under {advisories} present advisories>"
+
 
 def read_risk(text: str, source: str = "risk") -> Risk:
     """Reads what `acas risk` has printed, to its last line. A fault names the line and the word that is not as it has to be."""

@@ -31,6 +31,9 @@ class Safeable:
     near: int
     """How many cells there are of each kind. Those that are near have no line."""
 
+    def __repr__(self) -> str:
+        return f"<Safeable {self.source}: {len(self.cells)} lines; safeable {self.safeable}, open {self.open}, near {self.near}>"
+
 
 class _Line(NamedTuple):
     second: int

@@ -61,6 +61,13 @@ class Table:
     `i`, `j` and `k` of the model's three axes. Fields: `upper` and `lower`, int64, in millionths of a unit of cost; `advice`,
     uint8, the number of an advisory of the model, and 255 in layer 0.
     """
+    model: Model | None = None
+    """The model that it was read with, where one was."""
+
+    def __repr__(self) -> str:
+        names = ("layers", "advisories", "altitudes", "own rates", "intruder rates")
+        counts = ", ".join(f"{count} {name}" for count, name in zip(self.layers.shape, names))
+        return f"<Table {self.source}: version {self.header.version}, {counts}>"
 
 
 def read_table(path: str | os.PathLike[str], model: Model | None = None) -> Table:
@@ -81,7 +88,7 @@ def read_table(path: str | os.PathLike[str], model: Model | None = None) -> Tabl
         raise Fault(source, "length", f"{len(content)} of {header.length}")
     layers = _layers_of_whole(content, header, source) if header.version == 1 else _layers_of_chain(content, header, source)
     check_advice(layers["advice"], source, model)
-    return Table(source, header, layers)
+    return Table(source, header, layers, model)
 
 
 def _layers_of_whole(content: np.ndarray, header: Header, source: str) -> np.ndarray:

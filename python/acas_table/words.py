@@ -1,8 +1,15 @@
 """The words of a printed line, one after another."""
+import re
 from fractions import Fraction
 from typing import Iterator
 
+import numpy as np
+
 from acas_texts import Fault
+
+NUMBER = "(?:0|-?[1-9][0-9]{0,17})(?:/(?:[2-9]|[1-9][0-9]{1,17}))?"
+"""A whole number or a fraction of at most 18 digits each in its one spelling, whether or not it is in lowest terms."""
+TERMS = re.compile("[ @]-?([0-9]+/[0-9]+)")
 
 
 def lines_of(text: str, source: str) -> Iterator["Words"]:
@@ -128,3 +135,9 @@ def fraction_of(word: str) -> Fraction | None:
         return None
     number = Fraction(numerator, denominator)
     return number if number.denominator == denominator else None
+
+
+def are_in_lowest_terms(text: str) -> bool:
+    """Whether each fraction behind a space or an `@` is, where each is a `NUMBER`."""
+    numbers = np.fromstring(" ".join(TERMS.findall(text)).replace("/", " "), dtype=np.int64, sep=" ")
+    return bool(np.all(np.gcd(numbers[::2], numbers[1::2]) == 1))

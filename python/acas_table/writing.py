@@ -30,7 +30,7 @@ def write_table(
     refuse_advice(advice, f"{source} advice", model)
     if os.path.exists(path) and os.path.exists(model.source) and os.path.samefile(path, model.source):
         raise Fault(source, "file", "is that of the model")
-    _write_whole(source, _pieces(model, {"upper": upper, "lower": lower, "advice": advice}, version))
+    write_whole(source, _pieces(model, {"upper": upper, "lower": lower, "advice": advice}, version))
 
 
 def _pieces(model: Model, fields: dict[str, np.ndarray], version: int) -> Iterator[bytes | np.ndarray]:
@@ -53,7 +53,7 @@ def _pieces(model: Model, fields: dict[str, np.ndarray], version: int) -> Iterat
         yield computed.digest()
 
 
-def _write_whole(path: str, pieces: Iterable[bytes | np.ndarray]) -> None:
+def write_whole(path: str, pieces: Iterable[bytes | np.ndarray]) -> None:
     """Writes a file under another name and gives it its own once it is whole."""
     folder, name = os.path.split(path)
     part = os.path.join(folder, f".{name}.{os.getpid()}.part")

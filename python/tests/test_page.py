@@ -1,4 +1,4 @@
-"""The lines of README.md that read a table."""
+"""The lines of README.md that read a table and take its numbers out."""
 import re
 import shutil
 import subprocess
@@ -10,9 +10,9 @@ from conftest import TOP
 PAGE = (TOP / "python" / "README.md").read_text(encoding="utf-8")
 
 
-def block(kind: str) -> str:
-    """The first block of a kind."""
-    return re.search(rf"(?ms)^```{kind}\n(.*?)^```$", PAGE)[1]
+def block(kind: str, place: int = 0) -> str:
+    """A block of a kind, the first where no place is given."""
+    return re.findall(rf"(?ms)^```{kind}\n(.*?)^```$", PAGE)[place]
 
 
 def output(*words: str) -> str:
@@ -21,6 +21,8 @@ def output(*words: str) -> str:
 
 def test_python():
     assert output(sys.executable, "-B", "-c", block("python")) == block("text")
+    printed = output(sys.executable, "-B", "-c", block("python", 1))
+    assert printed == "10.0 -10.0 descend\n" and f"It prints `{printed.strip()}`." in PAGE
 
 
 @pytest.mark.skipif(shutil.which("julia") is None, reason="there is no Julia")

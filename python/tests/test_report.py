@@ -1,12 +1,14 @@
 """The reader of reports: examples whose lines are worked out by hand, and broken texts."""
+import random
 from fractions import Fraction
 
 import pytest
 from conftest import EXAMPLES
 
 from acas_table import BoxLine, Fault, Manoeuvre, Segment, check_flight, numbered, read_line, read_model, read_regions, read_report
+from acas_table.columns import columns_of
 from acas_table.flight import climb, highest_response, lowest_response
-from acas_table.report import check_line
+from acas_table.report import _check_counts, _read_lines, check_line
 
 CERTIFIED = "cell 0 clear 0 0 0 climb certified\n"
 REPORTED = (
@@ -95,6 +97,49 @@ def test_broken_reports_name_the_word(name, text, fault):
     with pytest.raises(Fault) as raised:
         read_report(text)
     assert str(raised.value).startswith(fault)
+
+
+LATE = REPORTED.replace("cell 0 clear", "cell 119 no-climb").replace("3@-960", "5@0 25/8@480 95/8@0")
+LEVEL = REPORTED.replace("0 0 0 descend", "127 9 10 level").replace("3@-960", "none").replace("time 3", "time 7/2")
+MANY = CERTIFIED + REPORTED + LATE + CERTIFIED.replace("climb", "level") + LEVEL + LATE + "certified 2 reported 4 clear 20\n"
+PIECES = ["", " ", "  ", "0", "1", "7", "10", "120", "128", "-", "-0", "00", "1/2", "2/4", "4/2", "0/3", "3/1", "/", "@", "\n", "\r", "\n\n",
+    "none", "none ", "certified", "certified\n", "reported ", "against 3@0", "cell ", "x", "\u00b2", "9" * 18, "9" * 19, "1/" + "9" * 19]
+
+
+def as_read(reader, text):
+    """What a reader makes of a text: its lines, its flights and its counts, or the words of a fault."""
+    try:
+        report = reader(text)
+        _check_counts(report)
+    except Fault as fault:
+        return str(fault)
+    return report.cells.dtype, report.cells.tolist(), tuple(report.flights), (report.certified, report.reported, report.clear)
+
+
+def test_all_at_once_is_read_as_line_by_line():
+    """Texts with a piece put in or in the place of some letters: the same lines and flights, or the same fault."""
+    chosen, outcomes = random.Random(1), {str: 0, tuple: 0}
+    for text in [MANY, *(piece for _, piece, _ in BROKEN)]:
+        assert as_read(read_report, text) == as_read(lambda text: _read_lines(text, "report", None), text)
+    for _ in range(600):
+        place, length = chosen.randrange(len(MANY)), chosen.choice([0, 0, 1, 1, 2, 5, 60])
+        text = MANY[:place] + chosen.choice(PIECES) + MANY[place + length :]
+        found = as_read(read_report, text)
+        assert found == as_read(lambda text: _read_lines(text, "report", None), text), text
+        outcomes[type(found)] += 1
+    assert min(outcomes.values()) > 50
+
+
+def test_flights_are_made_when_they_are_asked_for():
+    flights = columns_of(MANY, "report").flights
+    assert len(flights) == 6 and flights[0] is None and flights[3] is None
+    assert flights[2] is flights[-1] and flights[2].response[1] == Segment(Fraction(25, 8), Fraction(480))
+    assert flights[4].response == () and flights[4].time == Fraction(7, 2)
+    assert flights[1:5:3] == (flights[1], flights[4]) and list(flights) == [flights[place] for place in range(6)]
+    assert flights == tuple(flights) and flights == columns_of(MANY, "report").flights and flights != (None,)
+    assert columns_of(MANY.replace("2 reported 4", "2 reported 4"), "report").counts == (2, 4, 20)
+    with pytest.raises(IndexError):
+        flights[6]
 
 
 OTHERS = [
