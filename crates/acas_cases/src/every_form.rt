@@ -3,6 +3,7 @@ use crate::runner::pass;
 use std::test::Fail;
 
 const CALLS: &str = r##"
+# Each read of each file is among them, from the first on.
 [[cases]]
 name = "each call of a form"
 forms = "all"
@@ -13,8 +14,19 @@ after = [["u", "$5"]]
 each_call = "$6"
 
 [[cases]]
-name = "a form at a byte a call"
+name = "each call of a form at a byte a call"
 forms = "all"
+most = "1"
+runs = ["acas $1"]
+ends = ["$3"]
+output_sha256 = "$4"
+after = [["u", "$5"]]
+each_call = "$7"
+
+[[cases]]
+name = "a form with the table in version 1, at a byte a call"
+forms = "all"
+files = [["t", "held t", "whole"]]
 most = "1"
 runs = ["acas $1"]
 ends = ["$3"]
@@ -25,23 +37,6 @@ after = [["u", "$5"]]
 #[test]
 fn each_call_of_each_form(rt: HostRuntime) -> Result<(), Fail> {
     pass(rt.alloc(), CALLS)
-}
-
-const BYTES: &str = r##"
-[[cases]]
-name = "each call of a form at a byte a call"
-forms = "all"
-most = "$7"
-runs = ["acas $1"]
-ends = ["$3"]
-output_sha256 = "$4"
-after = [["u", "$5"]]
-each_call = "$8"
-"##;
-
-#[test]
-fn each_byte_of_each_form(rt: HostRuntime) -> Result<(), Fail> {
-    pass(rt.alloc(), BYTES)
 }
 
 const OUTSIDES: &str = r##"
@@ -129,38 +124,28 @@ fn each_file_and_output_of_each_form(rt: HostRuntime) -> Result<(), Fail> {
     pass(rt.alloc(), OUTSIDES)
 }
 
-// Of the smallest table, which has 364 bytes in either version: as many bytes as the number says, and the byte of this number changed in
-// its lowest and in its highest bit.
-const VERSION_2: &str = r##"
+const TABLES: &str = r##"
+# Of the smallest table, in either version: as many bytes as the number says, and the byte of that number changed in its lowest and in its
+# highest bit.
 [[cases]]
-name = "a table that is cut, and one of which a bit is changed"
+name = "a table that is cut, or of which a bit is changed"
 forms = "table"
 numbers = 364
-rows = [["cut", ""], ["flip", " 1"], ["flip", " 128"]]
-files = [["c", "held a"], ["t", "held least", "$2 $1$3"]]
-runs = ["acas $4"]
+rows = [
+  ["text ", "cut", ""],
+  ["text ", "flip", " 1"],
+  ["text ", "flip", " 128"],
+  ["whole", "cut", ""],
+  ["whole", "flip", " 1"],
+  ["whole", "flip", " 128"],
+]
+files = [["c", "held a"], ["t", "held least", "$2", "$3 $1$4"]]
+runs = ["acas $5"]
 ends = ["5 table"]
 error_begins = "acas: table refused: "
 "##;
 
 #[test]
 fn each_damage_of_a_table_under_each_form(rt: HostRuntime) -> Result<(), Fail> {
-    pass(rt.alloc(), VERSION_2)
-}
-
-const VERSION_1: &str = r##"
-[[cases]]
-name = "a table of version 1 that is cut, and one of which a bit is changed"
-forms = "table"
-numbers = 364
-rows = [["cut", ""], ["flip", " 1"], ["flip", " 128"]]
-files = [["c", "held a"], ["t", "held least", "whole", "$2 $1$3"]]
-runs = ["acas $4"]
-ends = ["5 table"]
-error_begins = "acas: table refused: "
-"##;
-
-#[test]
-fn each_damage_of_an_older_table_under_each_form(rt: HostRuntime) -> Result<(), Fail> {
-    pass(rt.alloc(), VERSION_1)
+    pass(rt.alloc(), TABLES)
 }
