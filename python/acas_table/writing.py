@@ -58,13 +58,12 @@ def write_whole(path: str, pieces: Iterable[bytes | np.ndarray]) -> None:
     folder, name = os.path.split(path)
     part = os.path.join(folder, f".{name}.{os.getpid()}.part")
     try:
-        try:
-            with open(part, "wb") as file:
-                for piece in pieces:
-                    file.write(piece)
-            os.replace(part, path)
-        finally:
-            if os.path.exists(part):
-                os.remove(part)
+        with open(part, "wb") as file:
+            for piece in pieces:
+                file.write(piece)
+        os.replace(part, path)
     except OSError as error:
         raise OSError(error.errno, error.strerror, path) from error
+    finally:
+        if os.path.exists(part):
+            os.remove(part)

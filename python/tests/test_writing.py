@@ -23,6 +23,7 @@ def fields_of(table) -> dict[str, np.ndarray]:
 
 @pytest.mark.parametrize("version", [1, 2])
 def test_bytes_of_the_examples(model, tmp_path, version):
+    """Over another file, by the version that is written unless another is asked for, and over the file that the arrays are mapped from."""
     layers = read_table(TABLES[version], model).layers
     path = tmp_path / "c.acxt"
     path.write_bytes(b"old")
@@ -30,6 +31,9 @@ def test_bytes_of_the_examples(model, tmp_path, version):
     assert path.read_bytes() == TABLES[version].read_bytes()
     write_table(path, model, layers["upper"], layers["lower"], layers["advice"])
     assert path.read_bytes() == TABLES[2].read_bytes()
+    own = read_table(path, model).layers
+    write_table(path, model, own["upper"], own["lower"], own["advice"], version)
+    assert path.read_bytes() == TABLES[version].read_bytes()
     assert list(tmp_path.iterdir()) == [path]
 
 
@@ -122,12 +126,13 @@ def test_the_model_is_not_written_over(changed, tmp_path):
 
 
 def test_a_file_that_cannot_be_written_stays(model, tmp_path):
-    """A folder in its way, no folder for it, and no room for all of its 940 bytes: the error names the file, and nothing else is left."""
+    """A folder in its way, no folder for it, a file for its folder, and no room for all of its 940 bytes: the error names the file, and nothing
+    else is left."""
     fields = fields_of(read_table(TABLES[2], model))
     (tmp_path / "folder").mkdir()
     (tmp_path / "old").write_bytes(b"old")
     limits = resource.getrlimit(resource.RLIMIT_FSIZE)
-    for name, size in (("folder", limits[0]), ("nowhere/t.acxt", limits[0]), ("old", 900)):
+    for name, size in (("folder", limits[0]), ("nowhere/t.acxt", limits[0]), ("old/t.acxt", limits[0]), ("old", 900)):
         resource.setrlimit(resource.RLIMIT_FSIZE, (size, limits[1]))
         try:
             with pytest.raises(OSError) as raised:
