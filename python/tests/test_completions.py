@@ -75,3 +75,13 @@ def test_each_place(texts, tmp_path, monkeypatch, shell):
         if (ended.returncode, found, ended.stderr) != (0, sorted(offered), ""):
             wrong.append((words, ended.returncode, found, ended.stderr))
     assert not wrong
+
+
+def test_file_that_zsh_loads(texts, tmp_path):
+    """As one of zsh's own files it is the function, from the first call on."""
+    if shutil.which("zsh") is None:
+        pytest.skip("there is no zsh")
+    shutil.copy(texts / "zsh", tmp_path / "_acas")
+    asked = f"fpath=({tmp_path}); autoload -Uz _acas; compadd() {{ shift; print -r -- $@ }}; words=(acas audit m t ''); CURRENT=5; _acas; _acas"
+    ended = subprocess.run(["zsh", "-f", "-c", asked], capture_output=True, text=True, check=False)
+    assert (ended.stdout, ended.stderr) == ("--reported\n--reported\n", "")
