@@ -69,8 +69,9 @@ class Place:
             for part in ("src", "specs", "proofs"):
                 self.write(f"crates/{name}/{part}/text", f"{name} {part}\n")
         self.write("crates.txt", CRATES)
-        os.mkdir(os.path.join(self.top, "tools"))
-        for name in ("acas", "tools/build", "tools/use.py"):
+        for name in ("tools", "python"):
+            os.mkdir(os.path.join(self.top, name))
+        for name in ("acas", "tools/build", "tools/use.py", "python/acas_use.py"):
             shutil.copy(os.path.join(TOP, name), os.path.join(self.top, name))
         for name, text in (("rt", KIT), ("sha256sum", SUM), ("program", PROGRAM)):
             self.write(f"../kit/{name}", text)

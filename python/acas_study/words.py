@@ -3,6 +3,8 @@ import argparse
 from pathlib import Path
 from typing import NoReturn
 
+from acas_use import program_of
+
 TOP = Path(__file__).resolve().parent.parent.parent
 
 
@@ -19,5 +21,5 @@ def parser() -> Parser:
     words = Parser(prog="study/run", description=says, allow_abbrev=False)
     words.add_argument("study", metavar="STUDY", type=Path, help="a folder of models, or a file that varies one model")
     words.add_argument("results", metavar="RESULTS", type=Path, help="the folder for all that is made, itself too")
-    words.add_argument("--acas", type=Path, default=TOP / "acas", metavar="PROGRAM", help="the program, where it is another one")
+    words.add_argument("--acas", type=Path, default=Path(program_of(TOP)), metavar="PROGRAM", help="the program, where it is another one")
     return words
