@@ -16,11 +16,12 @@ from acas_table.risk import RISK, Risk, gridded, ratios, read_risk
 from acas_table.safeable import Safeable, check_audit, clear_cells, read_safeable
 from acas_table.separation import SEPARATION, Separations, read_separations
 from acas_table.table import ENTRY, Header, Table, read_table
+from acas_table.whole import whole_lines
 
 __all__ = [
     "ENTRY", "RISK", "SEPARATION", "Advisory", "BoxLine", "CellLine", "Fault", "Flight", "Header", "Manoeuvre", "Model", "Regions", "Replay",
     "Report", "Risk", "Safeable", "Segment", "Separations", "SigmaPoint", "Table", "check_audit", "check_flight", "check_origin",
     "check_replay", "clear_cells", "gridded", "numbered", "ratios", "read_line", "read_model", "read_regions", "read_replay",
     "read_replay_of", "read_report", "read_report_of", "read_risk", "read_risk_of", "read_safeable", "read_safeable_of",
-    "read_separations", "read_table",
+    "read_separations", "read_table", "whole_lines",
 ]
