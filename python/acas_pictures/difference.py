@@ -8,7 +8,9 @@ from matplotlib.figure import Figure
 from matplotlib.lines import Line2D
 from matplotlib.ticker import MaxNLocator
 
-from acas_pictures.canvas import ALTITUDE, edges_between, fill_cells, hatch_cells, mark_puck, new_figure, patch, set_heading, smooth_edges
+from acas_pictures.canvas import (
+    ALTITUDE, edges_between, fill_cells, hatch_cells, legend_beside, mark_puck, new_figure, patch, set_heading, smooth_edges,
+)
 from acas_pictures.colours import Paint, paints
 from acas_pictures.slices import Layer, name_of
 from acas_table import Fault, Model, Table
@@ -27,7 +29,7 @@ def draw_difference(model: Model, table: Table, other: Table, part: Layer, title
     first; each entry in a rectangle round its own rate and its altitude."""
     entries, others = part.entries(table), part.entries(other)
     differs = entries["advice"] != others["advice"]
-    figure = new_figure(10.4, 4.4)
+    figure = new_figure(11.6, 4.2)
     first, second, third = figure.subplots(1, 3, sharey=True)
     for axes, source, advice in ((first, table.source, entries["advice"]), (second, other.source, others["advice"])):
         _draw_advice(axes, model, advice, differs)
@@ -78,21 +80,17 @@ def _draw_values(axes: Axes, model: Model, values: np.ndarray) -> None:
     axes.figure.colorbar(mesh, ax=axes, label="units of cost", ticks=MaxNLocator(7)).ax.minorticks_off()
     if (values < 0).any():
         hatch_cells(axes, across, up, values < 0, LOWER)
-        _legend_below(axes, [patch(LOWER, "below 0")])
+        axes.legend(handles=[patch(LOWER, "below 0")], loc="upper center", bbox_to_anchor=(0.5, -0.16))
 
 
 def _set_axes(axes: Axes, model: Model) -> None:
-    axes.xaxis.set_major_locator(MaxNLocator(5))
+    axes.xaxis.set_major_locator(MaxNLocator(4))
     axes.set_xlabel(OWN_RATE)
     axes.set_xlim(model.own_rate[0], model.own_rate[-1])
-    axes.set_ylim(model.altitude[0], model.altitude[-1])
+    axes.set_ylim(min(model.altitude[0], -model.half_height), max(model.altitude[-1], model.half_height))
 
 
 def _add_legend(axes: Axes, model: Model, shown: list[int]) -> None:
     filled = paints(model)
     dot = Line2D([], [], label="the advice differs", **_dot(18))
-    _legend_below(axes, [*(patch(filled[number], model.names[number]) for number in shown), dot])
-
-
-def _legend_below(axes: Axes, handles: list) -> None:
-    axes.legend(handles=handles, loc="upper center", bbox_to_anchor=(0.5, -0.16), ncols=4)
+    legend_beside(axes, [*(patch(filled[number], model.names[number]) for number in shown), dot], "advice")

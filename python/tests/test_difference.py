@@ -33,9 +33,9 @@ def test_difference_of_known_entries(model):
     first, second, third, bar = figure.axes
     names = [model.names[number] for number in table.layers["advice"][1, 0, :, :, 0].ravel()]
     points = [(own, altitude) for altitude in (-900, -300) for own in (10, 50)]
-    assert [colour_at(figure, first, *point) for point in points] == [COLOURS[name] for name in names]
+    assert [colour_at(figure, first, *point, reach=3) for point in points] == [COLOURS[name] for name in names]
     assert names[0] == "climb" and colour_at(figure, second, *points[0]) == CLEAR
-    assert [colour_at(figure, second, *point) for point in points[1:]] == [COLOURS[name] for name in names[1:]]
+    assert [colour_at(figure, second, *point, reach=3) for point in points[1:]] == [COLOURS[name] for name in names[1:]]
     for axes in (first, second):
         (dots,) = [line for line in axes.lines if line.get_label() == "differs"]
         assert (list(dots.get_xdata()), list(dots.get_ydata())) == ([0], [-1000])

@@ -189,7 +189,7 @@ def test_older_results_without_the_digests(acas, study, tmp_path):
     ended = subprocess.run(command, capture_output=True, text=True, check=False)
     assert ended.returncode == 0 and ended.stdout.startswith("studied 3 models: "), ended.stderr
     assert [path.read_text() for path in rows] == texts and (results / "study.csv").read_text() == whole
-    assert "4 of 4 steps (100%) done" in (results / "snakemake.log").read_text()
+    assert "5 of 5 steps (100%) done" in (results / "snakemake.log").read_text()
 
 
 def test_step_that_fails(acas, study, tmp_path):
