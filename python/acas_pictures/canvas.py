@@ -58,6 +58,11 @@ def set_title(axes: Axes, title: str) -> None:
     axes.set_title(title).set_parse_math(False)
 
 
+def set_heading(figure: Figure, heading: str) -> None:
+    """Writes a title over all axes of a figure, in the same way."""
+    figure.suptitle(heading, fontsize=10, x=0.01, ha="left").set_parse_math(False)
+
+
 def save(figure: Figure, path: Path) -> None:
     """Writes a figure to a file in the format of its ending. A file that was there is replaced once the new one is whole."""
     check_ending(path)

@@ -1,7 +1,7 @@
 """The colours of all pictures: one for each advisory of a model, and one for each verdict.
 
 People with any of the common kinds of colour blindness can tell them apart. The colour of an advisory goes by what it asks, not by its
-name: advice upwards is blue and advice downwards goes from yellow to red, the harder the darker.
+name: advice upwards is blue and advice downwards goes from yellow to red, the harder the darker, and has a hatch.
 """
 from dataclasses import dataclass
 
@@ -21,7 +21,9 @@ ANY = "#B4B4B4"
 HARD = 2000
 """From this rate on, in ft/min, a climb or a descent is hard."""
 HATCHES = ("", "////", "....", "\\\\\\\\", "xxxx", "----", "||||", "++++", "oooo", "****", "//..", "\\\\..", "--..", "||..", "xx..")
-"""Over the colour, of advisories of one kind: none on that which asks least."""
+"""Over the colour, of advisories of one kind: the first on that which asks least."""
+FIRST_HATCHES = dict.fromkeys(DOWN, "\\\\\\\\") | {LEVEL: "----", ANY: "...."}
+"""The first hatch of advice that is not plain: advice upwards is. So they are told apart without colour too."""
 CERTIFIED = "#B7DDA6"
 MIXED = "#B48CCB"
 REPORTED = "#4A1A70"
@@ -77,9 +79,17 @@ def paints(model: Model) -> tuple[Paint, ...]:
     for number in range(1, len(colours)):
         kinds.setdefault(colours[number], []).append(number)
     for colour, numbers in kinds.items():
-        for place, number in enumerate(sorted(numbers, key=lambda number: _asked(model.advisories[number], colour))):
-            filled[number] = Paint(colour, HATCHES[place])
+        numbers.sort(key=lambda number: _asked(model.advisories[number], colour))
+        for number, hatch in zip(numbers, hatches_of(colour)):
+            filled[number] = Paint(colour, hatch)
     return tuple(filled)
+
+
+def hatches_of(colour: str) -> tuple[str, ...]:
+    """The hatches over the colour of an advisory, in the order in which they are given. Where the first is not plain, the last is."""
+    first = FIRST_HATCHES.get(colour, "")
+    plain, *others = HATCHES
+    return (first, *(hatch for hatch in others if hatch != first), *([plain] if first else []))
 
 
 def _asked(advisory: Advisory, colour: str) -> tuple[int, int]:

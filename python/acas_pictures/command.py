@@ -7,13 +7,14 @@ from matplotlib.figure import Figure
 
 from acas_pictures.canvas import check_ending, resize, save
 from acas_pictures.cost import draw_cost
+from acas_pictures.difference import check_grids, draw_difference
 from acas_pictures.encounter import draw_replay
 from acas_pictures.policy import draw_policy
 from acas_pictures.progress import Progress
 from acas_pictures.risk import draw_risk
 from acas_pictures.safeable import draw_safeable
 from acas_pictures.separation import draw_separation
-from acas_pictures.slices import name_of, slice_of
+from acas_pictures.slices import layer_of, name_of, slice_of
 from acas_pictures.verdicts import cell_slice, draw_verdicts
 from acas_pictures.witness import draw_witness, title_of
 from acas_origin import beside
@@ -24,6 +25,7 @@ from acas_table import (
 from acas_table.report import check_line
 
 WORDS = argparse.Namespace
+CONTACT = "How can it come to contact?"
 
 
 def policy(words: WORDS) -> Figure:
@@ -38,13 +40,23 @@ def cost(words: WORDS) -> Figure:
     return draw_cost(model, read_table(words.table, model), slice_of(model, words.present, words.own, words.intruder), words.title)
 
 
+def difference(words: WORDS) -> Figure:
+    """The picture of `acas_plot difference`."""
+    model = read_model(words.model)
+    other = model if words.other_model is None else read_model(words.other_model)
+    check_grids(model, other)
+    part = layer_of(model, words.layer, words.present, words.intruder)
+    return draw_difference(model, read_table(words.table, model), read_table(words.other, other), part, words.title)
+
+
 def verdicts(words: WORDS) -> Figure:
     """The picture of `acas_plot verdicts`."""
     model = read_model(words.model)
     part = cell_slice(model, words.present, words.own, words.intruder)
     report = read_report(text_of(words.report), words.report, Progress(words.report))
-    words.note = note_of(words.report, model, table_of(words, model))
-    return draw_verdicts(model, report, part, words.title)
+    table = table_of(words, model)
+    words.note = note_of(words.report, model, table)
+    return draw_verdicts(model, report, part, words.title, table)
 
 
 def risk(words: WORDS) -> Figure:
@@ -78,7 +90,7 @@ def witness(words: WORDS) -> Figure:
         raise Fault("line", "advice", f"is {line.advice}: --advisory is for the lines of acas regions and acas manoeuvre")
     _refuse_against(words)
     advisory = check_line(model, line, "line")
-    return draw_witness(model, advisory, line.flight, title_of(model, line) if words.title is None else words.title)
+    return draw_witness(model, advisory, line.flight, f"{CONTACT}\n{title_of(model, line)}" if words.title is None else words.title)
 
 
 def _box_witness(model: Model, line: BoxLine, words: WORDS) -> Figure:
@@ -91,7 +103,7 @@ def _box_witness(model: Model, line: BoxLine, words: WORDS) -> Figure:
     if line.flight.against is None:
         _refuse_against(words)
     check_flight(model, advisory, line.flight, "line", Manoeuvre(*words.against or ()))
-    title = f"{name_of(model)}: box {line.box} under {name}"
+    title = f"{CONTACT}\n{name_of(model)}: box {line.box} under {name}"
     if words.against is not None:
         title += ", an intruder of up to {} ft/min per s and {} ft/min".format(*words.against)
     return draw_witness(model, advisory, line.flight, title if words.title is None else words.title)
@@ -143,8 +155,8 @@ def text_of(name: str) -> str:
 
 
 DRAWN = {
-    "policy": policy, "cost": cost, "verdicts": verdicts, "risk": risk, "safeable": safeable, "witness": witness, "separation": separation,
-    "replay": replay,
+    "policy": policy, "cost": cost, "difference": difference, "verdicts": verdicts, "risk": risk, "safeable": safeable, "witness": witness,
+    "separation": separation, "replay": replay,
 }
 
 

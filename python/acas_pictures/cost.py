@@ -5,7 +5,7 @@ from matplotlib.colors import Normalize, SymLogNorm
 from matplotlib.figure import Figure
 from matplotlib.ticker import Locator, MaxNLocator, SymmetricalLogLocator
 
-from acas_pictures.canvas import ALTITUDE, edges_between, mark_puck, new_figure, smooth_edges
+from acas_pictures.canvas import ALTITUDE, edges_between, mark_puck, new_figure, set_heading, smooth_edges
 from acas_pictures.slices import Slice, name_of
 from acas_table import Model, Table
 
@@ -25,8 +25,7 @@ def draw_cost(model: Model, table: Table, part: Slice, title: str | None = None)
     steps = (Normalize(0, max(1, int(gap.max()))), MaxNLocator(integer=True))
     _draw(right, model, gap, *steps, label="upper less lower value [millionths]")
     left.set_ylabel(ALTITUDE)
-    words = f"{name_of(model)}: {part.words(model)}" if title is None else title
-    figure.suptitle(words, fontsize=10).set_parse_math(False)
+    set_heading(figure, f"What does it cost at most to follow the advice?\n{name_of(model)}: {part.words(model)}" if title is None else title)
     return figure
 
 

@@ -31,7 +31,7 @@ def draw_replay(model: Model, replay: Replay, issued: np.ndarray, title: str | N
     axes.plot(times, intruder, color=INTRUDER, linewidth=2.2, label="intruder's path")
     _draw_contacts(axes, seconds["contact"])
     axes.set(ylabel="altitude above the own at first [ft]")
-    set_title(axes, f"{name_of(model)}: {Path(replay.source).name}" if title is None else title)
+    set_title(axes, f"What is advised on the way?\n{name_of(model)}: {Path(replay.source).name}" if title is None else title)
     axes.set_xlim(0, len(seconds))
     _add_range(axes, seconds)
     axes.legend(loc="upper left", bbox_to_anchor=(1.01, 1.0), borderaxespad=0.0)

@@ -21,7 +21,7 @@ def draw_policy(model: Model, table: Table, part: Slice, title: str | None = Non
     fill_cells(axes, np.arange(model.horizon + 1), edges_between(model.altitude), advice, list(filled))
     mark_puck(axes, model)
     axes.set(xlabel=TO_GO, ylabel=ALTITUDE)
-    set_title(axes, f"{name_of(model)}: {part.words(model)}" if title is None else title)
+    set_title(axes, f"What is advised?\n{name_of(model)}: {part.words(model)}" if title is None else title)
     tabled = np.unique(advice).tolist()
     legend_beside(axes, [patch(filled[number], model.names[number]) for number in tabled], "advice")
     return figure

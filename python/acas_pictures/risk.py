@@ -5,7 +5,7 @@ from matplotlib.colors import Normalize, SymLogNorm
 from matplotlib.figure import Figure
 from matplotlib.ticker import FixedLocator, FuncFormatter, MaxNLocator, NullLocator
 
-from acas_pictures.canvas import ALTITUDE, edges_between, hatch_cells, mark_puck, new_figure, patch, smooth_edges
+from acas_pictures.canvas import ALTITUDE, edges_between, hatch_cells, mark_puck, new_figure, patch, set_heading, smooth_edges
 from acas_pictures.colours import NO_RATIO, UNADVISED, WITH_TABLE, Paint
 from acas_pictures.slices import Slice, name_of
 from acas_table import Model, Risk, gridded, ratios
@@ -28,8 +28,7 @@ def draw_risk(model: Model, risk: Risk, part: Slice, title: str | None = None) -
     _draw_chances(left, model, states[:, part.own])
     left.set_ylabel(ALTITUDE)
     _draw_ratios(right, model, ratios(states), int(model.own_rate[part.own]))
-    words = f"{name_of(model)}: {part.words(model)}" if title is None else title
-    figure.suptitle(words, fontsize=10).set_parse_math(False)
+    set_heading(figure, f"How likely is contact?\n{name_of(model)}: {part.words(model)}" if title is None else title)
     return figure
 
 

@@ -7,7 +7,7 @@ from matplotlib.ticker import MaxNLocator
 from acas_pictures.canvas import ALTITUDE, TO_GO, fill_cells, legend_beside, mark_puck, new_figure, patch, set_title
 from acas_pictures.colours import CERTIFIED, MIXED, NEAR, OPEN, REPORTED, SAFEABLE, Paint
 from acas_pictures.slices import Slice, require_seconds
-from acas_pictures.verdicts import CERTIFIED_CELL, CLEAR_CELL, MIXED_CELL, REPORTED_CELL, title_of_cells, verdicts_of
+from acas_pictures.verdicts import CERTIFIED_CELL, CLEAR_CELL, MIXED_CELL, REPORTED_CELL, verdicts_of, words_of_cells
 from acas_table import Model, Report, Safeable, check_audit
 
 NEAR_CELL, SAFEABLE_CELL, OPEN_CELL = CLEAR_CELL, REPORTED_CELL + 1, REPORTED_CELL + 2
@@ -35,7 +35,7 @@ def draw_safeable(model: Model, report: Report, safeable: Safeable, part: Slice,
     mark_puck(axes, model)
     axes.xaxis.set_major_locator(MaxNLocator(integer=True))
     axes.set(xlabel=TO_GO, ylabel=ALTITUDE)
-    set_title(axes, title_of_cells(model, part) if title is None else title)
+    set_title(axes, f"Where can advice wait a second?\n{words_of_cells(model, part)}" if title is None else title)
     legend_beside(axes, [patch(FILLED[kind], LABELS[kind]) for kind in ORDER], "cells")
     _draw_by_second(below, model, clear, safeable.near)
     return figure

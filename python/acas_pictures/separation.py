@@ -21,13 +21,13 @@ def draw_separation(model: Model, found: Separations, box: int, title: str | Non
     rows = found.of(box)
     if len(rows) < 2:
         raise Fault(found.source, "box", f"{box} has one acceleration, and a picture wants two")
-    figure = new_figure(7.6, 4.8)
+    figure = new_figure(7.6, 5.2)
     high, low = figure.subplots(2, 1, sharex=True)
     _draw_border(high, model, rows, "above", "^")
     _draw_border(low, model, rows, "below", "v")
     low.set(xlabel=ACCELERATION, xlim=(rows["accel"][0], rows["accel"][-1]))
     figure.supylabel(ALTITUDE, fontsize=9)
-    words = f"{name_of(model)}: box {box}, an intruder of up to {rows['rate'][0]} ft/min"
+    words = f"From which altitude on is it safe?\n{name_of(model)}: box {box}, an intruder of up to {rows['rate'][0]} ft/min"
     set_title(high, words if title is None else title)
     handles = [patch(Paint(CERTIFIED), "certified"), patch(Paint(REPORTED), "reported at the next mark")]
     legend_beside(high, handles, f"box {box}")

@@ -1,4 +1,4 @@
-"""The part of a table that one picture shows: one present advisory and one pair of rates."""
+"""The part of a table that one picture shows: one present advisory, and a pair of rates or a layer and one rate."""
 from dataclasses import dataclass
 from pathlib import Path
 
@@ -28,6 +28,31 @@ class Slice:
 def slice_of(model: Model, present: str, own: int, intruder: int) -> Slice:
     """The slice of a name and two rates, each of which has to be in the model."""
     return Slice(model.number(present), model.place("own_rate", own), model.place("intruder_rate", intruder))
+
+
+@dataclass(frozen=True)
+class Layer:
+    """A layer by its seconds to go, a present advisory by number, and the place of the intruder's rate on its axis."""
+
+    seconds: int
+    present: int
+    intruder: int
+
+    def entries(self, table: Table) -> np.ndarray:
+        """The entries of the layer, dtype `ENTRY`, shape (altitudes, own rates)."""
+        return table.layers[self.seconds, self.present, :, :, self.intruder]
+
+    def words(self, model: Model) -> str:
+        """What the layer is, in words."""
+        intruder = model.intruder_rate[self.intruder]
+        return f"{self.seconds} s to go, {model.names[self.present]} is present, intruder's rate {intruder} ft/min"
+
+
+def layer_of(model: Model, seconds: int, present: str, intruder: int) -> Layer:
+    """The layer of so many seconds, a name and a rate, each of which has to be in the model. In layer 0 nothing is advised."""
+    if not 1 <= seconds <= model.horizon:
+        raise Fault(model.source, "horizon", f"is {model.horizon}: no layer {seconds} has an advice")
+    return Layer(seconds, model.number(present), model.place("intruder_rate", intruder))
 
 
 def require_seconds(model: Model) -> None:

@@ -8,7 +8,7 @@ from matplotlib.ticker import MaxNLocator
 from acas_pictures.canvas import ALTITUDE, TO_GO, fill_cells, legend_beside, mark_puck, new_figure, patch, set_title
 from acas_pictures.colours import CERTIFIED, CLEAR, MIXED, REPORTED, Paint, paints
 from acas_pictures.slices import Slice, name_of, require_seconds
-from acas_table import Fault, Model, Report, numbered
+from acas_table import Fault, Model, Report, Table, whole_lines
 
 CLEAR_CELL, CERTIFIED_CELL, MIXED_CELL, REPORTED_CELL = range(4)
 FILLED = [Paint(CLEAR), Paint(CERTIFIED), Paint(MIXED), Paint(REPORTED)]
@@ -28,12 +28,11 @@ def cell_slice(model: Model, present: str, own: int, intruder: int) -> Slice:
     return Slice(model.number(present), *places)
 
 
-def draw_verdicts(model: Model, report: Report, part: Slice, title: str | None = None) -> Figure:
-    """The cells of a slice, and below them the lines of the whole report by advice and by second."""
+def draw_verdicts(model: Model, report: Report, part: Slice, title: str | None = None, table: Table | None = None) -> Figure:
+    """The cells of a slice, and below them the lines of the whole report by advice and by second. Where the report has no certified
+    lines, they are those that the table has besides."""
     require_seconds(model)
-    if not report.is_whole:
-        raise Fault(report.source, "counts", "are of certified lines that are left out: give the report without --reported")
-    cells = numbered(report, model)
+    cells = whole_lines(report, model, table)
     figure = new_figure(8.0, 6.4)
     rows = figure.add_gridspec(2, 2, height_ratios=[3, 2])
     axes = figure.add_subplot(rows[0, :])
@@ -41,14 +40,14 @@ def draw_verdicts(model: Model, report: Report, part: Slice, title: str | None =
     mark_puck(axes, model)
     axes.xaxis.set_major_locator(MaxNLocator(integer=True))
     axes.set(xlabel=TO_GO, ylabel=ALTITUDE)
-    set_title(axes, title_of_cells(model, part) if title is None else title)
+    set_title(axes, f"Where does the advice leave danger?\n{words_of_cells(model, part)}" if title is None else title)
     legend_beside(axes, [patch(paint, label) for paint, label in zip(FILLED, LABELS)], "cells")
     _draw_by_advice(figure.add_subplot(rows[1, 0]), model, cells)
     _draw_by_second(figure.add_subplot(rows[1, 1]), model, cells)
     return figure
 
 
-def title_of_cells(model: Model, part: Slice) -> str:
+def words_of_cells(model: Model, part: Slice) -> str:
     """Of which model, present advisory and rates the cells of a slice are."""
     own, intruder = (
         f"{rates[place]} to {rates[place + 1]}"

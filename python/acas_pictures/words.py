@@ -5,20 +5,30 @@ from typing import NoReturn
 
 GREATEST_SIZE = 40
 
+PLACES = {
+    "present": {"metavar": "NAME", "help": "the advisory that is present"},
+    "layer": {"metavar": "SECONDS", "type": int, "help": "how many seconds are to go, from 1 on"},
+    "own": {"metavar": "RATE", "type": int, "help": "the own rate in ft/min, a number of the grid"},
+    "intruder": {"metavar": "RATE", "type": int, "help": "the intruder's rate, likewise"},
+}
+"""What says which part of a table is shown."""
+SLICE, LAYER = ("present", "own", "intruder"), ("present", "layer", "intruder")
 COMMANDS = (
-    ("policy", ("MODEL", "TABLE"), True, "the advice over seconds to go and relative altitude"),
-    ("cost", ("MODEL", "TABLE"), True, "the upper value, and how far it is above the lower value"),
-    ("verdicts", ("MODEL", "REPORT"), True, "the verdicts on the cells from two rates to the next ones, and the counts"),
-    ("risk", ("MODEL", "RISK"), True, "the chance of contact with the table and without, and the ratio of the two"),
-    ("safeable", ("MODEL", "REPORT", "SAFEABLE"), True, "the verdicts on those cells, and what safeable says of the clear ones"),
-    ("witness", ("MODEL", "LINE"), False, "the vertical profile of a reported flight"),
-    ("separation", ("MODEL", "SEPARATIONS"), False, "the altitudes at which a box is certified, over the intruder's acceleration"),
-    ("replay", ("MODEL", "TABLE", "REPLAY"), False, "the profile of an encounter with the advice of each second"),
+    ("policy", ("MODEL", "TABLE"), SLICE, "the advice over seconds to go and relative altitude"),
+    ("cost", ("MODEL", "TABLE"), SLICE, "the upper value, and how far it is above the lower value"),
+    ("difference", ("MODEL", "TABLE", "OTHER"), LAYER, "where the advice of two tables differs, and how far their upper values are apart"),
+    ("verdicts", ("MODEL", "REPORT"), SLICE, "the verdicts on the cells from two rates to the next ones, and the counts"),
+    ("risk", ("MODEL", "RISK"), SLICE, "the chance of contact with the table and without, and the ratio of the two"),
+    ("safeable", ("MODEL", "REPORT", "SAFEABLE"), SLICE, "the verdicts on those cells, and what safeable says of the clear ones"),
+    ("witness", ("MODEL", "LINE"), (), "the vertical profile of a reported flight"),
+    ("separation", ("MODEL", "SEPARATIONS"), (), "the altitudes at which a box is certified, over the intruder's acceleration"),
+    ("replay", ("MODEL", "TABLE", "REPLAY"), (), "the profile of an encounter with the advice of each second"),
 )
-"""Each command: the files that it reads, whether it shows a slice, and what it draws."""
+"""Each command: the files that it reads, the words of `PLACES` that it has, and what it draws."""
 HELP = {
     "MODEL": "the file of a model",
     "TABLE": "a table of it",
+    "OTHER": "the table that is compared with it",
     "REPORT": "a file with what acas audit has printed; - for the input",
     "RISK": "a file with what acas risk has printed; - for the input",
     "SAFEABLE": "a file with what acas safeable has printed; - for the input",
@@ -40,14 +50,14 @@ def parser() -> Parser:
     """The words of the command."""
     whole = Parser(prog="acas_plot", description="Draws what acas makes and prints, to a file whose name ends in .png, .svg or .pdf.")
     commands = whole.add_subparsers(dest="command", required=True, metavar="COMMAND")
-    for name, files, is_slice, says in COMMANDS:
+    for name, files, places, says in COMMANDS:
         command = commands.add_parser(name, help=says, description=says)
         for file in (*files, "PICTURE"):
             command.add_argument(file.lower(), metavar=file, help=HELP[file])
-        if is_slice:
-            command.add_argument("--present", required=True, metavar="NAME", help="the advisory that is present")
-            command.add_argument("--own", required=True, type=int, metavar="RATE", help="the own rate in ft/min, a number of the grid")
-            command.add_argument("--intruder", required=True, type=int, metavar="RATE", help="the intruder's rate, likewise")
+        for place in places:
+            command.add_argument(f"--{place}", required=True, **PLACES[place])
+        if name == "difference":
+            command.add_argument("--other-model", metavar="MODEL", help="the model of the other table, where that is another one")
         if name in ("verdicts", "risk", "safeable"):
             command.add_argument("--table", metavar="TABLE", help=f"the table that the {files[-1].lower()} is to be of")
         if name == "witness":

@@ -23,7 +23,7 @@ def many_models(site: Site, cause: Cause) -> Advice:
 def twice(site: Site, cause: Cause) -> Advice:
     of_what, name = cause.allowed
     if of_what == "column":
-        return f"two columns {name}", "give each `vary` a name of its own, which is none of the columns that are counted"
+        return f"two columns {name}", "give each `vary` a name of its own, which is none of the other columns"
     return f"two models {name}", "take out the value that is there twice; a value that is no whole number or name counts by its place"
 
 

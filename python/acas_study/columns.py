@@ -1,4 +1,4 @@
-"""The columns of the table of a study that are counted."""
+"""The columns of the table of a study."""
 
 COUNTED = (
     "layers", "states", "bytes", "cells", "advised", "lines", "certified", "reported", "clear", "advised_share", "reported_share",
@@ -13,3 +13,7 @@ and `risk_ratio` the first over the second: so the ratio of the two mean chances
 
 The last four are of the clear cells: how many of them an advisory keeps safe that is given a second later, of how many none is shown to do
 so, and in how many contact may come within the second; and `open_share` is the second number over that of all clear cells."""
+DIGESTS = ("model_sha256", "table_sha256")
+"""The last columns: the digests of the two files that a row is of, as `sha256sum` prints them."""
+BEHIND = (*COUNTED, *DIGESTS)
+"""All columns behind the name of the model and what is varied."""

@@ -13,6 +13,7 @@ from pathlib import Path
 from typing import IO, Sequence
 
 from acas_study import scheduler
+from acas_study.columns import BEHIND
 from acas_study.description import Study, check_columns, read_study
 from acas_study.files import write_changed
 from acas_study.steps import PLAN
@@ -26,6 +27,8 @@ DRY = frozenset(("-n", "--dry-run", "--dryrun"))
 """Snakemake's words for a run that does nothing."""
 LOG = "snakemake.log"
 """The file of the results to which all goes that Snakemake and its steps say."""
+COLUMNS = "columns.json"
+"""The file of the results from which rows are made anew where they are of other columns."""
 LOOK = """import sys
 try:
     from snakemake.cli import get_argument_parser
@@ -42,7 +45,7 @@ LONGEST_END = 30
 
 
 def prepare(study: Study, results: Path) -> None:
-    """Writes the models and the plan, where they are not yet there as they have to be."""
+    """Writes the models, the plan and the columns, where they are not yet there as they have to be."""
     for folder in FOLDERS:
         (results / folder).mkdir(parents=True, exist_ok=True)
     for model in study.models:
@@ -50,6 +53,7 @@ def prepare(study: Study, results: Path) -> None:
     models = {model.name: model.values for model in study.models}
     plan = {"varied": study.varied, "models": models, "across": study.across, "up": study.up}
     write_changed(results / PLAN, (json.dumps(plan, indent=1) + "\n").encode())
+    write_changed(results / COLUMNS, (json.dumps(BEHIND, indent=1) + "\n").encode())
 
 
 def lock(results: Path) -> IO[bytes]:
@@ -169,6 +173,7 @@ def is_done(study: Study, results: Path) -> bool:
     for last in ("study.csv", "page.html"):
         chains = [[PLAN, last]]
         for name in (model.name for model in study.models):
+            chains.append([COLUMNS, f"rows/{name}.csv", last])
             for report in ("checks", "reports", "risks", "safeables"):
                 chains.append([f"models/{name}.toml", f"tables/{name}.acxt", f"{report}/{name}.txt", f"rows/{name}.csv", last])
         for chain in chains:

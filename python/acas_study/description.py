@@ -7,7 +7,7 @@ from dataclasses import dataclass
 from pathlib import Path
 from typing import Any, Sequence
 
-from acas_study.columns import COUNTED
+from acas_study.columns import BEHIND, COUNTED
 from acas_study.texts import set_key, text_of
 from acas_texts import Cause, Fault
 from acas_texts.document import content_of, document_of
@@ -85,7 +85,7 @@ def _study_of_file(path: Path) -> Study:
     content = _model_in(base)
     varies = tuple(_vary(table) for table in keys.tables("vary", 1, 8))
     names = tuple(vary.name for vary in varies)
-    _refuse_twice(source, ["model", *COUNTED, *names], "column")
+    _refuse_twice(source, ["model", *BEHIND, *names], "column")
     count = math.prod(len(vary.values) for vary in varies)
     if count > MOST_MODELS:
         cause = Cause("many_models", ("vary",), tuple(len(vary.values) for vary in varies))

@@ -5,7 +5,8 @@ import math
 from dataclasses import dataclass
 from pathlib import Path
 
-from acas_study.columns import COUNTED
+from acas_origin import digest_of
+from acas_study.columns import BEHIND, COUNTED
 from acas_table import Model, Report, Risk, Safeable, Table, check_audit, gridded
 from acas_table.words import text_of_millionths
 
@@ -14,18 +15,18 @@ NONE = "nan"
 
 
 @dataclass(frozen=True)
-class Counts:
-    """What the columns `COUNTED` say of one model."""
+class Row:
+    """What the columns `BEHIND` say of one model."""
 
-    numbers: tuple[str, ...]
+    cells: tuple[str, ...]
 
-    def value(self, column: str) -> float:
-        """The number of a column."""
-        return float(self.numbers[COUNTED.index(column)])
+    def cell(self, column: str) -> str:
+        """What stands in a column."""
+        return self.cells[BEHIND.index(column)]
 
 
-def counts_of(model: Model, table: Table, report: Report, risk: Risk, safeable: Safeable) -> Counts:
-    """The numbers of one model."""
+def row_of(model: Model, table: Table, report: Report, risk: Risk, safeable: Safeable) -> Row:
+    """The numbers of one model, and the digests of its file and its table's."""
     check_audit(safeable, report, model)
     layers, *shape = model.shape
     cells = math.prod([model.horizon, shape[0], *(length - 1 for length in shape[1:])])
@@ -33,7 +34,8 @@ def counts_of(model: Model, table: Table, report: Report, risk: Risk, safeable: 
     whole = (layers, math.prod(shape), table.header.length, cells, advised, lines, report.certified, report.reported, report.clear)
     shares = _share(advised, cells), _share(report.reported, lines)
     clear = safeable.safeable, safeable.open, safeable.near
-    return Counts((*map(str, whole), *shares, *_means(model, risk), *map(str, clear), _share(safeable.open, report.clear)))
+    counted = *map(str, whole), *shares, *_means(model, risk), *map(str, clear), _share(safeable.open, report.clear)
+    return Row((*counted, model.digest.hex(), digest_of(table.source)))
 
 
 def _share(part: int, whole: int) -> str:
@@ -61,8 +63,8 @@ def text_of_rows(header: list[str], rows: list[list[str]]) -> str:
     return text.getvalue()
 
 
-def read_row(path: Path) -> Counts:
-    """The numbers that `counts_of` made of one model, from its file of one line."""
+def read_row(path: Path) -> Row:
+    """The row that `row_of` made of one model, from its file of one line."""
     with open(path, encoding="utf-8", newline="") as file:
         (row,) = csv.reader(file)
-    return Counts(tuple(row))
+    return Row(tuple(row))

@@ -9,10 +9,10 @@ from acas_pictures.risk import draw_risk
 from acas_pictures.safeable import draw_safeable
 from acas_pictures.slices import Slice
 from acas_pictures.verdicts import draw_verdicts
-from acas_study.columns import COUNTED
+from acas_study.columns import BEHIND, DIGESTS
 from acas_study.files import write_whole
 from acas_study.page import page_of
-from acas_study.rows import counts_of, read_row, text_of_rows
+from acas_study.rows import read_row, row_of, text_of_rows
 from acas_study.trade import Point, draw_trade
 from acas_table import Fault, Model, Table, check_origin, read_model, read_report, read_risk, read_safeable, read_table
 from acas_table.replay import nearest
@@ -21,7 +21,7 @@ PLAN = Path("plan.json")
 
 
 def row(name: str) -> None:
-    """The numbers of one model, and its four pictures."""
+    """The row of one model, and its four pictures."""
     model = read_model(f"models/{name}.toml")
     table = read_table(f"tables/{name}.acxt", model)
     report, risk, safeable = (read(_text_of(path, model, table), path) for read, path in _printed(name))
@@ -31,8 +31,8 @@ def row(name: str) -> None:
     save(draw_verdicts(model, report, part), Path(f"pictures/{name}-verdicts.png"))
     save(draw_risk(model, risk, part), Path(f"pictures/{name}-risk.png"))
     save(draw_safeable(model, report, safeable, part), Path(f"pictures/{name}-safeable.png"))
-    numbers = list(counts_of(model, table, report, risk, safeable).numbers)
-    write_whole(Path(f"rows/{name}.csv"), (",".join(numbers) + "\n").encode())
+    cells = row_of(model, table, report, risk, safeable).cells
+    write_whole(Path(f"rows/{name}.csv"), (",".join(cells) + "\n").encode())
 
 
 def _printed(name: str) -> list[tuple[Callable, str]]:
@@ -53,16 +53,17 @@ def _level(model: Model) -> Slice:
 
 
 def gather(title: str) -> None:
-    """The table of the study, the picture of its trade, and its page."""
+    """The table of the study, the picture of its trade, and its page, whose table leaves out the digests."""
     plan = json.loads(PLAN.read_text(encoding="utf-8"))
-    counts = {name: read_row(Path(f"rows/{name}.csv")) for name in plan["models"]}
-    header = ["model", *plan["varied"], *COUNTED]
-    rows = [[name, *values, *counts[name].numbers] for name, values in plan["models"].items()]
+    header = ["model", *plan["varied"], *BEHIND]
+    rows = [[name, *values, *read_row(Path(f"rows/{name}.csv")).cells] for name, values in plan["models"].items()]
     points = [_point(plan, dict(zip(header, one))) for one in rows]
     first = plan["varied"][0] if plan["varied"] else ""
     save(draw_trade(points, plan["across"], plan["up"], first), Path("pictures/trade.png"))
     write_whole(Path("study.csv"), text_of_rows(header, rows).encode())
-    write_whole(Path("page.html"), page_of(title, header, rows, list(plan["models"])).encode())
+    shown = len(header) - len(DIGESTS)
+    page = page_of(title, header[:shown], [one[:shown] for one in rows], list(plan["models"]))
+    write_whole(Path("page.html"), page.encode())
 
 
 def _point(plan: dict, cells: dict[str, str]) -> Point:

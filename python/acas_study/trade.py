@@ -31,7 +31,7 @@ def draw_trade(points: list[Point], across: str, up: str, first: str) -> Figure:
     """Models that differ in the first varied key alone are joined by a line, and labelled by its value. One that has no number is left
     out."""
     points = [point for point in points if math.isfinite(point.across) and math.isfinite(point.up)]
-    figure = new_figure(6.6, 4.2)
+    figure = new_figure(7.6, 4.2)
     axes = figure.add_subplot()
     for place, line in enumerate(dict.fromkeys(point.line for point in points)):
         colour, marker, style = LINES[place % len(LINES)]
@@ -44,7 +44,7 @@ def draw_trade(points: list[Point], across: str, up: str, first: str) -> Figure:
             )
     axes.set(xlabel=AXIS_LABELS.get(across, across), ylabel=AXIS_LABELS.get(up, up))
     axes.margins(0.09)
+    axes.set_title(f"What is gained, and at what price?\n{first}, at each point" if first else "What is gained, and at what price?")
     if first:
-        axes.set_title(f"{first}, at each point")
-        axes.legend(loc="best")
+        axes.legend(loc="upper left", bbox_to_anchor=(1.01, 1.0), borderaxespad=0.0)
     return figure

@@ -20,6 +20,7 @@ from acas_table.risk import RISK, Risk, gridded, ratios, read_risk
 from acas_table.safeable import Safeable, check_audit, clear_cells, read_safeable
 from acas_table.separation import SEPARATION, Separations, read_separations
 from acas_table.table import ENTRY, NO_ADVICE, Header, Table, read_table
+from acas_table.whole import whole_lines
 from acas_table.writing import write_table
 
 __all__ = [
@@ -27,5 +28,6 @@ __all__ = [
     "Manoeuvre", "Model", "Regions", "Replay", "Report", "Risk", "Safeable", "Segment", "Separations", "SigmaPoint", "Table", "check_audit",
     "check_flight", "check_origin", "check_replay", "clear_cells", "compare", "gridded", "numbered", "ratios", "read_line", "read_model",
     "read_regions", "read_replay", "read_replay_of", "read_report", "read_report_of", "read_risk", "read_risk_of", "read_safeable",
-    "read_safeable_of", "read_separations", "read_table", "table_of_advice", "to_xarray", "write_table",
+    "read_safeable_of", "read_separations", "read_table", "table_of_advice", "to_xarray", "whole_lines",
+    "write_table",
 ]

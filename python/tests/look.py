@@ -1,16 +1,21 @@
 """Looks at a figure as it is drawn."""
+from collections import Counter
+
 import numpy as np
 from matplotlib.axes import Axes
 from matplotlib.colors import to_rgb
 from matplotlib.figure import Figure
 
 
-def colour_at(figure: Figure, axes: Axes, x: float, y: float) -> str:
-    """The colour of the drawn figure at a point of the axes, as #RRGGBB in capitals."""
+def colour_at(figure: Figure, axes: Axes, x: float, y: float, reach: int = 2) -> str:
+    """The colour that most points of the drawn figure have from a point of the axes as far as the reach, as #RRGGBB in capitals: what stands
+    behind a hatch."""
     figure.canvas.draw()
     pixels = np.asarray(figure.canvas.buffer_rgba())
-    column, row = axes.transData.transform((x, y))
-    red, green, blue = pixels[pixels.shape[0] - 1 - int(row), int(column), :3].tolist()
+    column, row = (int(place) for place in axes.transData.transform((x, y)))
+    row = pixels.shape[0] - 1 - row
+    near = pixels[row - reach : row + reach + 1, column - reach : column + reach + 1, :3].reshape(-1, 3)
+    ((red, green, blue), _), *_ = Counter(map(tuple, near.tolist())).most_common(1)
     return f"#{red:02X}{green:02X}{blue:02X}"
 
 

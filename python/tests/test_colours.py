@@ -10,7 +10,8 @@ from matplotlib.colors import to_rgb
 
 from acas_pictures.canvas import fill_cells, new_figure
 from acas_pictures.colours import (
-    ANY, CERTIFIED, CLEAR, DOWN, HATCHES, LEVEL, MIXED, NEAR, OPEN, REPORTED, SAFEABLE, UP, Paint, colour_of, paints,
+    ANY, CERTIFIED, CLEAR, DOWN, FIRST_HATCHES, HATCHES, LEVEL, MIXED, NEAR, OPEN, REPORTED, SAFEABLE, UP, Paint, colour_of, hatches_of,
+    paints,
 )
 from acas_table import read_model
 
@@ -22,6 +23,7 @@ SIGHTS = {
     "no blue cones": np.array([[1.255528, -0.076749, -0.178779], [-0.078411, 0.930809, 0.147602], [0.004733, 0.691367, 0.303900]]),
 }
 TO_XYZ = np.array([[0.4124564, 0.3575761, 0.1804375], [0.2126729, 0.7151522, 0.0721750], [0.0193339, 0.1191920, 0.9503041]])
+COLOURS = (*UP, *DOWN, LEVEL, ANY)
 LEAST_DIFFERENCE = 12
 """In CIELAB, where 2 to 3 is what is just seen side by side."""
 
@@ -61,14 +63,14 @@ def test_names_play_no_part(changed):
         swapped = (('"climb"', '"1"'), ('"descend"', '"2"'), ('"1"', f'"{climb}"'), ('"2"', f'"{descend}"'))
         model = read_model(changed("c.toml", ('"clear"', '"COC"'), *swapped))
         assert model.names == ("COC", climb, descend)
-        assert paints(model) == (Paint(CLEAR), Paint(UP[1]), Paint(DOWN[1]))
+        assert paints(model) == (Paint(CLEAR), Paint(UP[1]), Paint(DOWN[1], FIRST_HATCHES[DOWN[1]]))
 
 
 def test_advisories_of_one_kind_have_hatches_by_what_they_ask():
     """Of e.toml: no-climb, no-descend, level, climb, descend and climb-fast; then two climbs, of which one asks for more."""
     model = read_model(EXAMPLES / "e.toml")
     assert [paint.colour for paint in paints(model)[1:]] == [DOWN[0], UP[0], LEVEL, UP[1], DOWN[1], UP[2]]
-    assert {paint.hatch for paint in paints(model)} == {""}
+    assert [paint.hatch for paint in paints(model)] == ["", "\\\\\\\\", "", "----", "", "\\\\\\\\", ""]
     changed_advisories = tuple(replace(one, lo=1000) if one.name == "climb-fast" else one for one in model.advisories)
     filled = paints(replace(model, advisories=changed_advisories))
     assert (filled[4], filled[6]) == (Paint(UP[1], HATCHES[1]), Paint(UP[1]))
@@ -84,6 +86,14 @@ def test_many_advisories_are_all_filled_otherwise(changed):
     more = "".join(text.format(f"own-{number}") for number in range(13))
     model = read_model(changed("c.toml", ("[[sigma]]", more + "[[sigma]]")))
     assert len(set(paints(model))) == 16 and len(set(HATCHES)) == 15
+    assert all(sorted(hatches_of(colour)) == sorted(HATCHES) for colour in (*UP, *DOWN, LEVEL, ANY))
+
+
+def test_advisories_are_told_apart_without_colour():
+    """Two that may be next to each other differ in their lightness or in their hatch."""
+    light = {paint: lab(paint.colour, np.eye(3))[0] for paint in [Paint(CLEAR), *(Paint(colour, hatches_of(colour)[0]) for colour in COLOURS)]}
+    for one, other in itertools.combinations(light, 2):
+        assert one.hatch != other.hatch or abs(light[one] - light[other]) >= LEAST_DIFFERENCE, (one, other)
 
 
 def test_hatch_is_drawn():
@@ -92,6 +102,6 @@ def test_hatch_is_drawn():
     axes = figure.add_subplot()
     fill_cells(axes, np.array([0, 1, 2]), np.array([0, 1]), np.array([[0, 1]]), [Paint("#7CC5EE"), Paint("#7CC5EE", "////")])
     points = [part / 40 for part in range(4, 36)]
-    plain, hatched = ({colour_at(figure, axes, x + across, 0.5) for x in points} for across in (0, 1))
+    plain, hatched = ({colour_at(figure, axes, x + across, 0.5, reach=0) for x in points} for across in (0, 1))
     assert plain == {"#7CC5EE"} and "#7CC5EE" in hatched
     assert min(max(to_rgb(colour)) for colour in hatched) < 0.1

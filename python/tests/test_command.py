@@ -19,6 +19,7 @@ SEPARATIONS = "box,accel,rate,below,above\n0,1,1500,357,3070\n0,480,1500,-101,36
 PLOT = TOP / "python" / "acas_plot"
 LEVEL = ("--present", "clear", "--own", "0", "--intruder", "0")
 CELLS = ("--present", "clear", "--own", "0", "--intruder", "-60")
+LAYER = ("--present", "clear", "--layer", "1", "--intruder", "0")
 MODEL, TABLE = EXAMPLES / "c.toml", EXAMPLES / "c.acxt"
 OF_RISK = EXAMPLES / "b.toml"
 
@@ -49,6 +50,7 @@ def test_each_picture_by_its_ending(files, ending, begin):
     picture = files / f"picture.{ending}"
     for words in (
         ("policy", MODEL, TABLE, picture, *LEVEL), ("cost", MODEL, TABLE, picture, *LEVEL),
+        ("difference", MODEL, TABLE, EXAMPLES / "c2.acxt", picture, *LAYER),
         ("verdicts", MODEL, files / "report.txt", picture, *CELLS), ("witness", MODEL, REPORTED, picture),
         ("replay", MODEL, TABLE, files / "replay.txt", picture), ("risk", OF_RISK, files / "risk.txt", picture, *LEVEL),
         ("safeable", files / "far.toml", files / "clear.txt", files / "safeable.txt", picture, *CELLS),
@@ -78,11 +80,12 @@ def test_title_size_and_points(files):
     given = ("--title", "Advice for $5 & more", "--size", "6x4.5", "--dpi", "100")
     for words in (
         ("policy", MODEL, TABLE, *LEVEL), ("cost", MODEL, TABLE, *LEVEL), ("verdicts", MODEL, files / "report.txt", *CELLS),
+        ("difference", MODEL, TABLE, TABLE, *LAYER),
         ("witness", MODEL, REPORTED), ("replay", MODEL, TABLE, files / "replay.txt"), ("risk", OF_RISK, files / "risk.txt", *LEVEL),
         ("safeable", files / "far.toml", files / "clear.txt", files / "safeable.txt", *CELLS),
         ("separation", EXAMPLES / "d.toml", files / "separations.txt"), ("witness", EXAMPLES / "d.toml", MET, "--advisory", "climb"),
     ):
-        count = 4 if words[0] in ("replay", "safeable") else 3
+        count = 4 if words[0] in ("replay", "safeable", "difference") else 3
         for name in ("picture.svg", "picture.png"):
             assert plot(*words[:count], files / name, *words[count:], *given).returncode == 0
         assert ">Advice for $5 &amp; more</text>" in (files / "picture.svg").read_text(encoding="utf-8")
@@ -141,6 +144,9 @@ BAD = [
     ("no table", ("policy", MODEL, MODEL, "old.png", *LEVEL), f"{MODEL}: magic is not ACXT"),
     ("no model", ("policy", TABLE, TABLE, "old.png", *LEVEL), f"{TABLE}: not toml:"),
     ("absent", ("policy", "nowhere.toml", TABLE, "old.png", *LEVEL), "nowhere.toml: cannot be read: No such file or directory"),
+    ("two grids", ("difference", MODEL, TABLE, TABLE, "old.png", *LAYER, "--other-model", OF_RISK), f"{OF_RISK}: grid.altitude is not that of {MODEL}"),
+    ("layer", ("difference", MODEL, TABLE, TABLE, "old.png", *LAYER[:2], "--layer", "2", *LAYER[4:]), f"{MODEL}: horizon is 1: no layer 2"),
+    ("other table", ("difference", MODEL, TABLE, MODEL, "old.png", *LAYER), f"{MODEL}: magic is not ACXT"),
     ("name", ("policy", MODEL, TABLE, "old.png", "--present", "level", *LEVEL[2:]), f"{MODEL}: advisory level is not in the model"),
     ("rate", ("cost", MODEL, TABLE, "old.png", *LEVEL[:2], "--own", "1", *LEVEL[4:]), f"{MODEL}: grid.own_rate has no 1, but 0, 60"),
     ("last rate", ("verdicts", MODEL, "report.txt", "old.png", *LEVEL), f"{MODEL}: grid.intruder_rate ends at 0, and no cell begins"),

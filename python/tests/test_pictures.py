@@ -90,7 +90,7 @@ def test_policy_under_another_advisory(model, table):
 def test_policy_axes(model, table):
     _, axes = policy_of(model, table, "clear")
     assert (axes.get_xlabel(), axes.get_ylabel()) == (TO_GO, ALTITUDE)
-    assert axes.get_title("left") == "c.toml: clear is present, own rate 0, intruder's rate 0 ft/min"
+    assert axes.get_title("left") == "What is advised?\nc.toml: clear is present, own rate 0, intruder's rate 0 ft/min"
     assert axes.get_xlim() == (0, 1)
     assert axes.get_legend().get_title().get_text() == "advice"
 
@@ -137,7 +137,8 @@ def test_verdicts_colours_and_counts(model):
     assert colour_at(figure, cells, 0.5, -500) == MIXED
     assert legend_of(cells) == {"clear at all corners": CLEAR, "certified": CERTIFIED, "some advice reported": MIXED, "reported": REPORTED}
     assert (cells.get_xlabel(), cells.get_ylabel()) == (TO_GO, ALTITUDE)
-    assert cells.get_title("left") == "c.toml: clear is present, own rate 0 to 60, intruder's rate -60 to 0 ft/min"
+    title = "Where does the advice leave danger?\nc.toml: clear is present, own rate 0 to 60, intruder's rate -60 to 0 ft/min"
+    assert cells.get_title("left") == title
     assert [label.get_text() for label in by_advice.get_yticklabels()] == ["climb", "descend"]
     assert [bar.get_width() for bar in by_advice.containers[0]] == [0, 1]
     assert [bar.get_width() for bar in by_advice.containers[1]] == [1, 0]
@@ -186,7 +187,7 @@ def test_risk_shows_the_chances():
     assert found[0, 0] == pytest.approx(524692 / 524690) and found[1, 0] == pytest.approx(18519 / 18518)
     assert (left.get_xlabel(), left.get_ylabel(), right.get_xlabel()) == ("chance of contact", ALTITUDE, "own rate [ft/min]")
     assert (bar.get_ylabel(), right.get_xlim(), right.get_ylim()) == ("risk ratio, upper bound", (0, 600), (0, 30))
-    assert figure._suptitle.get_text() == "b.toml: clear is present, own rate 0, intruder's rate 600 ft/min"
+    assert figure._suptitle.get_text() == "How likely is contact?\nb.toml: clear is present, own rate 0, intruder's rate 600 ft/min"
     assert left.get_xscale() == "linear" and right.get_legend() is None
 
 
@@ -235,7 +236,8 @@ def test_safeable_shows_clear_cells(changed, text, colour, bars):
     assert [hex_of(one) for one in filled] == [NEAR, colour]
     assert [[bar.get_height() for bar in container] for container in below.containers] == bars
     assert (axes.get_xlabel(), axes.get_ylabel(), below.get_xlabel(), below.get_ylabel()) == (TO_GO, ALTITUDE, TO_GO, "clear cells")
-    assert axes.get_title("left") == "c.toml: clear is present, own rate 0 to 60, intruder's rate -60 to 0 ft/min"
+    title = "Where can advice wait a second?\nc.toml: clear is present, own rate 0 to 60, intruder's rate -60 to 0 ft/min"
+    assert axes.get_title("left") == title
     assert legend_of(axes) == {
         "advised and certified": CERTIFIED, "some advice reported": MIXED, "advised and reported": REPORTED,
         "clear and safeable": SAFEABLE, "clear and open": OPEN, "clear and near": NEAR,
@@ -357,7 +359,7 @@ def test_separation_by_hand():
         assert colour_at(figure, high, accel, altitude) == colour
     assert legend_of(high) == {"certified": CERTIFIED, "reported at the next mark": REPORTED}
     assert (low.get_xlabel(), figure._supylabel.get_text()) == ("intruder's greatest acceleration [ft/min per s]", ALTITUDE)
-    assert high.get_title("left") == "d.toml: box 0, an intruder of up to 1500 ft/min"
+    assert high.get_title("left") == "From which altitude on is it safe?\nd.toml: box 0, an intruder of up to 1500 ft/min"
     puck = [line.get_ydata()[0] for line in low.lines if line.get_color() == "white"]
     assert puck == [-100, 100] and not any(line.get_color() == "white" for line in high.lines)
 

@@ -14,10 +14,10 @@ import pytest
 from conftest import EXAMPLES, TOP
 
 from acas_origin import digest_of, origin_of
-from acas_study.columns import COUNTED
+from acas_study.columns import COUNTED, DIGESTS
 from acas_study.command import FOLDERS, lock, prepare
 from acas_study.description import check_columns, read_study
-from acas_study.rows import counts_of
+from acas_study.rows import row_of
 from acas_study.texts import set_key, text_of
 from acas_study.trade import Point, draw_trade
 from acas_table import Fault, read_model, read_report, read_risk, read_safeable, read_table
@@ -74,9 +74,11 @@ def test_three_models_of_a_folder(acas, tmp_path):
     assert "20 of 20 steps (100%) done" in (results / "snakemake.log").read_text()
     rows = {row["model"]: row for row in rows_of(results)}
     assert list(rows) == ["b", "c", "d"]
+    files = {"model": digest_of(results / "models" / "d.toml"), "table": digest_of(results / "tables" / "d.acxt")}
     assert rows["d"] == {
         "model": "d", "layers": "31", "states": "96", "bytes": "51644", "cells": "720", "advised": "40", "lines": "40",
         "certified": "0", "reported": "40", "clear": "680", "advised_share": "0.0556", "reported_share": "1.0000", **RISK_OF_D, **CELLS_OF_D,
+        "model_sha256": files["model"], "table_sha256": files["table"],
     }
     assert (rows["c"]["cells"], rows["c"]["clear"], rows["c"]["reported_share"]) == ("3", "3", "0.0000")
     page = (results / "page.html").read_text(encoding="utf-8")
@@ -87,7 +89,6 @@ def test_three_models_of_a_folder(acas, tmp_path):
     assert (results / "checks" / "d.txt").read_text() == "accepted layers 31 states 96\n"
     origin = origin_of((results / "reports" / "d.txt.from").read_text())
     assert (origin.words, origin.code) == (("audit", "models/d.toml", "tables/d.acxt"), 1)
-    files = {"model": digest_of(results / "models" / "d.toml"), "table": digest_of(results / "tables" / "d.acxt")}
     assert origin.files == files
     assert all(origin_of((results / folder / "d.txt.from").read_text()).files == files for folder in ("risks", "safeables"))
 
@@ -100,7 +101,7 @@ def test_steps_of_a_model_and_of_the_study(acas, tmp_path, monkeypatch):
         shutil.copy(EXAMPLES / name, models)
     study = read_study(models)
     prepare(study, results)
-    assert {path.name for path in results.iterdir()} == {*FOLDERS, "plan.json"}
+    assert {path.name for path in results.iterdir()} == {*FOLDERS, "plan.json", "columns.json"}
     monkeypatch.chdir(results)
     step = [sys.executable, "-B", TOP / "study" / "step"]
     for name in ("b", "d"):
@@ -115,7 +116,9 @@ def test_steps_of_a_model_and_of_the_study(acas, tmp_path, monkeypatch):
     assert {key: rows["d"][key] for key in RISK_OF_D | CELLS_OF_D} == RISK_OF_D | CELLS_OF_D and rows["b"]["mean_risk"] == "0.500001"
     assert [rows["b"][key] for key in CELLS_OF_D] == ["0", "2", "2", "0.5000"]
     page = (results / "page.html").read_text(encoding="utf-8")
-    assert all(f"<th>{column}</th>" in page for column in COUNTED) and f"<td>{RISK_OF_D['risk_ratio']}</td>" in page
+    assert all((f"<th>{column}</th>" in page) == (column in COUNTED) for column in (*COUNTED, *DIGESTS))
+    assert f"<td>{RISK_OF_D['risk_ratio']}</td>" in page and digest_of("tables/d.acxt") not in page
+    assert [rows["b"][column] for column in DIGESTS] == [digest_of("models/b.toml"), digest_of("tables/b.acxt")]
     pictures = [f"pictures/{name}-{kind}.png" for name in "bd" for kind in ("risk", "safeable")]
     assert all(f'src="{picture}"' in page and Path(picture).is_file() for picture in pictures)
     os.remove("risks/d.txt.from")
@@ -131,8 +134,8 @@ def test_means_of_risks(acas):
     safeable = read_safeable("cell 1 clear 0 0 0 open\ncell 1 level 0 0 0 open\nsafeable 0 open 2 near 2\n")
 
     def means(text):
-        counts = counts_of(model, table, report, read_risk(text), safeable)
-        return [counts.numbers[COUNTED.index(name)] for name in ("mean_risk", "mean_risk_clear", "risk_ratio")]
+        row = row_of(model, table, report, read_risk(text), safeable)
+        return [row.cell(name) for name in ("mean_risk", "mean_risk_clear", "risk_ratio")]
 
     assert means(RISK) == ["0.500001", "0.499999", "1.000004"]
     nothing = "".join(
@@ -169,6 +172,24 @@ def test_killed_run_goes_on(acas, study, tmp_path):
     ended = run(acas, study, results)
     assert ended.returncode == 0 and ended.stdout.startswith("studied 3 models: ")
     assert "Nothing to be done" in (results / "snakemake.log").read_text()
+
+
+def test_older_results_without_the_digests(acas, study, tmp_path):
+    """The next call makes the rows, the table and the page, and calls the program for none of the models."""
+    results, idle = tmp_path / "results", tmp_path / "idle"
+    idle.write_text(f'#!/bin/sh\n[ "$1" = values ] || exit 7\nexec "{acas.program}" "$@"\n')
+    idle.chmod(0o755)
+    assert run(acas, study, results).returncode == 0
+    whole, rows = (results / "study.csv").read_text(), sorted((results / "rows").iterdir())
+    texts = [path.read_text() for path in rows]
+    for path, text in zip(rows, texts):
+        path.write_text(",".join(text.rstrip("\n").split(",")[: len(COUNTED)]) + "\n")
+    (results / "columns.json").unlink()
+    command = [sys.executable, "-B", RUN, "--acas", idle, study, results]
+    ended = subprocess.run(command, capture_output=True, text=True, check=False)
+    assert ended.returncode == 0 and ended.stdout.startswith("studied 3 models: "), ended.stderr
+    assert [path.read_text() for path in rows] == texts and (results / "study.csv").read_text() == whole
+    assert "5 of 5 steps (100%) done" in (results / "snakemake.log").read_text()
 
 
 def test_step_that_fails(acas, study, tmp_path):
@@ -214,89 +235,6 @@ def test_words_that_are_none_of_snakemakes(acas, study, tmp_path):
     assert ended.returncode == 1 and "Error parsing number of cores" in last and "goes on" not in last
 
 
-def test_cluster_executor_without_a_change(acas, study, tmp_path):
-    """A cluster whose command for a job is the shell."""
-    ended = run(acas, study, tmp_path / "results", "--cluster", "sh", "--jobs", "2")
-    assert ended.returncode == 0, ended.stderr
-    assert len(rows_of(tmp_path / "results")) == 3
-
-
-# A scheduler with the words of Grid Engine: a job is a process group, whose number is that of the job.
-SCHEDULER = {
-    "qsub": """while [ $# -gt 1 ]; do [ "$1" != -o ] || log=$2; shift; done
-setsid sh "$1" >"$log" 2>&1 </dev/null &
-echo $!
-""",
-    "qstat": 'kill -0 "$2" 2>/dev/null || { echo "Following jobs do not exist: $2" >&2; exit 1; }; echo "job $2"\n',
-    "qdel": 'for job; do kill -s KILL -- "-$job"; done\n',
-}
-
-
-@pytest.fixture
-def cluster(acas, tmp_path, monkeypatch) -> Path:
-    """The commands of a scheduler, and a program that hangs at the audit of the third model as long as a file is there."""
-    commands = tmp_path / "commands"
-    commands.mkdir()
-    for name, text in SCHEDULER.items():
-        (commands / name).write_text(f"#!/bin/sh\n{text}")
-        (commands / name).chmod(0o755)
-    monkeypatch.setenv("PATH", f"{commands}:{os.environ['PATH']}")
-    monkeypatch.delenv("USER", raising=False)
-    hanging = tmp_path / "hanging"
-    wait = f"while [ -e {tmp_path}/hang ]; do sleep 0.1; done"
-    hanging.write_text(f'#!/bin/sh\ncase $1.$2 in audit.*contact-3*) {wait};; esac\nexec "{acas.program}" "$@"\n')
-    hanging.chmod(0o755)
-    return hanging
-
-
-def begun(hanging, study, results) -> subprocess.Popen:
-    words = [sys.executable, "-B", RUN, study, results, "--profile", "study/cluster", "--acas", hanging]
-    pipes = {"stdout": subprocess.PIPE, "stderr": subprocess.PIPE, "text": True}
-    return subprocess.Popen(words, start_new_session=True, **pipes)
-
-
-def wait_for_the_third(results: Path, running: subprocess.Popen) -> str:
-    """The number of the job that hangs, once the other two are done."""
-    while len(list((results / "rows").glob("*.csv"))) < 2 or len(jobs := list((results / "jobs").glob("*.json"))) != 1:
-        assert running.poll() is None
-        time.sleep(0.1)
-    return jobs[0].stem
-
-
-def test_cluster_profile(cluster, study, tmp_path):
-    """One job a model. One is killed: the others are done, it is said, and the next call makes what is left."""
-    results = tmp_path / "results"
-    (tmp_path / "hang").touch()
-    with begun(cluster, study, results) as running:
-        os.killpg(int(wait_for_the_third(results, running)), signal.SIGKILL)
-        output, error = running.communicate()
-    assert (running.returncode, output) == (1, "")
-    assert "study: not made: rows/contact-3.csv\n" in error and error.endswith("says why; the same command goes on\n")
-    assert (results / "snakemake.log").read_text().count("with external jobid") == 3
-    (tmp_path / "hang").unlink()
-    before = [path.stat().st_mtime_ns for path in sorted((results / "rows").glob("*.csv"))]
-    with begun(cluster, study, results) as running:
-        output, error = running.communicate()
-    assert running.returncode == 0 and output.startswith("studied 3 models: "), error
-    assert [path.stat().st_mtime_ns for path in sorted((results / "rows").glob("*.csv"))][:2] == before
-    assert (results / "snakemake.log").read_text().count("with external jobid") == 1
-    assert list((results / "jobs").iterdir()) == []
-
-
-def test_cluster_run_that_is_killed(cluster, study, tmp_path):
-    """The job that it leaves is cancelled by the next run, and its steps are done anew."""
-    results = tmp_path / "results"
-    (tmp_path / "hang").touch()
-    with begun(cluster, study, results) as running:
-        job = int(wait_for_the_third(results, running))
-        os.killpg(running.pid, signal.SIGKILL)
-    os.kill(job, 0)
-    (tmp_path / "hang").unlink()
-    with begun(cluster, study, results) as running:
-        output, error = running.communicate()
-    assert running.returncode == 0 and output.startswith("studied 3 models: "), error
-
-
 def test_models_of_the_example():
     study = read_study(EXAMPLES / "trade" / "study.toml")
     assert [model.name for model in study.models[:3]] == ["cost-1-pull-240", "cost-1-pull-480", "cost-3-pull-240"]
@@ -335,6 +273,11 @@ def test_keys_by_their_paths():
     ("to = 3", "to = 999999999", "study.toml: key vary[0].values value 999999999 outside 1 to 10000"),
     ("from = 1\nto = 3\nby = 1", "values = [1, 2, 1]", "study.toml: key vary makes two models of the name contact-1"),
     ('name = "contact"', 'name = "cells"', "study.toml: key vary makes two columns of the name cells"),
+    ('name = "contact"', 'name = "risk_ratio"', "study.toml: key vary makes two columns of the name risk_ratio"),
+    ('name = "contact"', 'name = "open_share"', "study.toml: key vary makes two columns of the name open_share"),
+    ('name = "contact"', 'name = "model_sha256"', "study.toml: key vary makes two columns of the name model_sha256"),
+    ('name = "contact"', 'name = "table_sha256"', "study.toml: key vary makes two columns of the name table_sha256"),
+    ("[[vary]]", '[trade]\nacross = "advised"\nup = "model_sha256"\n[[vary]]', "study.toml: key trade.up model_sha256 is no column of numbers"),
     ("by = 1", "by = 1\nvalues = [1]", "study.toml: key vary[0].by unknown"),
     ("cost.contact", "cost.contacts", "study.toml contact-1: key cost.contacts unknown"),
     ('"cost.contact"]\nfrom = 1', '"horizon"]\nfrom = 0', "study.toml contact-0: key horizon is 0: there is nothing to audit"),
