@@ -57,8 +57,9 @@ def _draw_advice(axes: Axes, model: Model, advice: np.ndarray, differs: np.ndarr
     fill_cells(axes, edges_between(model.own_rate), edges_between(model.altitude), advice, list(paints(model)))
     mark_puck(axes, model)
     rows, columns = np.nonzero(differs)
-    dot = _dot(max(advice.shape))
-    axes.plot(model.own_rate[columns], model.altitude[rows], label="differs", clip_on=False, zorder=3, **dot)
+    if rows.size:  # a line of no points that may leave the axes would leave them no room
+        dot = _dot(max(advice.shape))
+        axes.plot(model.own_rate[columns], model.altitude[rows], label="differs", clip_on=False, zorder=3, **dot)
     _set_axes(axes, model)
 
 

@@ -185,6 +185,8 @@ def test_older_results_without_the_digests(acas, study, tmp_path):
     for path, text in zip(rows, texts):
         path.write_text(",".join(text.rstrip("\n").split(",")[: len(COUNTED)]) + "\n")
     (results / "columns.json").unlink()
+    # Of older results Snakemake has kept no digest of the columns.
+    shutil.rmtree(results / ".snakemake")
     command = [sys.executable, "-B", RUN, "--acas", idle, study, results]
     ended = subprocess.run(command, capture_output=True, text=True, check=False)
     assert ended.returncode == 0 and ended.stdout.startswith("studied 3 models: "), ended.stderr
