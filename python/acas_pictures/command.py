@@ -7,7 +7,7 @@ from matplotlib.figure import Figure
 
 from acas_pictures.canvas import check_ending, resize, save
 from acas_pictures.cost import draw_cost
-from acas_pictures.difference import check_grids, draw_difference
+from acas_pictures.difference import draw_difference
 from acas_pictures.encounter import draw_replay
 from acas_pictures.policy import draw_policy
 from acas_pictures.progress import Progress
@@ -22,6 +22,7 @@ from acas_table import (
     BoxLine, Fault, Manoeuvre, Model, Table, check_flight, check_origin, check_replay, read_line, read_model, read_replay, read_report,
     read_risk, read_safeable, read_separations, read_table,
 )
+from acas_table.comparison import check_grids
 from acas_table.report import check_line
 
 WORDS = argparse.Namespace
@@ -44,7 +45,7 @@ def difference(words: WORDS) -> Figure:
     """The picture of `acas_plot difference`."""
     model = read_model(words.model)
     other = model if words.other_model is None else read_model(words.other_model)
-    check_grids(model, other)
+    check_grids(model, other, model.source, other.source)
     part = layer_of(model, words.layer, words.present, words.intruder)
     return draw_difference(model, read_table(words.table, model), read_table(words.other, other), part, words.title)
 

@@ -13,8 +13,7 @@ from acas_pictures.canvas import (
 )
 from acas_pictures.colours import Paint, paints
 from acas_pictures.slices import Layer, name_of
-from acas_table import Fault, Model, Table
-from acas_table.model import AXES
+from acas_table import Model, Table
 
 MILLION = 10**6
 COLOURS = "PuOr"
@@ -39,17 +38,6 @@ def draw_difference(model: Model, table: Table, other: Table, part: Layer, title
     _add_legend(second, model, np.union1d(entries["advice"], others["advice"]).tolist())
     set_heading(figure, f"Where do two tables differ?\n{name_of(model)}: {part.words(model)}" if title is None else title)
     return figure
-
-
-def check_grids(model: Model, other: Model) -> None:
-    """Refuses a model whose tables have other layers, states or advisories than those of the first."""
-    for axis in AXES:
-        if getattr(model, axis).tolist() != getattr(other, axis).tolist():
-            raise Fault(other.source, f"grid.{axis}", f"is not that of {model.source}")
-    if other.horizon != model.horizon:
-        raise Fault(other.source, "horizon", f"is {other.horizon}, and that of {model.source} is {model.horizon}")
-    if other.names != model.names:
-        raise Fault(other.source, "advisories", f"are {', '.join(other.names)}, and those of {model.source} are {', '.join(model.names)}")
 
 
 def _draw_advice(axes: Axes, model: Model, advice: np.ndarray, differs: np.ndarray) -> None:

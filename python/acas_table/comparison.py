@@ -63,10 +63,15 @@ def _check_grid(first: Table, second: Table) -> None:
         if table.model is None:
             raise Fault(table.source, "model", "is not known, and the two are of two models: read each with its own")
         models.append(table.model)
-    for name, one, other in zip(("advisories", "horizon", *AXES), *map(_grid, models)):
-        if one != other:
+    check_grids(*models, first.source, second.source)
+
+
+def check_grids(first: Model, second: Model, source: str, other: str) -> None:
+    """Refuses two models whose tables have other layers, states or advisories. `source` and `other` are the names of the two in the fault."""
+    for name, one, another in zip(("advisories", "horizon", *AXES), _grid(first), _grid(second)):
+        if one != another:
             field = f"grid.{name}" if name in AXES else name
-            raise Fault(second.source, f"other {field}", f"{_listed(other)} found {_listed(one)} of {first.source}")
+            raise Fault(other, f"other {field}", f"{_listed(another)} found {_listed(one)} of {source}")
 
 
 def _grid(model: Model) -> tuple:

@@ -144,7 +144,7 @@ BAD = [
     ("no table", ("policy", MODEL, MODEL, "old.png", *LEVEL), f"{MODEL}: magic is not ACXT"),
     ("no model", ("policy", TABLE, TABLE, "old.png", *LEVEL), f"{TABLE}: not toml:"),
     ("absent", ("policy", "nowhere.toml", TABLE, "old.png", *LEVEL), "nowhere.toml: cannot be read: No such file or directory"),
-    ("two grids", ("difference", MODEL, TABLE, TABLE, "old.png", *LAYER, "--other-model", OF_RISK), f"{OF_RISK}: grid.altitude is not that of {MODEL}"),
+    ("two grids", ("difference", MODEL, TABLE, TABLE, "old.png", *LAYER, "--other-model", OF_RISK), f"{OF_RISK}: other advisories clear, level found clear, climb, descend of {MODEL}"),
     ("layer", ("difference", MODEL, TABLE, TABLE, "old.png", *LAYER[:2], "--layer", "2", *LAYER[4:]), f"{MODEL}: horizon is 1: no layer 2"),
     ("other table", ("difference", MODEL, TABLE, MODEL, "old.png", *LAYER), f"{MODEL}: magic is not ACXT"),
     ("name", ("policy", MODEL, TABLE, "old.png", "--present", "level", *LEVEL[2:]), f"{MODEL}: advisory level is not in the model"),

@@ -93,6 +93,11 @@ def test_two_grids_are_refused(table, written, changed, example, old, new, fault
     assert str(raised.value) == f"{other.source}: {fault}{TABLE}"
 
 
+def test_costs_and_the_puck_may_differ(table, written, changed):
+    other = written("other.acxt", [], model=changed("c.toml", ("contact = ", "contact = 1"), ("half_height = 100", "half_height = 101")))
+    assert compare(table, other).greatest_upper == 0
+
+
 def test_two_horizons_are_refused(table, changed, tmp_path):
     model = read_model(changed("c.toml", ("horizon = 1", "horizon = 2")))
     layers = table.layers[[0, 1, 1]]

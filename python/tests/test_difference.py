@@ -7,7 +7,7 @@ from conftest import EXAMPLES
 from look import colour_at, legend_of
 
 from acas_pictures.colours import CLEAR, DOWN, UP
-from acas_pictures.difference import check_grids, draw_difference
+from acas_pictures.difference import draw_difference
 from acas_pictures.slices import layer_of
 from acas_table import Fault, read_model, read_table
 
@@ -57,22 +57,6 @@ def test_tables_that_do_not_differ(model):
     assert "differs" not in [line.get_label() for line in first.lines]
     assert not np.asarray(third.collections[0].get_array()).any()
     assert third.get_legend() is None and not any(one.get_hatch() for one in third.collections)
-
-
-@pytest.mark.parametrize(("old", "new", "fault"), [
-    ("altitude = [-1000, -170]", "altitude = [-1000, -171]", "grid.altitude is not that of "),
-    ("own_rate = [0, 60]", "own_rate = [0, 60, 70]", "grid.own_rate is not that of "),
-    ("intruder_rate = [-60, 0]", "intruder_rate = [-60, 1]", "grid.intruder_rate is not that of "),
-    ("horizon = 1", "horizon = 2", "horizon is 2, and that of .* is 1"),
-    ('"climb"', '"up"', "advisories are clear, up, descend, and those of .* are clear, climb, descend"),
-])
-def test_grids_that_differ(model, changed, old, new, fault):
-    with pytest.raises(Fault, match=fault):
-        check_grids(model, read_model(changed("c.toml", (old, new))))
-
-
-def test_costs_and_the_puck_may_differ(model, changed):
-    check_grids(model, read_model(changed("c.toml", ("contact = ", "contact = 1"), ("half_height = 100", "half_height = 101"))))
 
 
 def test_layers_with_advice(model):
