@@ -3,8 +3,25 @@ ghost use Rattle.std.specs.Prelude.{◌≡◌, ◌^◌, ◌<◌, ◌≤◌, ◌+
 ghost use Rattle.std.specs.Int.{IsGcd};
 ghost use Rattle.acas_frac.specs.Fraction.{signed};
 
-/// The greatest common divisor, by Euclid's algorithm.
+/// The greatest common divisor, by Euclid's algorithm, which goes on in 64 bits once the smaller number fits them.
 pub fn gcd(a: u128, b: u128) -> u128
+    ensures { IsGcd a b result }
+{
+    let mut x = a;
+    let mut y = b;
+    while y > u128::from(u64::MAX) {
+        let rest = x % y;
+        x = y;
+        y = rest;
+    }
+    if y == 0 {
+        return x;
+    }
+    u128::from(narrow_gcd(y as u64, (x % y) as u64))
+}
+
+// The greatest common divisor of two numbers of 64 bits.
+fn narrow_gcd(a: u64, b: u64) -> u64
     ensures { IsGcd a b result }
 {
     let mut x = a;

@@ -66,17 +66,18 @@ fn append_places(out: &mut Vec<u8>, magnitude: u128) -> Result<(), AllocError>
 pub(crate) fn last_six(n: u128) -> [u8; 6]
     ensures { result ≡ six_digits n }
 {
+    let places = (n % 1_000_000) as u32;
     [
-        last_digit(n / 100_000),
-        last_digit(n / 10_000),
-        last_digit(n / 1_000),
-        last_digit(n / 100),
-        last_digit(n / 10),
-        last_digit(n),
+        last_digit(places / 100_000),
+        last_digit(places / 10_000),
+        last_digit(places / 1_000),
+        last_digit(places / 100),
+        last_digit(places / 10),
+        last_digit(places),
     ]
 }
 
-fn last_digit(n: u128) -> u8
+fn last_digit(n: u32) -> u8
     ensures { result ≡ 48 + n % 10 }
 {
     b'0' + (n % 10) as u8
