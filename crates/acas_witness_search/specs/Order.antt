@@ -1,5 +1,5 @@
 -- The order of the passes by the quantities that they move.
-use Rattle.std.specs.Prelude.{Option, Some, None}
+use Rattle.std.specs.Prelude.{Option, Some, None, Bool, true, false}
 use Rattle.acas_witness_search.specs.declared.quantity.Quantity.{Quantity}
 use Rattle.acas_witness_search.specs.declared.quantity.Quantity.TheVariants.{Time, Altitude, Intruder, Aim, Pull, Hold, Own}
 
@@ -12,3 +12,13 @@ next_of Aim = Some Pull
 next_of Pull = Some Hold
 next_of Hold = Some Own
 next_of Own = None
+
+-- the value of a flight never falls along the pass
+abbrev pub rises : Quantity → Bool
+rises Time = false
+rises Altitude = true
+rises Intruder = true
+rises Aim = true
+rises Pull = false
+rises Hold = false
+rises Own = false

@@ -1,5 +1,5 @@
 -- The search of a survey, and its passes.
-use Rattle.std.specs.Prelude.{◌≡◌, ℕ, true, false, ℤ, pos, ◌*ℤ◌}
+use Rattle.std.specs.Prelude.{◌≡◌, ℕ, Bool, true, false, ℤ, pos, ◌*ℤ◌}
 use Rattle.acas_flight.specs.Response.{Demand}
 use Rattle.acas_region_curves.specs.Chases.{demand_from}
 use Rattle.acas_region_curves.specs.View.{area_of}
@@ -40,6 +40,10 @@ IsPointOf s pass i p = IsPlanOf (unit (search_of s)) ((pass (search_of s)).point
 -- the plan is that of the high flight from a rate of so many steps
 abbrev pub IsHighPlan : Survey → ℤ → Plan → Type 0
 IsHighPlan s rate p = IsPlanOf (unit (search_of s)) (high_flight_from (search_of s) (rate *ℤ pos (rate_step (search_of s)))) p
+
+-- the flight of that number in the pass over a quantity is below
+abbrev pub below_in : Survey → Quantity → ℕ → Bool
+below_in s q = below_at (value (unit (search_of s))) s.half (pass_of q (search_of s))
 
 -- the first flight of a pass is below
 abbrev pub StartsBelow : Survey → (Search → Pass Flight) → Type 0

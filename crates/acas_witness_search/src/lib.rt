@@ -1,6 +1,8 @@
 //! The search of a flight that ends in contact: its passes, one after the other.
 #![tactic(auto)]
 
+mod first;
+mod guess;
 mod lasts;
 mod plans;
 mod quantity;

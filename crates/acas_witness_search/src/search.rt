@@ -6,12 +6,14 @@ ghost use Rattle.acas_passes.specs.Search.{low_flight, passes, unit};
 ghost use Rattle.acas_witness_search.specs.Passes.{IsEndIn, IsHitIn, IsMissedIn, passes_from};
 ghost use Rattle.acas_witness_search.specs.Surveys.{EndsNotBelow, StartsBelow, pass_of, search_of};
 
+use crate::first::first_from;
 use crate::quantity::{Quantity, SearchPass};
 use crate::survey::Survey;
 use acas_passes::{Pass, halve};
 use acas_witness_plans::Outcome;
 
-// The flight at which the halving of a pass ends, if the last flight of the pass is not below.
+// The flight at which the halving of a pass ends, if the last flight of the pass is not below. Where the values of a pass never fall, it
+// is searched from a guess.
 fn hit(survey: &Survey, quantity: Quantity) -> Option<Outcome>
     requires { StartsBelow survey.now (pass_of quantity) }
     ensures { MatchOption result
@@ -23,10 +25,13 @@ fn hit(survey: &Survey, quantity: Quantity) -> Option<Outcome>
         quantity,
         last: survey.last(quantity),
     };
-    if pass.is_below(&pass.at(pass.last)) {
-        None
-    } else {
-        Some(halve(&pass, pass.last))
+    let last = pass.at(pass.last);
+    if pass.is_below(&last) {
+        return None;
+    }
+    match survey.guess(quantity, pass.last, &last) {
+        Some(guess) => Some(first_from(&pass, &last, guess)),
+        None => Some(halve(&pass, pass.last)),
     }
 }
 
