@@ -1,5 +1,5 @@
 -- A table that is accepted or refused, from its header to its end.
-use Rattle.std.proofs.Common.{ℕ, ◌+◌, ◌≤◌, List, Option, None, Some, Result, Ok, Err, sym, subst, arith}
+use Rattle.std.proofs.Common.{◌≡◌, ◌∙◌, ℕ, ◌+◌, ◌≤◌, List, Option, None, Some, Result, Ok, Err, sym, subst, arith}
 use Rattle.std.specs.Prelude.{IfOk, IfSome}
 use Rattle.std.specs.FinMap.{get}
 use Rattle.acas_spec.specs.Limits.{IsModel}
@@ -8,10 +8,11 @@ use Rattle.acas_base.specs.Advices.{AdvicesData}
 use Rattle.acas_layers.specs.Layers.{LayersData}
 use Rattle.acas_outside.specs.Bytes.{IsBytes}
 use Rattle.acas_outside.specs.Files.{Files, Given}
-use Rattle.acas_table.specs.Reader.{Told}
+use Rattle.acas_table.specs.Reader.{Told, reader_state}
 use Rattle.acas_table_text.specs.Shape.{shape_of}
 use Rattle.acas_table_text.proofs.FieldFaults.{advice_small}
-use Rattle.acas_table_text.specs.Format.{format_of}
+use Rattle.acas_table_text.specs.Format.{expected_length, format_of, length_of}
+use Rattle.acas_table_text.specs.declared.format.Format.{Format}
 use Rattle.acas_table_text.proofs.Twice.{each_entry_none}
 use Rattle.acas_table_text.proofs.Texts.{text_given_small}
 use Rattle.acas_table.proofs.Told.{told_both, told_map}
@@ -79,6 +80,18 @@ module _ {X : Type 0} (IsOf : List ℕ → X → Type 0) (m : ModelData) (digest
       let whole = both.1 (both.0 accepted).0 in
       (whole.none, text_is_bytes m digest bytes v small whole, (both.0 accepted).1))
       (told_both holds name _ _ reads ends))
+
+-- ---- how much of it was read
+
+-- what holds of the length in the format that was read holds of the length that the bytes are to have
+pub file_expected : (P : ℕ → Type 0) (m : ModelData) (digest : List ℕ) (holds : Option Files) (name : List ℕ) (t : TableCheck) (format : Format) → format ≡ (reader_state t.reader).format
+    → Given holds name (λ file. Begins m digest file (Ok t)) → P (length_of format (shape_of m.grid)) → Told holds name (λ bytes. P (expected_length (shape_of m.grid) bytes))
+file_expected P m digest None name t format same begins long = tt
+file_expected P m digest (Some files) name t format same begins long = of_file (get files name) begins
+  where
+    of_file : (file : Option (List ℕ)) → Begins m digest file (Ok t) → IfSome file (λ bytes. P (expected_length (shape_of m.grid) bytes))
+    of_file None begins = tt
+    of_file (Some bytes) begins = subst (λ (f : Format). P (length_of f (shape_of m.grid))) (same ∙ sym begins.stands.format) long
 
 -- ---- what is given
 

@@ -92,6 +92,7 @@ unsound_answered m digest t n state bytes entry fault check seconds inside withi
 pub record Keeps (old : TableCheck) (r : TableReader) (new : TableCheck) (state : ℕ) (entry : Entry) : Type 0 where
   pub reader : new.reader ≡ r
   pub means : new.means ≡ old.means
+  pub leasts : new.leasts ≡ old.leasts
   pub pairs : new.pairs.items ≡ set old.pairs.items state entry.pair
   pub advice : new.advice.items ≡ set old.advice.items state entry.advice
 
@@ -123,6 +124,7 @@ check_next m old r new n state entry check seconds inside on keeps allowed = rec
   pairs = ap length keeps.pairs ∙ length-set old.pairs.items state entry.pair ∙ check.pairs;
   advice = ap length keeps.advice ∙ length-set old.advice.items state entry.advice ∙ check.advice;
   means = ap (λ (v : Vec Pair Global). length v.items) keeps.means ∙ check.means;
+  leasts = rw (keeps.means, keeps.leasts) check.leasts;
   allowed = subst (MayBeChosen m n (state + 1)) (sym keeps.advice) (chosen_next m n state old.advice.items entry.advice (omega (arith, check.advice)) check.allowed allowed);
 }
 
@@ -215,6 +217,7 @@ check_next_layer m t n check = record {
   pairs = check.pairs;
   advice = check.advice;
   means = check.means;
+  leasts = check.leasts;
   allowed = record { each = λ s some none. absurd (omega (arith, none)) };
 }
 

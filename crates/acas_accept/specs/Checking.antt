@@ -13,6 +13,7 @@ use Rattle.acas_table_text.specs.Tables.{layers_at}
 use Rattle.acas_table_text.specs.Text.{text_of_layers}
 use Rattle.acas_accept.specs.GivenTable.{entry_place, given_table}
 use Rattle.acas_accept.specs.Keeping.{AreRead, MayBeChosen}
+use Rattle.acas_accept.specs.Leasts.{HaveLeasts}
 use Rattle.acas_accept.specs.Refusals.{entry_refusal, first_refusal}
 use Rattle.acas_accept.specs.declared.check.TableCheck.{TableCheck}
 use Rattle.acas_accept.specs.declared.refusal.AcceptFault.{AcceptFault}
@@ -28,6 +29,7 @@ pub record IsCheckOf (m : ModelData) (t : TableCheck) (n state : ℕ) : Type 0 w
   pub pairs : length t.pairs.items ≡ states m.grid
   pub advice : length t.advice.items ≡ states m.grid
   pub means : length t.means.items ≡ states m.grid
+  pub leasts : HaveLeasts m t.means.items t.leasts
   pub allowed : MayBeChosen m n state t.advice.items
 
 -- the reader has read so many entries of these bytes, and none has a refusal

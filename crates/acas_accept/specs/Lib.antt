@@ -4,4 +4,5 @@ pub mod Accepted
 pub mod Keeping
 pub mod Answers
 pub mod Faults
+pub mod Leasts
 pub mod Checking

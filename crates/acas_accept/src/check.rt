@@ -10,27 +10,32 @@ ghost use Rattle.acas_table_text.specs.Shape.{entry_count, shape_of};
 ghost use Rattle.acas_table.specs.Source.{Takes};
 ghost use Rattle.acas_table_text.specs.Format.{expected_length, length_of};
 ghost use Rattle.acas_table_text.specs.declared.format.Format.TheVariants.{Layered};
+ghost use Rattle.acas_bounds.specs.Leasts.{AreLeasts};
 ghost use Rattle.acas_bounds.specs.Planes.{IsPlane};
 ghost use Rattle.acas_accept.specs.Checking.{Begins, HasAccepted, HasNoRefusal, IsAnswer, IsBeforeLayer, IsCheckOf, IsInLayer};
 ghost use Rattle.acas_accept.specs.Faults.{IsAnswerable, answered};
+ghost use Rattle.acas_accept.specs.Leasts.{HaveLeasts};
 
 use crate::keeping::KeepsLayers;
+use crate::leasts::Leasts;
 use crate::refusal::AcceptFault;
 use acas_base::Model;
-use acas_bounds::{Plane, check_at};
+use acas_bounds::{Plane, check_at, is_seen_sound};
 use acas_outside::Folder;
 use acas_step::{LayerMeans, fill_means_with};
 use acas_table::{TableFault, TableReader, TableRefusal};
 use acas_units::{Entry, Pair};
 use std::alloc::{AllocError, Global};
 
-/// A table in check: its reader, the values and advices of the layer in work, and the means of the layer below it.
+/// A table in check: its reader, the values and advices of the layer in work, the means of the layer below it, and the least lower
+/// values of a plane by them.
 #[derive(Drop)]
 pub struct TableCheck {
     reader: TableReader,
     pairs: Vec<Pair>,
     advice: Vec<u8>,
     means: Vec<Pair>,
+    leasts: Leasts,
 }
 
 fn refused(fault: TableFault) -> AcceptFault
@@ -78,7 +83,8 @@ impl TableCheck {
         }
     }
 
-    // The check of a table whose header this reader has read.
+    // The check of a table whose header this reader has read. Besides two layers it takes a byte for each state, and 8 bytes for each
+    // vertex.
     fn new(alloc: Global, model: &Model, reader: TableReader) -> Result<TableCheck, AllocError>
         requires shape { (reader_state reader).shape ≡ shape_of model.now.grid }
         requires given { (reader_state reader).given ≡ 0 }
@@ -93,6 +99,7 @@ impl TableCheck {
             pairs: vec![in alloc; Pair { upper: 0, lower: 0 }; states]?,
             advice: vec![in alloc; 0u8; states]?,
             means: vec![in alloc; Pair { upper: 0, lower: 0 }; states]?,
+            leasts: Leasts::new(alloc, model)?,
         })
     }
 
@@ -107,7 +114,8 @@ impl TableCheck {
         ensures reader { self.new.reader ≡ self.old.reader }
     {
         if n > 0 {
-            fill_means_with(model, layer_means, &self.pairs, &mut self.means);
+            let size = fill_means_with(model, layer_means, &self.pairs, &mut self.means);
+            self.leasts.forget(size);
         }
     }
 
@@ -117,6 +125,7 @@ impl TableCheck {
         requires advice { state < length self.old.advice.items }
         ensures reader { self.new.reader ≡ self.old.reader }
         ensures means { self.new.means ≡ self.old.means }
+        ensures leasts { self.new.leasts ≡ self.old.leasts }
         ensures pairs { self.new.pairs.items ≡ set self.old.pairs.items state entry.now.pair }
         ensures advice { self.new.advice.items ≡ set self.old.advice.items state entry.now.advice }
     {
@@ -124,12 +133,33 @@ impl TableCheck {
         self.advice[state as usize] = entry.advice;
     }
 
-    // Reads and checks the entry with n seconds to go of the state at a vertex under a plane's present advisory.
+    // Finds the least lower values of a plane with n seconds to go, where that is quickly done or serves a plane beside it too. It gives
+    // whether they are found.
+    fn find_leasts(&mut self, model: &Model, n: u32, plane: &Plane) -> bool
+        requires plane { IsPlane model.now plane.now }
+        requires means { length self.old.means.items ≡ states model.now.grid }
+        requires leasts { HaveLeasts model.now self.old.means.items self.old.leasts }
+        ensures found { IsTrue result
+            → AreLeasts model.now self.new.means.items plane.now.present self.new.leasts.values.items }
+        ensures check { (state : ℕ) → IsCheckOf model.now self.old n state
+            → IsCheckOf model.now self.new n state }
+        ensures given { (digest : List ℕ) (state : ℕ) (bytes : List ℕ) →
+            IsInLayer model.now digest self.old n state bytes
+            → IsInLayer model.now digest self.new n state bytes }
+        ensures reader { self.new.reader ≡ self.old.reader }
+    {
+        self.leasts.find(model, n, plane, &self.means)
+    }
+
+    // Reads and checks the entry with n seconds to go of the state at a vertex under a plane's present advisory, by the plane's least
+    // lower values where they are found. It is called for the entries that the quick look leaves.
+    #[inline(never)]
     fn entry<F: Folder>(
         &mut self,
         model: &Model,
         n: u32,
         plane: &Plane,
+        found: bool,
         vertex: u32,
         state: u32,
         folder: &mut F,
@@ -138,6 +168,8 @@ impl TableCheck {
         requires served { IsTrue (F.serves folder.old name.now) }
         requires n { n ≤ model.now.grid.horizon }
         requires plane { IsPlane model.now plane.now }
+        requires found { IsTrue found
+            → AreLeasts model.now self.old.means.items plane.now.present self.old.leasts.values.items }
         requires vertex { vertex < vertices model.now.grid }
         requires state { state < states model.now.grid }
         requires place { state ≡ state_number model.now.grid plane.now.present vertex }
@@ -147,6 +179,8 @@ impl TableCheck {
             (λ _. IsInLayer model.now digest self.new n (state + 1) bytes)
             (IsAnswer model.now digest bytes)) }
         ensures check { OnOk result (IsCheckOf model.now self.new n (state + 1)) }
+        ensures means { self.new.means ≡ self.old.means }
+        ensures leasts { self.new.leasts ≡ self.old.leasts }
         ensures shape { (reader_state self.new.reader).shape ≡ (reader_state self.old.reader).shape }
         ensures format { (reader_state self.new.reader).format ≡ (reader_state self.old.reader).format }
         ensures taken { Takes F.Folder folder.old folder.new
@@ -159,7 +193,8 @@ impl TableCheck {
             Ok(entry) => entry,
             Err(fault) => return Err(refused(fault)),
         };
-        match check_at(model, n, plane, vertex, &entry, &self.means) {
+        let leasts = self.leasts.where_found(found);
+        match check_at(model, n, plane, vertex, &entry, &self.means, leasts) {
             Ok(()) => {
                 self.keep(state, &entry);
                 Ok(())
@@ -170,6 +205,48 @@ impl TableCheck {
                 fault,
             })),
         }
+    }
+
+    // Takes and keeps the entry with n seconds to go of the state at a vertex under a plane's present advisory, where it is at hand and
+    // is seen at a quick look to be sound. Otherwise it changes nothing.
+    fn quick_entry(
+        &mut self,
+        model: &Model,
+        n: u32,
+        plane: &Plane,
+        found: bool,
+        vertex: u32,
+        state: u32,
+    ) -> bool
+        requires n { n ≤ model.now.grid.horizon }
+        requires plane { IsPlane model.now plane.now }
+        requires found { IsTrue found
+            → AreLeasts model.now self.old.means.items plane.now.present self.old.leasts.values.items }
+        requires vertex { vertex < vertices model.now.grid }
+        requires state { state < states model.now.grid }
+        requires place { state ≡ state_number model.now.grid plane.now.present vertex }
+        requires check { IsCheckOf model.now self.old n state }
+        ensures given { IsTrue result → (digest bytes : List ℕ)
+            → IsInLayer model.now digest self.old n state bytes
+            → IsInLayer model.now digest self.new n (state + 1) bytes }
+        ensures check { IsTrue result → IsCheckOf model.now self.new n (state + 1) }
+        ensures means { self.new.means ≡ self.old.means }
+        ensures leasts { self.new.leasts ≡ self.old.leasts }
+        ensures shape { (reader_state self.new.reader).shape ≡ (reader_state self.old.reader).shape }
+        ensures format { (reader_state self.new.reader).format ≡ (reader_state self.old.reader).format }
+        ensures taken { (reader_state self.new.reader).taken ≡ (reader_state self.old.reader).taken }
+        ensures none { result ≡ false → self.new ≡ self.old }
+    {
+        let Some(entry) = self.reader.peek() else {
+            return false;
+        };
+        let leasts = self.leasts.where_found(found);
+        if !is_seen_sound(model, n, plane, vertex, &entry, &self.means, leasts) {
+            return false;
+        }
+        self.reader.pass();
+        self.keep(state, &entry);
+        true
     }
 
     // Reads and checks the entries with n seconds to go of the states where an advisory is present.
@@ -202,9 +279,13 @@ impl TableCheck {
     {
         let vertices = model.grid().vertices();
         let plane = Plane::new(model, present);
+        let found = self.find_leasts(model, n, &plane);
         for vertex in 0..vertices {
             let state = u32::from(present) * vertices + vertex;
-            self.entry(model, n, &plane, vertex, state, folder, name)?;
+            if self.quick_entry(model, n, &plane, found, vertex, state) {
+                continue;
+            }
+            self.entry(model, n, &plane, found, vertex, state, folder, name)?;
         }
         Ok(())
     }

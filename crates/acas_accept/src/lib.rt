@@ -5,6 +5,7 @@
 mod check;
 mod keeping;
 mod laws;
+mod leasts;
 mod refusal;
 mod whole;
 

@@ -56,8 +56,8 @@ fn accept_keeping<M: LayerMeans, K: KeepsLayers, F: Folder>(
 
 /// Reads and checks a whole table of a model, whose text has this digest, in either format. Each entry is looked at
 /// before the next is read: its bytes, its advice, and its soundness. It takes what forms the model's means, two
-/// layers, a byte for each advice, a byte for each state and the reader's buffer, and gives the advices of the layers
-/// from 1 on.
+/// layers, a byte for each advice, a byte for each state, 8 bytes for each vertex and the reader's buffer, and gives the
+/// advices of the layers from 1 on.
 ///
 /// Over every folder, an accepted table is read once, and of no file is more read than one byte more than the length of
 /// a table of the version that it names.

@@ -1,6 +1,6 @@
 -- All advices, one after another: what is decided below one, and how many decisions that took.
-use Rattle.std.proofs.Common.{◌≡◌, ℕ, zero, suc, ◌+◌, ◌<◌, ◌≤◌, ◌↔◌, inl, inr, Bool, true, false, refl, sym, ◌∙◌, subst, arith}
-use Rattle.std.proofs.lemmas.Bool.{cases_eq}
+use Rattle.std.proofs.Common.{◌≡◌, ℕ, zero, suc, ◌+◌, ◌<◌, ◌≤◌, ◌↔◌, ◌||◌, inl, inr, Bool, true, false, refl, sym, ◌∙◌, subst, arith}
+use Rattle.std.proofs.lemmas.Bool.{cases_eq, cases_lt}
 use Rattle.acas_spec.specs.Model.{ModelData}
 use Rattle.acas_base.specs.Advices.{AdvicesData}
 use Rattle.acas_flight.specs.Contact.{IsEndangeredCell}
@@ -108,6 +108,15 @@ sorted_exact D _ _ _ (not_asked _) = ((λ e. absurd (cc), λ p. p.0), (λ e. abs
 sorted_exact D _ _ _ (no_danger _ none) = ((λ e. (refl, none), λ p. refl), (λ e. absurd (cc), λ p. absurd (none p.1)))
 sorted_exact D _ _ _ (danger _ some) = ((λ e. absurd (cc), λ p. absurd (p.1 some)), (λ e. (refl, some), λ p. refl))
 
+-- an advice that waited is in one of the sets, and no other is
+sorted_tabled : (D : Type 0) (r c' r' : Bool) → IsSorted D false r c' r' → (c' || r') ≡ r
+sorted_tabled D _ _ _ (not_asked _) = refl
+sorted_tabled D _ _ _ (no_danger _ none) = refl
+sorted_tabled D _ _ _ (danger _ some) = refl
+
+or_false : (x y : Bool) → x ≡ false → (x || y) ≡ y
+or_false x y e = rw e refl
+
 pub exact_lists : (m : ModelData) (a : AdvicesData) (n present : ℕ) (audit : BlockAuditData) → IsAuditOf m audit →
     IsDecidedBelow m a n present m.grid.advisories audit → AreListsOf m a n present audit
 exact_lists m a n present audit of decided = record {
@@ -116,6 +125,12 @@ exact_lists m a n present audit of decided = record {
       let place : IsPlace audit i j k = record { altitude = omega (arith, cell.i, of.altitudes); own = omega (arith, cell.j, of.own_rates); intruder = omega (arith, cell.k, of.intruder_rates) } in
       let both = sorted_exact _ _ _ _ (decided.done i j k advice place known) in
       record { certified = both.0; reported = both.1 };
+  tabled = λ i j k advice cell.
+      let place : IsPlace audit i j k = record { altitude = omega (arith, cell.i, of.altitudes); own = omega (arith, cell.j, of.own_rates); intruder = omega (arith, cell.k, of.intruder_rates) } in
+      elim (cases_lt advice m.grid.advisories) [
+        | inl known ↦ sorted_tabled _ _ _ _ (decided.done i j k advice place known)
+        | inr above ↦ or_false _ _ (decided.none i j k advice place above) ∙ decided.tabled i j k advice place above
+      ];
 }
 
 -- ---- how many decisions

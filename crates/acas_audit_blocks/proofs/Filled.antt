@@ -1,57 +1,83 @@
--- The lists of a block audit before any advice is decided.
-use Rattle.std.proofs.Common.{◌≡◌, ℕ, ◌+◌, ◌*◌, ◌/◌, ◌%◌, ◌<◌, inl, inr, List, [], ◌∷◌, ◌++◌, length, get_or, refl, sym, ◌∙◌, ap, subst, arith}
+-- The lists of a block audit before any advice is decided, cell by cell.
+use Rattle.std.proofs.Common.{◌≡◌, ℕ, ◌+◌, ◌<◌, inl, inr, false, List, [], ◌∷◌, ◌++◌, length, get_or, refl, sym, ◌∙◌, ap, subst, arith}
 use Rattle.std.proofs.lemmas.Bool.{cases_eq}
 use Rattle.std.proofs.lemmas.List.{get_or_append_left, get_or_push, length_push}
-use Rattle.std.proofs.lemmas.Nat.{div-mul-add, div_below, mod-mul-add, mod_below}
 use Rattle.acas_spec.specs.Model.{ModelData}
 use Rattle.acas_base.specs.Advices.{AdvicesData}
-use Rattle.acas_grid.proofs.Vertices.{some_width}
-use Rattle.acas_audit_blocks.specs.Audits.{BlockAuditData, IsPlace, cell_count, no_advice, place_of}
+use Rattle.acas_audit_blocks.specs.Audits.{AreFilledTo, AreUndecided, BlockAuditData, IsPlace, cell_count, no_advice, place_of}
 use Rattle.acas_cells.specs.Cells.{cell_at}
 use Rattle.acas_cells.specs.Corners.{is_advised}
+use Rattle.acas_cells.specs.Sets.{holds}
 use Rattle.acas_cells.specs.declared.set.AdviceSet.{AdviceSet}
+use Rattle.acas_audit_blocks.proofs.Ruled.{one_place, place_within}
 
--- what holds of each set of a list, and of one more, holds of each set of both
-pub pushed_holds : (Q : ℕ → AdviceSet → Type 0) (old new : List AdviceSet) (s : AdviceSet) (n : ℕ) → length old ≡ n → new ≡ old ++ s ∷ [] →
-    ((p : ℕ) → p < n → Q p (get_or old p no_advice)) → Q n s → (p : ℕ) → p < n + 1 → Q p (get_or new p no_advice)
-pushed_holds Q old new s n long is each last p within =
-    subst (λ (l : List AdviceSet). Q p (get_or l p no_advice)) (sym is)
+-- what holds of the set at each place of a list, and of one more, holds of those of both
+pushed_holds : (Q : AdviceSet → Type 0) (old new : List AdviceSet) (s : AdviceSet) (n p : ℕ) → length old ≡ n → new ≡ old ++ s ∷ [] → p < n + 1 →
+    (p < n → Q (get_or old p no_advice)) → (p ≡ n → Q s) → Q (get_or new p no_advice)
+pushed_holds Q old new s n p long is within each last =
+    subst (λ (l : List AdviceSet). Q (get_or l p no_advice)) (sym is)
     (elim (cases_eq p n) [
-      | inl same ↦ subst (λ (x : ℕ). Q x (get_or (old ++ s ∷ []) x no_advice)) (sym same) (subst (λ (t : AdviceSet). Q n t) (sym (get_or_push old s no_advice n long)) last)
-      | inr other ↦ subst (λ (t : AdviceSet). Q p t) (sym (get_or_append_left old (s ∷ []) no_advice p (omega (arith, within, other, long)))) (each p (omega (arith, within, other)))
+      | inl same ↦ subst (λ (x : ℕ). Q (get_or (old ++ s ∷ []) x no_advice)) (sym same) (subst Q (sym (get_or_push old s no_advice n long)) (last same))
+      | inr other ↦ subst Q (sym (get_or_append_left old (s ∷ []) no_advice p (omega (arith, within, other, long)))) (each (omega (arith, within, other)))
     ])
 
-pub pushed_long : (old new : List AdviceSet) (s : AdviceSet) (n : ℕ) → length old ≡ n → new ≡ old ++ s ∷ [] → length new ≡ n + 1
+pushed_long : (old new : List AdviceSet) (s : AdviceSet) (n : ℕ) → length old ≡ n → new ≡ old ++ s ∷ [] → length new ≡ n + 1
 pushed_long old new s n long is =
     let e : length new ≡ length old + 1 = ap length is ∙ length_push old s in
     omega (arith, e, long)
 
--- the cell at a place of the lists
-pub cell_of_place : (a : BlockAuditData) (p : ℕ) → p < cell_count a → IsPlace a (p / a.intruder_rates / a.own_rates) (p / a.intruder_rates % a.own_rates) (p % a.intruder_rates)
-cell_of_place a p within =
-    let width = some_width (a.altitudes * a.own_rates) a.intruder_rates p within in
-    let row = div_below p a.intruder_rates (a.altitudes * a.own_rates) width within in
-    let height = some_width a.altitudes a.own_rates (p / a.intruder_rates) row in
-    record {
-      altitude = div_below (p / a.intruder_rates) a.own_rates a.altitudes height row;
-      own = mod_below (p / a.intruder_rates) a.own_rates height;
-      intruder = mod_below p a.intruder_rates width;
-    }
+-- nothing stands before the first place
+pub filled_none : (m : ModelData) (a : AdvicesData) (n present : ℕ) (audit : BlockAuditData) → audit.certified ≡ [] → audit.reported ≡ [] → AreFilledTo m a n present 0 audit
+filled_none m a n present audit first second = record {
+  certified = ap length first;
+  reported = ap length second;
+  none = λ i j k advice place before. absurd (omega (arith, before));
+  tabled = λ i j k advice place before. absurd (omega (arith, before));
+}
 
--- the places of a cell again, from where its sets stand
-pub places_again : (a : BlockAuditData) (i j k : ℕ) → IsPlace a i j k → let p = place_of a i j k in
-    (p / a.intruder_rates / a.own_rates ≡ i) × (p / a.intruder_rates % a.own_rates ≡ j) × (p % a.intruder_rates ≡ k)
-places_again a i j k place =
-    let row : place_of a i j k / a.intruder_rates ≡ i * a.own_rates + j = div-mul-add (i * a.own_rates + j) a.intruder_rates k place.intruder in (
-      ap (λ (r : ℕ). r / a.own_rates) row ∙ div-mul-add i a.own_rates j place.own,
-      ap (λ (r : ℕ). r % a.own_rates) row ∙ mod-mul-add i a.own_rates j place.own,
-      mod-mul-add (i * a.own_rates + j) a.intruder_rates k place.intruder,
-    )
+-- one cell more
+pub filled_next : (m : ModelData) (a : AdvicesData) (n present i j k : ℕ) (audit : BlockAuditData) (first second : List AdviceSet) (none some : AdviceSet) →
+    IsPlace audit i j k → AreFilledTo m a n present (place_of audit i j k) audit → first ≡ audit.certified ++ none ∷ [] → second ≡ audit.reported ++ some ∷ [] →
+    ((advice : ℕ) → holds none advice ≡ false) → ((advice : ℕ) → holds some advice ≡ is_advised m a (cell_at n present i j k) advice) →
+    AreFilledTo m a n present (place_of audit i j k + 1) (record audit { certified = first; reported = second })
+filled_next m a n present i j k audit first second none some here before is_first is_second empty tabled = record {
+  certified = pushed_long audit.certified first none (place_of audit i j k) before.certified is_first;
+  reported = pushed_long audit.reported second some (place_of audit i j k) before.reported is_second;
+  none = λ x y z advice place within.
+      pushed_holds (λ s. holds s advice ≡ false) audit.certified first none (place_of audit i j k) (place_of audit x y z) before.certified is_first within
+      (λ less. before.none x y z advice (was x y z place) less) (λ same. empty advice);
+  tabled = λ x y z advice place within.
+      pushed_holds (λ s. holds s advice ≡ is_advised m a (cell_at n present x y z) advice) audit.reported second some (place_of audit i j k) (place_of audit x y z) before.reported is_second within
+      (λ less. before.tabled x y z advice (was x y z place) less)
+      (λ same.
+      let one = one_place audit x y z i j k (was x y z place) here same in
+      tabled advice ∙ advised_same advice i j k x y z (sym one.0) (sym one.1) (sym one.2));
+}
+  where
+    was : (x y z : ℕ) → IsPlace (record audit { certified = first; reported = second }) x y z → IsPlace audit x y z
+    was x y z place = record { altitude = place.altitude; own = place.own; intruder = place.intruder }
 
-pub advised_same : (m : ModelData) (a : AdvicesData) (n present advice i j k i' j' k' : ℕ) → i ≡ i' → j ≡ j' → k ≡ k' →
-    is_advised m a (cell_at n present i j k) advice ≡ is_advised m a (cell_at n present i' j' k') advice
-advised_same m a n present advice i j k i' j' k' e f g = rw (e, f, g) refl
+    advised_same : (advice i j k x y z : ℕ) → i ≡ x → j ≡ y → k ≡ z → is_advised m a (cell_at n present i j k) advice ≡ is_advised m a (cell_at n present x y z) advice
+    advised_same advice i j k x y z e f g = rw (e, f, g) refl
 
--- as many cells where there are as many along each axis
-pub same_count : (x y z p q r : ℕ) → x ≡ p → y ≡ q → z ≡ r → x * y * z ≡ p * q * r
-same_count x y z p q r e f g = rw (e, f, g) refl
+-- the same up to another place, and for an audit with the same fields
+pub filled_to : (m : ModelData) (a : AdvicesData) (n present upto other : ℕ) (audit : BlockAuditData) → upto ≡ other → AreFilledTo m a n present upto audit → AreFilledTo m a n present other audit
+filled_to m a n present upto other audit e filled = subst (λ (x : ℕ). AreFilledTo m a n present x audit) e filled
+
+-- the end of a row is the start of the next, and the end of a plane too
+pub row_end : (a : BlockAuditData) (i j : ℕ) → place_of a i j a.intruder_rates ≡ place_of a i (j + 1) 0
+row_end a i j = omega arith
+
+pub plane_end : (a : BlockAuditData) (i : ℕ) → place_of a i a.own_rates 0 ≡ place_of a (i + 1) 0 0
+plane_end a i = omega arith
+
+pub whole_end : (a : BlockAuditData) → place_of a a.altitudes 0 0 ≡ cell_count a
+whole_end a = omega arith
+
+-- the lists of all cells
+pub filled_whole : (m : ModelData) (a : AdvicesData) (n present : ℕ) (audit : BlockAuditData) → AreFilledTo m a n present (cell_count audit) audit → AreUndecided m a n present audit
+filled_whole m a n present audit filled = record {
+  lists = record { certified = filled.certified; reported = filled.reported };
+  none = λ i j k advice place. filled.none i j k advice place (place_within audit i j k place);
+  tabled = λ i j k advice place. filled.tabled i j k advice place (place_within audit i j k place);
+}

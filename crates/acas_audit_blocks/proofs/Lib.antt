@@ -5,3 +5,4 @@ pub mod Blocks
 pub mod Counted
 pub mod Ruled
 pub mod Rows
+pub mod Moved

@@ -1,12 +1,10 @@
 -- How the lists of a block audit change while an advice is decided.
-use Rattle.std.proofs.Common.{◌≡◌, ℕ, ◌+◌, ◌*◌, ◌<◌, inl, inr, ◌==◌, ◌&&◌, ◌||◌, not, Bool, true, false, List, length, get_or, set, refl, sym, ◌∙◌, ap, subst, arith}
-use Rattle.std.proofs.lemmas.Bool.{cases_eq}
+use Rattle.std.proofs.Common.{◌≡◌, ℕ, ◌+◌, ◌*◌, ◌<◌, ◌⊎◌, inl, inr, ◌==◌, ◌&&◌, ◌||◌, not, Bool, true, false, refl, sym, ◌∙◌, ap, subst, arith}
 use Rattle.std.proofs.lemmas.Bool.Decides.{nat_tests}
-use Rattle.std.proofs.lemmas.List.{get_or-set_other, get_or-set_same, length-set}
 use Rattle.std.proofs.lemmas.Nat.{mul-add-lt, same_from_place}
 use Rattle.acas_spec.specs.Model.{ModelData}
 use Rattle.acas_flight.specs.Contact.{IsEndangeredCell}
-use Rattle.acas_audit_blocks.specs.Audits.{BlockAuditData, HasLists, HaveSameCells, IsBlockIn, IsMoved, IsPlace, IsRuledIn, IsSorted, cell_count, certified_at, danger, no_advice, no_danger, not_asked, place_of, reported_at}
+use Rattle.acas_audit_blocks.specs.Audits.{BlockAuditData, HasLists, HaveSameCells, IsBlockIn, IsMoved, IsPlace, IsRuledIn, IsSorted, cell_count, certified_at, danger, no_danger, not_asked, place_of, reported_at}
 use Rattle.acas_audit_blocks.specs.BlockStates.{IsEndangeredBlock}
 use Rattle.acas_cells.specs.Blocks.{IsInBlock, altitudes, intruder_rates, is_one_cell, own_rates}
 use Rattle.acas_cells.specs.Sets.{holds}
@@ -70,13 +68,24 @@ one_place a i j k i' j' k' here there same =
     let columns = same_from_place i j i' j' a.own_rates here.own there.own rows.0 in
     (columns.0, columns.1, rows.1)
 
+-- as many cells where there are as many along each axis
+pub same_count : (x y z p q r : ℕ) → x ≡ p → y ≡ q → z ≡ r → x * y * z ≡ p * q * r
+same_count x y z p q r e f g = rw (e, f, g) refl
+
 -- ---- blocks
 
--- an advice that is decided for both parts of a block is decided for the block
-pub ruled_parts : (D : ℕ → ℕ → ℕ → Type 0) (advice : ℕ) (b first second : Block) (old middle new : BlockAuditData) →
-    IsBlockIn old b → AreParts b first second → IsRuledIn D advice first old middle → IsRuledIn D advice second middle new →
+-- two blocks have a block's cells, each once; one of them may have none
+pub record AreJoined (b first second : Block) : Type 0 where
+  pub in_first : (i j k : ℕ) → IsInBlock first i j k → IsInBlock b i j k
+  pub in_second : (i j k : ℕ) → IsInBlock second i j k → IsInBlock b i j k
+  pub either : (i j k : ℕ) → IsInBlock b i j k → IsInBlock first i j k ⊎ IsInBlock second i j k
+  pub apart : (i j k : ℕ) → IsInBlock first i j k → ¬ IsInBlock second i j k
+
+-- an advice that is decided for two blocks is decided for the block that they make
+pub ruled_joined : (D : ℕ → ℕ → ℕ → Type 0) (advice : ℕ) (b first second : Block) (old middle new : BlockAuditData) →
+    ((i j k : ℕ) → IsInBlock b i j k → IsPlace old i j k) → AreJoined b first second → IsRuledIn D advice first old middle → IsRuledIn D advice second middle new →
     IsRuledIn D advice b old new
-ruled_parts D advice b first second old middle new block parts before after = record {
+ruled_joined D advice b first second old middle new within parts before after = record {
   same = record {
     altitudes = after.same.altitudes ∙ before.same.altitudes;
     own_rates = after.same.own_rates ∙ before.same.own_rates;
@@ -84,7 +93,7 @@ ruled_parts D advice b first second old middle new block parts before after = re
   };
   lists = after.lists;
   inside = λ i j k h.
-      let place = place_in_block old b i j k block h in
+      let place = within i j k h in
       let later = same_place old middle i j k before.same place in
       elim (parts.either i j k h) [
         | inl in_first ↦
@@ -103,6 +112,14 @@ ruled_parts D advice b first second old middle new block parts before after = re
       let second_stays = after.others i j k other (same_place old middle i j k before.same place) apart in
       (second_stays.0 ∙ first_stays.0, second_stays.1 ∙ first_stays.1);
 }
+
+-- the same for the parts of a block that has a cell
+pub ruled_parts : (D : ℕ → ℕ → ℕ → Type 0) (advice : ℕ) (b first second : Block) (old middle new : BlockAuditData) →
+    IsBlockIn old b → AreParts b first second → IsRuledIn D advice first old middle → IsRuledIn D advice second middle new →
+    IsRuledIn D advice b old new
+ruled_parts D advice b first second old middle new block parts before after =
+    ruled_joined D advice b first second old middle new (λ i j k h. place_in_block old b i j k block h)
+    (record { in_first = parts.in_first; in_second = parts.in_second; either = parts.either; apart = parts.apart }) before after
 
 -- an advice that is taken over for all cells of a block is decided where none of them is in danger
 pub ruled_safe : (D : ℕ → ℕ → ℕ → Type 0) (advice : ℕ) (b : Block) (old new : BlockAuditData) → ((i j k : ℕ) → IsInBlock b i j k → ¬ D i j k) →
@@ -134,37 +151,38 @@ same_is x = grind (arith, nat_tests)
 other_is : (x y : ℕ) → ¬ (x ≡ y) → (x == y) ≡ false
 other_is x y apart = grind (arith, nat_tests)
 
-or_true : (b h : Bool) → b ≡ true → (b || h) ≡ true
-or_true b h e = rw e refl
+-- an advice in two sets, once it is taken over where it is in the second
+taken : (x y : Bool) → IsSorted ⊥ x y (x || y) false
+taken false false = not_asked false
+taken true false = not_asked true
+taken false true = no_danger false (λ never. never)
+taken true true = no_danger true (λ never. never)
 
-or_false : (b h : Bool) → b ≡ false → (b || h) ≡ h
-or_false b h e = rw e refl
+here_or : (b x y : Bool) → b ≡ true → (x || (b && y)) ≡ (x || y)
+here_or b x y e = rw e refl
 
-not_true : (b h : Bool) → b ≡ true → (not b && h) ≡ false
-not_true b h e = rw e refl
+here_not : (b y : Bool) → b ≡ true → (not b && y) ≡ false
+here_not b y e = rw e refl
 
-not_false : (b h : Bool) → b ≡ false → (not b && h) ≡ h
-not_false b h e = rw e refl
+other_or : (b x y : Bool) → b ≡ false → (x || (b && y)) ≡ x
+other_or b true y e = refl
+other_or b false y e = rw e refl
 
--- the sets with the advice taken over
-pub moved_over : (advice : ℕ) (c r c' r' : AdviceSet) → holds r advice ≡ true → ((a : ℕ) → holds c' a ≡ (a == advice || holds c a)) →
-    ((a : ℕ) → holds r' a ≡ (not (a == advice) && holds r a)) → IsMoved advice c r c' r'
-moved_over advice c r c' r' there more less = record {
-  sorted = resorted (holds c advice) true true false _ _ _ _ refl (sym there)
-      (sym (more advice ∙ or_true (advice == advice) (holds c advice) (same_is advice)))
-      (sym (less advice ∙ not_true (advice == advice) (holds r advice) (same_is advice)))
-      (no_danger (holds c advice) (λ never. never));
+other_not : (b y : Bool) → b ≡ false → (not b && y) ≡ y
+other_not b y e = rw e refl
+
+-- the sets with the advice taken over, where it is there
+pub moved_over : (advice : ℕ) (c r there c' r' : AdviceSet) → ((a : ℕ) → holds there a ≡ (a == advice && holds r a)) →
+    ((a : ℕ) → holds c' a ≡ (holds c a || holds there a)) → ((a : ℕ) → holds r' a ≡ (not (a == advice) && holds r a)) → IsMoved advice c r c' r'
+moved_over advice c r there c' r' only more less = record {
+  sorted = resorted (holds c advice) (holds r advice) _ _ _ _ _ _ refl refl
+      (sym (more advice ∙ ap (λ x. holds c advice || x) (only advice) ∙ here_or (advice == advice) (holds c advice) (holds r advice) (same_is advice)))
+      (sym (less advice ∙ here_not (advice == advice) (holds r advice) (same_is advice)))
+      (taken (holds c advice) (holds r advice));
   others = λ other apart. (
-    more other ∙ or_false (other == advice) (holds c other) (other_is other advice apart),
-    less other ∙ not_false (other == advice) (holds r other) (other_is other advice apart),
+    more other ∙ ap (λ x. holds c other || x) (only other) ∙ other_or (other == advice) (holds c other) (holds r other) (other_is other advice apart),
+    less other ∙ other_not (other == advice) (holds r other) (other_is other advice apart),
   );
-}
-
--- the sets as they were, where it is not there
-pub moved_nothing : (advice : ℕ) (c r : AdviceSet) → holds r advice ≡ false → IsMoved advice c r c r
-moved_nothing advice c r none = record {
-  sorted = resorted (holds c advice) false (holds c advice) false _ _ _ _ refl (sym none) refl (sym none) (not_asked (holds c advice));
-  others = λ other apart. (refl, refl);
 }
 
 -- ---- one cell
@@ -177,74 +195,6 @@ pub in_one_cell : (b : Block) (i j k : ℕ) → is_one_cell b ≡ true → IsInB
 in_one_cell b i j k one h =
     let sides = one_sides (altitudes b) (own_rates b) (intruder_rates b) one in
     (omega (arith, sides.0, h.from_i, h.before_i), omega (arith, sides.1, h.from_j, h.before_j), omega (arith, sides.2, h.from_k, h.before_k))
-
-pub is_in_one_cell : (a : BlockAuditData) (b : Block) → IsBlockIn a b → IsInBlock b b.i0 b.j0 b.k0
-is_in_one_cell a b block = record {
-  from_i = omega arith;
-  from_j = omega arith;
-  from_k = omega arith;
-  before_i = block.some.i;
-  before_j = block.some.j;
-  before_k = block.some.k;
-}
-
--- the audit with other sets at a place of the lists
-abbrev pub with_sets : BlockAuditData → ℕ → AdviceSet → AdviceSet → BlockAuditData
-with_sets old place certified reported = record old { certified = set old.certified place certified; reported = set old.reported place reported }
-
--- an advice that is taken over in a cell
-pub ruled_cell : (advice : ℕ) (b : Block) (old : BlockAuditData) (certified reported : AdviceSet) → HasLists old → IsBlockIn old b → is_one_cell b ≡ true →
-    IsMoved advice (certified_at old b.i0 b.j0 b.k0) (reported_at old b.i0 b.j0 b.k0) certified reported →
-    IsRuledIn (λ i j k. ⊥) advice b old (with_sets old (place_of old b.i0 b.j0 b.k0) certified reported)
-ruled_cell advice b old certified reported lists block one moved = record {
-  same = record { altitudes = refl; own_rates = refl; intruder_rates = refl };
-  lists = record {
-    certified = length-set old.certified place certified ∙ lists.certified;
-    reported = length-set old.reported place reported ∙ lists.reported;
-  };
-  inside = λ i j k h.
-      let only = in_one_cell b i j k one h in
-      let here : place_of old i j k ≡ place = rw (only.0, only.1, only.2) refl in
-      resorted _ _ _ _ _ _ _ _
-      (ap (λ (p : ℕ). holds (get_or old.certified p no_advice) advice) (sym here))
-      (ap (λ (p : ℕ). holds (get_or old.reported p no_advice) advice) (sym here))
-      (ap (λ (s : AdviceSet). holds s advice) (sym (at_place old.certified certified lists.certified (place_of old i j k) here)))
-      (ap (λ (s : AdviceSet). holds s advice) (sym (at_place old.reported reported lists.reported (place_of old i j k) here)))
-      moved.sorted;
-  outside = λ i j k there not_in.
-      let apart : ¬ (place_of old i j k ≡ place) = λ same.
-      let only = one_place old i j k b.i0 b.j0 b.k0 there in_grid same in
-      not_in (rw (only.0, only.1, only.2) is_in)
-      in
-      (get_or-set_other old.certified place (place_of old i j k) certified no_advice apart, get_or-set_other old.reported place (place_of old i j k) reported no_advice apart);
-  others = λ i j k other there differs.
-      elim (cases_eq (place_of old i j k) place) [
-        | inl here ↦
-            let stays = moved.others other differs in (
-              ap (λ (s : AdviceSet). holds s other) (at_place old.certified certified lists.certified (place_of old i j k) here) ∙ stays.0
-                  ∙ ap (λ (p : ℕ). holds (get_or old.certified p no_advice) other) (sym here),
-              ap (λ (s : AdviceSet). holds s other) (at_place old.reported reported lists.reported (place_of old i j k) here) ∙ stays.1
-                  ∙ ap (λ (p : ℕ). holds (get_or old.reported p no_advice) other) (sym here),
-            )
-        | inr apart ↦ (
-          ap (λ (s : AdviceSet). holds s other) (get_or-set_other old.certified place (place_of old i j k) certified no_advice apart),
-          ap (λ (s : AdviceSet). holds s other) (get_or-set_other old.reported place (place_of old i j k) reported no_advice apart),
-        )
-      ];
-}
-  where
-    place : ℕ
-    place = place_of old b.i0 b.j0 b.k0
-
-    is_in : IsInBlock b b.i0 b.j0 b.k0
-    is_in = is_in_one_cell old b block
-
-    in_grid : IsPlace old b.i0 b.j0 b.k0
-    in_grid = place_in_block old b b.i0 b.j0 b.k0 block is_in
-
-    at_place : (list : List AdviceSet) (s : AdviceSet) → length list ≡ cell_count old → (p : ℕ) → p ≡ place → get_or (set list place s) p no_advice ≡ s
-    at_place list s long p here =
-        rw here (get_or-set_same list place s no_advice (omega (arith, place_within old b.i0 b.j0 b.k0 in_grid, long)))
 
 -- where a block of one cell is in danger, that cell is
 pub danger_everywhere : (m : ModelData) (n advice : ℕ) (b : Block) → is_one_cell b ≡ true → IsEndangeredBlock m n advice b →

@@ -1,5 +1,5 @@
 -- The lists of a block audit.
-use Rattle.std.specs.Prelude.{◌≡◌, ℕ, ◌+◌, ◌-◌, ◌*◌, ◌<◌, ◌≤◌, ◌↔◌, List, length, get_or, Bool, true, false, vec_capacity}
+use Rattle.std.specs.Prelude.{◌≡◌, ℕ, ◌+◌, ◌-◌, ◌*◌, ◌<◌, ◌≤◌, ◌↔◌, ◌||◌, List, length, get_or, Bool, true, false, vec_capacity}
 use Rattle.acas_units.specs.declared.limits.TheConstants.{GREATEST_VERTICES}
 use Rattle.acas_spec.specs.Model.{ModelData}
 use Rattle.acas_base.specs.Advices.{AdvicesData}
@@ -90,6 +90,9 @@ pub record AreListsOf (m : ModelData) (a : AdvicesData) (n present : ℕ) (audit
   pub lists : HasLists audit
   pub exact : (i j k advice : ℕ) → IsCellOf m (cell_at n present i j k) → advice < m.grid.advisories →
       AreExact m a n present i j k advice (certified_at audit i j k) (reported_at audit i j k)
+  -- each advice that is tabled at a corner of a cell is in one of its sets, and no other is
+  pub tabled : (i j k advice : ℕ) → IsCellOf m (cell_at n present i j k) →
+      (holds (certified_at audit i j k) advice || holds (reported_at audit i j k) advice) ≡ is_advised m a (cell_at n present i j k) advice
 
 -- ---- on the way
 
@@ -104,6 +107,24 @@ pub data IsSorted (Danger : Type 0) : Bool → Bool → Bool → Bool → Type 0
 pub record IsMoved (advice : ℕ) (certified reported certified' reported' : AdviceSet) : Type 0 where
   pub sorted : IsSorted ⊥ (holds certified advice) (holds reported advice) (holds certified' advice) (holds reported' advice)
   pub others : (other : ℕ) → ¬ (other ≡ advice) → (holds certified' other ≡ holds certified other) × (holds reported' other ≡ holds reported other)
+
+-- the advice is taken from the second list to the first at the places from one up to another, and nothing else of the lists is changed
+pub record AreMoved (advice start end : ℕ) (certified reported certified' reported' : List AdviceSet) : Type 0 where
+  pub certified_long : length certified' ≡ length certified
+  pub reported_long : length reported' ≡ length reported
+  pub inside : (place : ℕ) → start ≤ place → place < end →
+      IsMoved advice (get_or certified place no_advice) (get_or reported place no_advice) (get_or certified' place no_advice) (get_or reported' place no_advice)
+  pub outside : (place : ℕ) → ¬ ((start ≤ place) × (place < end)) →
+      (get_or certified' place no_advice ≡ get_or certified place no_advice) × (get_or reported' place no_advice ≡ get_or reported place no_advice)
+
+-- The lists have sets for the cells that stand before a place, and for no others: the first no advice, and the second those that are
+-- tabled at the cell's corners.
+pub record AreFilledTo (m : ModelData) (a : AdvicesData) (n present upto : ℕ) (audit : BlockAuditData) : Type 0 where
+  pub certified : length audit.certified ≡ upto
+  pub reported : length audit.reported ≡ upto
+  pub none : (i j k advice : ℕ) → IsPlace audit i j k → place_of audit i j k < upto → holds (certified_at audit i j k) advice ≡ false
+  pub tabled : (i j k advice : ℕ) → IsPlace audit i j k → place_of audit i j k < upto →
+      holds (reported_at audit i j k) advice ≡ is_advised m a (cell_at n present i j k) advice
 
 -- nothing is decided: no advice is in the first set of a cell, and in the second are those that are tabled at its corners
 pub record AreUndecided (m : ModelData) (a : AdvicesData) (n present : ℕ) (audit : BlockAuditData) : Type 0 where
@@ -128,6 +149,14 @@ pub record IsBlockIn (a : BlockAuditData) (b : Block) : Type 0 where
   pub i : b.i1 ≤ a.altitudes
   pub j : b.j1 ≤ a.own_rates
   pub k : b.k1 ≤ a.intruder_rates
+
+-- the cells of a block that are at one place on the axis of altitude
+abbrev pub plane_of : Block → ℕ → Block
+plane_of b i = record b { i0 = i; i1 = i + 1 }
+
+-- those of them that are at one place on the axis of own rate
+abbrev pub row_of : Block → ℕ → ℕ → Block
+row_of b i j = record b { i0 = i; i1 = i + 1; j0 = j; j1 = j + 1 }
 
 -- the advice waits in the second set of each cell of the block whose corners table it
 pub record Waits (m : ModelData) (a : AdvicesData) (n present advice : ℕ) (b : Block) (audit : BlockAuditData) : Type 0 where

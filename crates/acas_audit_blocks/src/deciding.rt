@@ -1,12 +1,11 @@
 //! Decides all cells of n seconds and a present advisory, block by block.
 ghost use Rattle.std.specs.Prelude.{◌≡◌, ℕ, ◌+◌, ◌*◌, ◌<◌, ◌≤◌, ◌^◌};
-ghost use Rattle.acas_units.specs.declared.limits.TheConstants.{GREATEST_ADVISORIES};
 ghost use Rattle.acas_base.specs.Advices.{AdvicesData, AreAdvicesOf};
 ghost use Rattle.acas_flight.specs.Contact.{IsEndangeredCell};
-ghost use Rattle.acas_cells.specs.Blocks.{IsBlockOf, cells_in, is_one_cell};
+ghost use Rattle.acas_cells.specs.Blocks.{IsBlockOf, cells_in};
 ghost use Rattle.acas_cells.specs.DecisionCounts.{most_decisions};
 ghost use Rattle.acas_audit_blocks.specs.Decisions.{AreDecisionsOf, IsDecidedBy};
-ghost use Rattle.acas_audit_blocks.specs.Audits.{AreListsOf, HasLists, IsAuditOf, IsBlockIn, IsRuledIn, Waits};
+ghost use Rattle.acas_audit_blocks.specs.Audits.{AreListsOf, HasLists, IsAuditOf, IsRuledIn, Waits};
 
 use crate::block_audit::BlockAudit;
 use crate::clear::block_clear;
@@ -64,7 +63,8 @@ impl BlockAudit {
             (λ i j k. IsEndangeredCell model.now n i j k advice) advice block.now self.old self.new }
         ensures counted { (a : AdvicesData) (present : ℕ)
             → Waits model.now a n present advice block.now self.old →
-            (number : ℕ) × IsDecidedBy model.now a n present advice block.now number × (count.new ≡ count.old + number) }
+            (number : ℕ) × IsDecidedBy model.now a n present advice block.now number
+            × (count.new ≡ count.old + number) }
         ensures rising { count.old ≤ count.new }
         ensures most { count.new + 1 ≤ count.old + 2 * cells_in block.now }
     {
@@ -83,21 +83,5 @@ impl BlockAudit {
         let (first, second) = block.halves();
         self.decide_block(model, n, advice, &first, count);
         self.decide_block(model, n, advice, &second, count);
-    }
-
-    // Takes an advice from the second set to the first for each cell of a block.
-    fn certify(&mut self, advice: u8, block: &Block)
-        requires lists { HasLists self.old }
-        requires block { IsBlockIn self.old block.now }
-        requires advice { advice < GREATEST_ADVISORIES }
-        ensures { IsRuledIn (λ i j k. ⊥) advice block.now self.old self.new }
-    {
-        if block.is_one_cell() {
-            self.certify_cell(advice, block.i0, block.j0, block.k0);
-            return;
-        }
-        let (first, second) = block.halves();
-        self.certify(advice, &first);
-        self.certify(advice, &second);
     }
 }

@@ -7,6 +7,7 @@ mod clear;
 mod deciding;
 mod decision_laws;
 mod decisions;
+mod filling;
 mod moving;
 mod waiting;
 

@@ -1,78 +1,81 @@
-//! The sets of a cell: what they begin with, and how an advice goes from the second to the first.
-ghost use Rattle.std.specs.Prelude.{◌≡◌, ℕ, ◌<◌, ◌≤◌, [], ◌∷◌, ◌++◌, length, set, vec_capacity};
+//! How an advice goes from the second set of a cell to the first, for a whole block of cells.
+ghost use Rattle.std.specs.Prelude.{◌≡◌, ℕ, ◌+◌, ◌<◌, ◌≤◌, length};
 ghost use Rattle.acas_units.specs.declared.limits.TheConstants.{GREATEST_ADVISORIES};
-ghost use Rattle.acas_base.specs.Advices.{AreAdvicesOf};
-ghost use Rattle.acas_audit_blocks.specs.Audits.{AreUndecided, HasLists, HaveSameCells, IsAuditOf, IsMoved, IsPlace, certified_at, place_of, reported_at};
-ghost use Rattle.acas_cells.specs.declared.set.AdviceSet.{AdviceSet};
+ghost use Rattle.acas_audit_blocks.specs.Audits.{AreMoved, HasLists, IsBlockIn, IsMoved, IsRuledIn, plane_of, row_of};
 
 use crate::block_audit::BlockAudit;
-use acas_base::{Advices, Model};
-use acas_cells::{AdviceSet, advices_at};
+use acas_cells::{AdviceSet, Block};
 
 // The two sets with an advice taken from the second to the first, where it is there.
 fn moved(advice: u8, certified: AdviceSet, reported: AdviceSet) -> (AdviceSet, AdviceSet)
     requires { advice < GREATEST_ADVISORIES }
     ensures { IsMoved advice certified reported result.0 result.1 }
 {
-    if reported.has(advice) {
-        (certified.with(advice), reported.without(advice))
-    } else {
-        (certified, reported)
-    }
+    let there = reported.only(advice);
+    (certified.union(there), reported.without(advice))
 }
 
-// Puts a set behind those of a list that has room for it.
-fn push_within(list: &mut Vec<AdviceSet>, set: AdviceSet)
-    requires { length list.old.items < vec_capacity list.old }
-    ensures items { list.new.items ≡ list.old.items ++ set ∷ [] }
-    ensures room { vec_capacity list.old ≤ vec_capacity list.new }
+// Takes an advice from the second list to the first at the places from one up to another, where it is there.
+fn move_row(
+    advice: u8,
+    start: usize,
+    end: usize,
+    certified: &mut [AdviceSet],
+    reported: &mut [AdviceSet],
+)
+    requires advice { advice < GREATEST_ADVISORIES }
+    requires order { start ≤ end }
+    requires certified { end ≤ length certified.old }
+    requires reported { end ≤ length reported.old }
+    ensures { AreMoved advice start end certified.old reported.old certified.new reported.new }
 {
-    let pushed = list.push(set);
-    prove!(pushed.is_ok());
+    for place in start..end {
+        let (first, second) = moved(advice, certified[place], reported[place]);
+        certified[place] = first;
+        reported[place] = second;
+    }
 }
 
 impl BlockAudit {
-    // Takes an advice from the second set of a cell to the first, where it is there.
-    pub(crate) fn certify_cell(&mut self, advice: u8, i: u32, j: u32, k: u32)
+    // Takes an advice from the second set to the first for each cell of a block.
+    pub(crate) fn certify(&mut self, advice: u8, block: &Block)
         requires lists { HasLists self.old }
-        requires place { IsPlace self.old i j k }
+        requires block { IsBlockIn self.old block.now }
         requires advice { advice < GREATEST_ADVISORIES }
-        ensures { (c : AdviceSet) × (r : AdviceSet)
-            × IsMoved advice (certified_at self.old i j k) (reported_at self.old i j k) c r
-            × (self.new ≡ record self.old {
-              certified = set self.old.certified (place_of self.old i j k) c;
-              reported = set self.old.reported (place_of self.old i j k) r;
-            }) }
+        ensures { IsRuledIn (λ i j k. ⊥) advice block.now self.old self.new }
     {
-        let place = self.place_of(i, j, k);
-        let (certified, reported) = moved(advice, self.certified[place], self.reported[place]);
-        self.certified[place] = certified;
-        self.reported[place] = reported;
+        for i in block.i0..block.i1 {
+            self.certify_at(advice, block, i);
+        }
     }
 
-    // Begins both lists for n seconds and a present advisory: in the first no advice, and in the second those at the cell's corners.
-    pub(crate) fn fill(&mut self, model: &Model, advices: &Advices, n: u32, present: u8)
-        requires audit { IsAuditOf model.now self.old }
-        requires advices { AreAdvicesOf model.now advices.now }
-        requires n { n < model.now.grid.horizon }
-        requires present { present < model.now.grid.advisories }
-        ensures same { HaveSameCells self.old self.new }
-        ensures begun { AreUndecided model.now advices.now n present self.new }
+    // The same for the cells that are at one place on the axis of altitude.
+    fn certify_at(&mut self, advice: u8, block: &Block, i: u32)
+        requires lists { HasLists self.old }
+        requires block { IsBlockIn self.old block.now }
+        requires advice { advice < GREATEST_ADVISORIES }
+        requires from { block.now.i0 ≤ i }
+        requires before { i < block.now.i1 }
+        ensures { IsRuledIn (λ i j k. ⊥) advice (plane_of block.now i) self.old self.new }
     {
-        let cells = self.cell_count();
-        self.certified.clear();
-        self.reported.clear();
-        for place in 0..cells {
-            let row = place / self.intruder_rates;
-            let (i, j, k) = (
-                row / self.own_rates,
-                row % self.own_rates,
-                place % self.intruder_rates,
-            );
-            // The advices other than clear of conflict at the corners of the cell.
-            let set = advices_at(model, advices, n, present, i, j, k).without(0);
-            push_within(&mut self.certified, AdviceSet::empty());
-            push_within(&mut self.reported, set);
+        for j in block.j0..block.j1 {
+            self.certify_row(advice, block, i, j);
         }
+    }
+
+    // The same for those that are at one place on the axis of own rate besides: their sets stand one behind the other.
+    fn certify_row(&mut self, advice: u8, block: &Block, i: u32, j: u32)
+        requires lists { HasLists self.old }
+        requires block { IsBlockIn self.old block.now }
+        requires advice { advice < GREATEST_ADVISORIES }
+        requires from_i { block.now.i0 ≤ i }
+        requires before_i { i < block.now.i1 }
+        requires from_j { block.now.j0 ≤ j }
+        requires before_j { j < block.now.j1 }
+        ensures { IsRuledIn (λ i j k. ⊥) advice (row_of block.now i j) self.old self.new }
+    {
+        let start = self.place_of(i, j, block.k0);
+        let end = start + (block.k1 - block.k0) as usize;
+        move_row(advice, start, end, &mut self.certified, &mut self.reported);
     }
 }

@@ -15,7 +15,8 @@ impl BlockAudit {
         requires block { IsBlockIn self.now block.now }
         requires advice { advice < GREATEST_ADVISORIES }
         ensures some { result ≡ true
-            → (i : ℕ) × (j : ℕ) × (k : ℕ) × IsInBlock block.now i j k × (holds (reported_at self.now i j k) advice ≡ true) }
+            → (i : ℕ) × (j : ℕ) × (k : ℕ) × IsInBlock block.now i j k
+            × (holds (reported_at self.now i j k) advice ≡ true) }
         ensures none { result ≡ false → (i j k : ℕ) → IsInBlock block.now i j k
             → holds (reported_at self.now i j k) advice ≡ false }
     {
@@ -34,7 +35,8 @@ impl BlockAudit {
         requires from { block.now.i0 ≤ i }
         requires before { i < block.now.i1 }
         ensures some { result ≡ true
-            → (j : ℕ) × (k : ℕ) × IsInBlock block.now i j k × (holds (reported_at self.now i j k) advice ≡ true) }
+            → (j : ℕ) × (k : ℕ) × IsInBlock block.now i j k
+            × (holds (reported_at self.now i j k) advice ≡ true) }
         ensures none { result ≡ false → (j k : ℕ) → IsInBlock block.now i j k
             → holds (reported_at self.now i j k) advice ≡ false }
     {

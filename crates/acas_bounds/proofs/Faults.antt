@@ -106,7 +106,8 @@ allowed_if : (b : Bool) (rest : Option BoundFault) → cond b rest (Some AdviceN
 allowed_if true rest h = refl
 allowed_if false rest h = cc
 
-may_choose : (m : ModelData) (upper lower : ℕ → ℤ) (n p : ℕ) (x : Vertex) (e : Entry) → fault_by_means m upper lower n p x e ≡ None → 0 < n → MayChoose m p e.advice
+-- above layer 0, the advice of an entry without fault is in the list
+pub may_choose : (m : ModelData) (upper lower : ℕ → ℤ) (n p : ℕ) (x : Vertex) (e : Entry) → fault_by_means m upper lower n p x e ≡ None → 0 < n → MayChoose m p e.advice
 may_choose m upper lower zero p x e h some = absurd (omega arith)
 may_choose m upper lower (suc n) p x e h some = (is_allowed-is m p e.advice).0 (allowed_if (is_allowed m p e.advice) _ h)
 

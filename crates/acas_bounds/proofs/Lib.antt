@@ -4,3 +4,5 @@ pub mod First
 pub mod Faults
 pub mod Planes
 pub mod Narrow
+pub mod SharedChoices
+pub mod NarrowLeasts

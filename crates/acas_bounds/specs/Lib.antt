@@ -4,3 +4,4 @@ pub mod Checks
 pub mod Means
 pub mod Planes
 pub mod Narrow
+pub mod Leasts

@@ -1,12 +1,13 @@
 //! A quick look at an entry by the means of the layer below: whether it is seen in 64 bits to be sound. It may miss that only at
 //! values far larger than a cost, and says nothing of what a fault is.
-ghost use Rattle.std.specs.Prelude.{◌≡◌, ◌<◌, ◌≤◌, ◌^◌, ◌-ℤ◌, ◌≤ℤ◌, length, None, IsTrue, unsigned_abs};
+ghost use Rattle.std.specs.Prelude.{◌≡◌, ◌<◌, ◌≤◌, ◌^◌, ◌-ℤ◌, ◌≤ℤ◌, length, None, IfSome, IsTrue, unsigned_abs};
 ghost use Rattle.acas_spec.specs.Model.{states, vertices};
 ghost use Rattle.acas_grid.specs.Grid.{state_number};
 ghost use Rattle.acas_grid.specs.States as numbers;
 ghost use Rattle.acas_step.specs.Choices.{value_by_mean};
 ghost use Rattle.acas_step.specs.Layer.{layer_values};
 ghost use Rattle.acas_step.specs.declared.layer.Side.TheVariants.{Upper, Lower};
+ghost use Rattle.acas_bounds.specs.Leasts.{AreLeasts};
 ghost use Rattle.acas_bounds.specs.Means.{choice_fault, formed_lower, formed_upper};
 ghost use Rattle.acas_bounds.specs.Narrow.{IsLowerMet, IsUpperMet};
 ghost use Rattle.acas_bounds.specs.Planes.{IsPlane, IsPlaneChoice};
@@ -34,8 +35,8 @@ fn less_cost(value: i64, cost: i64) -> i64
     value - cost
 }
 
-// The means that were formed for the advisory of a choice at a vertex.
-fn choice_means(model: &Model, choice: &PlaneChoice, vertex: u32, means: &[Pair]) -> Pair
+/// The means that were formed for the advisory of a choice at a vertex.
+pub(crate) fn choice_means(model: &Model, choice: &PlaneChoice, vertex: u32, means: &[Pair]) -> Pair
     requires advisory { choice.now.advisory < model.now.grid.advisories }
     requires first { choice.now.first ≡ state_number model.now.grid choice.now.advisory 0 }
     requires vertex { vertex < vertices model.now.grid }
@@ -94,7 +95,8 @@ fn meets_upper(model: &Model, plane: &Plane, vertex: u32, entry: &Entry, means: 
     requires upper { unsigned_abs entry.now.pair.upper ≤ 2 ^ 62 }
     requires means { length means.now ≡ states model.now.grid }
     ensures { let x = numbers.vertex_at model.now.grid vertex in
-        IsTrue result → IsUpperMet model.now (formed_upper model.now means.now x) plane.now.present entry.now }
+        IsTrue result
+        → IsUpperMet model.now (formed_upper model.now means.now x) plane.now.present entry.now }
 {
     let upper = entry.pair.upper;
     if plane.is_own(entry.advice) {
@@ -128,17 +130,45 @@ fn meets_lower(model: &Model, plane: &Plane, vertex: u32, lower: i64, means: &[P
     true
 }
 
-/// Whether an entry with a second to go is seen to be sound by the means of the layer below.
+// The same by the least lower values, where they were found.
+fn is_lower_met(
+    model: &Model,
+    plane: &Plane,
+    vertex: u32,
+    lower: i64,
+    means: &[Pair],
+    leasts: Option<&[i64]>,
+) -> bool
+    requires plane { IsPlane model.now plane.now }
+    requires vertex { vertex < vertices model.now.grid }
+    requires lower { unsigned_abs lower ≤ 2 ^ 62 }
+    requires means { length means.now ≡ states model.now.grid }
+    requires leasts { IfSome leasts (λ leasts.
+        AreLeasts model.now means.now plane.now.present leasts.now) }
+    ensures { let x = numbers.vertex_at model.now.grid vertex in
+        IsTrue result → IsLowerMet model.now (formed_lower model.now means.now x) plane.now.present lower }
+{
+    match leasts {
+        Some(leasts) => lower <= leasts[vertex as usize],
+        None => meets_lower(model, plane, vertex, lower, means),
+    }
+}
+
+/// Whether an entry with a second to go is seen to be sound by the means of the layer below, and by the least lower values of the
+/// choices where they were found.
 pub(crate) fn passes(
     model: &Model,
     plane: &Plane,
     vertex: u32,
     entry: &Entry,
     means: &[Pair],
+    leasts: Option<&[i64]>,
 ) -> bool
     requires plane { IsPlane model.now plane.now }
     requires vertex { vertex < vertices model.now.grid }
     requires means { length means.now ≡ states model.now.grid }
+    requires leasts { IfSome leasts (λ leasts.
+        AreLeasts model.now means.now plane.now.present leasts.now) }
     ensures { let x = numbers.vertex_at model.now.grid vertex in
         let upper = formed_upper model.now means.now x in
         let lower = formed_lower model.now means.now x in
@@ -147,5 +177,5 @@ pub(crate) fn passes(
     is_narrow(entry.pair.upper)
         && is_narrow(entry.pair.lower)
         && meets_upper(model, plane, vertex, entry, means)
-        && meets_lower(model, plane, vertex, entry.pair.lower, means)
+        && is_lower_met(model, plane, vertex, entry.pair.lower, means, leasts)
 }

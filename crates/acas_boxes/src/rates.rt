@@ -21,7 +21,8 @@ use std::alloc::Global;
 pub fn rates_fit(boxes: &Boxes, may: &Manoeuvre) -> Result<(), InputFault>
     ensures value { result ≡ rules.rates_in (may_of may.now) boxes.now }
     ensures ok { (result ≡ Ok tt) ↔ AllRatesFit (may_of may.now) boxes.now }
-    ensures first { (place : ℕ) → (result ≡ Err (Rate place)) ↔ IsFirstUnfit (may_of may.now) boxes.now place }
+    ensures first { (place : ℕ)
+        → (result ≡ Err (Rate place)) ↔ IsFirstUnfit (may_of may.now) boxes.now place }
 {
     for place in 0..boxes.len() {
         if !are_within(may, &boxes.at(place).area.v1) {

@@ -1,19 +1,22 @@
 -- Which cells under an advice are advisory cells, and which cells are clear.
-use Rattle.std.proofs.Common.{◌≡◌, ℕ, ◌+◌, ◌-◌, ◌<◌, ◌≤◌, inl, inr, ◌==◌, ◌&&◌, not, true, false, Bool, length, refl, sym, ◌∙◌, ap, subst, arith}
+use Rattle.std.proofs.Common.{◌≡◌, ℕ, zero, suc, ◌∷◌, ◌+◌, ◌-◌, ◌<◌, ◌≤◌, inl, inr, ◌==◌, ◌&&◌, not, true, false, Bool, [], ◌++◌, cond, length, refl, sym, ◌∙◌, ap, subst, arith}
 use Rattle.std.specs.List.{AllByRecursion, Contains}
-use Rattle.std.proofs.lemmas.Bool.{cases_lt}
+use Rattle.std.proofs.lemmas.Bool.{cases_lt, false_from_ne_true}
 use Rattle.std.proofs.lemmas.Bool.Decides.{nat_tests}
 use Rattle.std.proofs.lemmas.Nat.{mul-add-lt}
 use Rattle.acas_spec.specs.Model.{ModelData, vertices}
 use Rattle.acas_spec.specs.declared.place.Vertex.{Vertex}
 use Rattle.acas_grid.specs.Grid.{IsVertex, state_number, vertex_number}
 use Rattle.acas_base.specs.Advices.{AdvicesData, AreAdvices, AreAdvicesOf, advice_place}
-use Rattle.acas_cells.specs.Cells.{Cell, IsCellOf, cells_of}
+use Rattle.acas_cells.specs.Cells.{Cell, IsCellOf, below, cells_of}
 use Rattle.acas_cells.specs.Corners.{advice_at_vertex, advisory_cells, corners, is_advised, is_at_corner, is_clear_cell, names_at, under, vertex_at}
 use Rattle.acas_cells.specs.Order.{IsAdvisoryCell, IsCorner, IsPlaceOrNext, IsTabledAt, cell_of}
+use Rattle.acas_cells.specs.Sets.{has_no_advisory, holds}
 use Rattle.acas_cells.specs.declared.name.CellName.{CellName}
+use Rattle.acas_cells.specs.declared.set.AdviceSet.{AdviceSet}
 use Rattle.acas_grid.proofs.Vertices.{vertices-one_to_one, states-one_to_one}
 use Rattle.acas_cells.proofs.Lists.{all_of, all_or_one, all_pass, any_from, in_flat_map, of_flat_map, one_of_any}
+use Rattle.acas_cells.proofs.Members.{no_advisory_from, none_from_no_advisory}
 use Rattle.acas_cells.proofs.Order.{in_cells, in_names, of_cells, of_names}
 
 -- ---- tests
@@ -182,3 +185,52 @@ clear_from_none m a c cell none =
         tabled = record { corner = one.0; is_corner = of_corners c one.0 one.1; tabled = refl };
       }))
     ]
+
+-- no advisory is tabled at the corners of a clear cell
+clear_advised : (m : ModelData) (a : AdvicesData) (c : Cell) → is_clear_cell m a c ≡ true → (advice : ℕ) → is_advised m a c advice ≡ false
+clear_advised m a c clear advice =
+    false_from_ne_true (is_advised m a c advice) (λ is.
+    let parts = parts_of (advice == 0) (is_at_corner m a c advice) is in
+    let tabled = tabled_from m a c advice parts.1 in
+    let corner = tabled.is_corner in
+    let zero_there = all_pass (λ y. advice_at_vertex m a c.n c.present y == 0) (corners c.i c.j c.k) tabled.corner clear (in_corners c tabled.corner corner.i corner.j corner.k) in
+    let none = same_number (advice_at_vertex m a c.n c.present tabled.corner) 0 zero_there in
+    omega (arith, none, tabled.tabled, other_number advice parts.0))
+
+-- a cell at whose corners no advisory is tabled is clear
+clear_from_advised : (m : ModelData) (a : AdvicesData) (c : Cell) → ((advice : ℕ) → 0 < advice → is_advised m a c advice ≡ false) → is_clear_cell m a c ≡ true
+clear_from_advised m a c none =
+    elim (all_or_one (λ y. advice_at_vertex m a c.n c.present y == 0) (corners c.i c.j c.k)) [
+      | inl all ↦ all
+      | inr one ↦
+          let advice = advice_at_vertex m a c.n c.present one.0 in
+          let some = other_number advice one.2 in
+          let at = at_from m a c advice (record { corner = one.0; is_corner = of_corners c one.0 one.1; tabled = refl }) in
+          absurd (differ (is_advised m a c advice) (advised_from m a c advice some at) (none advice some))
+    ]
+  where
+    differ : (x : Bool) → x ≡ true → x ≡ false → ⊥
+    differ x e f = cc
+
+same_answers : (x y : Bool) → (x ≡ true → y ≡ true) → (y ≡ true → x ≡ true) → x ≡ y
+same_answers true y there back = sym (there refl)
+same_answers false true there back = back refl
+same_answers false false there back = refl
+
+-- a set of the advisories at the corners of a cell has none where the cell is clear
+pub clear_by_set : (m : ModelData) (a : AdvicesData) (c : Cell) (s : AdviceSet) → ((advice : ℕ) → holds s advice ≡ is_advised m a c advice) →
+    has_no_advisory s ≡ is_clear_cell m a c
+clear_by_set m a c s exact =
+    same_answers (has_no_advisory s) (is_clear_cell m a c)
+    (λ none. clear_from_advised m a c (λ advice some. sym (exact advice) ∙ none_from_no_advisory s none advice some))
+    (λ clear. no_advisory_from s (λ advice some. exact advice ∙ clear_advised m a c clear advice))
+
+-- a clear cell has no name under an advice
+pub clear_names : (m : ModelData) (a : AdvicesData) (c : Cell) → is_clear_cell m a c ≡ true → names_at m a c ≡ []
+clear_names m a c clear = none_below m.grid.advisories
+  where
+    none_below : (count : ℕ) → below count (λ advice. cond (is_advised m a c advice) (under c advice ∷ []) []) ≡ []
+    none_below zero = refl
+    none_below (suc count) =
+        ap (λ l. l ++ cond (is_advised m a c count) (under c count ∷ []) []) (none_below count)
+        ∙ ap (λ b. cond b (under c count ∷ []) []) (clear_advised m a c clear count)

@@ -30,7 +30,8 @@ pub fn advisory_cells_are_in_order()
 pub fn advices_at_corners_are_tabled()
     ensures { (m : ModelData) (a : AdvicesData) (c : Cell) (advice : ℕ) →
         (is_at_corner m a c advice ≡ true)
-        ↔ ((y : Vertex) × (c.i ≤ y.i) × (y.i ≤ c.i + 1) × (c.j ≤ y.j) × (y.j ≤ c.j + 1) × (c.k ≤ y.k) × (y.k ≤ c.k + 1)
+        ↔ ((y : Vertex) × (c.i ≤ y.i) × (y.i ≤ c.i + 1) × (c.j ≤ y.j) × (y.j ≤ c.j + 1) × (c.k ≤ y.k)
+        × (y.k ≤ c.k + 1)
         × (advice_at a (c.n + 1) (c.present * vertices m.grid + vertex_number m.grid y) ≡ advice)) }
 {}
 

@@ -39,6 +39,26 @@ impl AdviceSet {
         }
     }
 
+    /// The set of an advice alone where it is in this one, and of none where it is not.
+    pub fn only(self, advice: u8) -> AdviceSet
+        requires { advice < GREATEST_ADVISORIES }
+        ensures { (a : ℕ) → holds result a ≡ (a == advice && holds self a) }
+    {
+        AdviceSet {
+            bits: self.bits & (1 << advice),
+        }
+    }
+
+    /// The set with all advices of another besides.
+    pub fn union(self, other: AdviceSet) -> AdviceSet
+        ensures more { (a : ℕ) → holds result a ≡ (holds self a || holds other a) }
+        ensures no_advisory { has_no_advisory result ≡ (has_no_advisory self && has_no_advisory other) }
+    {
+        AdviceSet {
+            bits: self.bits | other.bits,
+        }
+    }
+
     /// Whether an advice is in the set. A number of no advisory is in none.
     pub fn has(&self, advice: u8) -> bool
         ensures { result ≡ holds self.now advice }

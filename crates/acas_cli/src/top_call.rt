@@ -122,7 +122,8 @@ fn answer<F: Folder, O: Sink>(
     out: &mut O,
     work: &mut Work,
 ) -> Cause
-    requires served { All (λ name. IsTrue (F.serves folder.old name)) (names_of (form_of_command command.now)) }
+    requires served { All (λ name. IsTrue (F.serves folder.old name))
+        (names_of (form_of_command command.now)) }
     requires number { HasNumber (form_of_command command.now) }
     requires counts { HasRoom work.old }
     ensures answers { AnswersCall (form_of_command command.now) result

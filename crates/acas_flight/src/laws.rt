@@ -22,7 +22,8 @@ pub fn segments_fly_mean_rates()
 /// What an advisory of a model asks, in numbers over q.
 pub fn demands_in_numbers()
     ensures { (m : ModelData) (advisory q : ℕ) → let a = scaled q (demand_of m advisory) in
-        (a.lo ≡ (advisory_at m advisory).lo *ℤ pos (q * q)) × (a.hi ≡ (advisory_at m advisory).hi *ℤ pos (q * q))
+        (a.lo ≡ (advisory_at m advisory).lo *ℤ pos (q * q))
+        × (a.hi ≡ (advisory_at m advisory).hi *ℤ pos (q * q))
         × (a.pull ≡ m.pull * q) × (a.limit ≡ m.limit * q) × (a.delay ≡ m.delay * q) }
 {}
 
@@ -41,7 +42,8 @@ pub fn segments_follow_by_the_table()
     ensures within { (a : Demand) (v : ℤ) (s : Segment) → a.lo ≤ℤ v → v ≤ℤ a.hi →
         Follows a v s
         ↔ ((0 < s.duration) × (unsigned_abs s.acceleration ≤ a.limit)
-        × (a.lo ≤ℤ (v +ℤ s.acceleration *ℤ pos s.duration)) × ((v +ℤ s.acceleration *ℤ pos s.duration) ≤ℤ a.hi)) }
+        × (a.lo ≤ℤ (v +ℤ s.acceleration *ℤ pos s.duration))
+        × ((v +ℤ s.acceleration *ℤ pos s.duration) ≤ℤ a.hi)) }
 {}
 
 /// A response meets an advisory where each segment follows it from the rate at which the one before ended. Or its first segment
@@ -50,11 +52,13 @@ pub fn responses_meet_at_once_or_after_a_hold()
     ensures none { (a : Demand) (v : ℤ) → Meets a v [] }
     ensures no_more { (a : Demand) (v : ℤ) → FollowsThroughout a v [] }
     ensures follows { (a : Demand) (v : ℤ) (s : Segment) (rest : List Segment) →
-        FollowsThroughout a v (s ∷ rest) ↔ (Follows a v s × FollowsThroughout a (v +ℤ s.acceleration *ℤ pos s.duration) rest) }
+        FollowsThroughout a v (s ∷ rest)
+        ↔ (Follows a v s × FollowsThroughout a (v +ℤ s.acceleration *ℤ pos s.duration) rest) }
     ensures some { (a : Demand) (v : ℤ) (s : Segment) (rest : List Segment) →
         Meets a v (s ∷ rest)
         ↔ (FollowsThroughout a v (s ∷ rest)
-        ⊎ ((0 < s.duration) × (s.duration ≤ a.delay) × (s.acceleration ≡ pos 0) × FollowsThroughout a v rest)) }
+        ⊎ ((0 < s.duration) × (s.duration ≤ a.delay) × (s.acceleration ≡ pos 0)
+        × FollowsThroughout a v rest)) }
 {}
 
 /// Where there is no delay, a response meets an advisory exactly where each segment follows it.
@@ -111,7 +115,8 @@ pub fn cells_and_boxes_in_numbers()
         ↔ (IsSecondsAway m n q s.range s.closing
         × ((place_value g.h i *ℤ pos q) ≤ℤ s.altitude) × (s.altitude ≤ℤ (place_value g.h (i + 1) *ℤ pos q))
         × ((place_value g.v0 j *ℤ pos q) ≤ℤ s.own) × (s.own ≤ℤ (place_value g.v0 (j + 1) *ℤ pos q))
-        × ((place_value g.v1 k *ℤ pos q) ≤ℤ s.intruder) × (s.intruder ≤ℤ (place_value g.v1 (k + 1) *ℤ pos q))) }
+        × ((place_value g.v1 k *ℤ pos q) ≤ℤ s.intruder)
+        × (s.intruder ≤ℤ (place_value g.v1 (k + 1) *ℤ pos q))) }
     ensures boxes { (box : Box) (q : ℕ) (s : State) →
         IsInBox box q s
         ↔ (((box.range.least *ℤ pos q) ≤ℤ s.range) × (s.range ≤ℤ (box.range.greatest *ℤ pos q))
@@ -131,7 +136,8 @@ pub fn cells_leave_no_gap()
         (place_value h 0 *ℤ pos q) ≤ℤ s.altitude → s.altitude ≤ℤ (place_value h (length h - 1) *ℤ pos q) →
         (place_value v0 0 *ℤ pos q) ≤ℤ s.own → s.own ≤ℤ (place_value v0 (length v0 - 1) *ℤ pos q) →
         (place_value v1 0 *ℤ pos q) ≤ℤ s.intruder → s.intruder ≤ℤ (place_value v1 (length v1 - 1) *ℤ pos q) →
-        (n : ℕ) × (i : ℕ) × (j : ℕ) × (k : ℕ) × (n < g.horizon) × (i + 1 < length h) × (j + 1 < length v0) × (k + 1 < length v1)
+        (n : ℕ) × (i : ℕ) × (j : ℕ) × (k : ℕ) × (n < g.horizon) × (i + 1 < length h) × (j + 1 < length v0)
+        × (k + 1 < length v1)
         × IsInCell m n i j k q s }
 {}
 

@@ -17,7 +17,8 @@ pub fn advisories_can_be_met()
 /// Holding longer never helps: a curve that rises to its aim is no higher at any time after a longer hold, and one that falls to it
 /// is no lower.
 pub fn holding_longer_never_helps()
-    ensures rising { (v k : ℤ) (b g longer t : ℕ) → v ≤ℤ k → g ≤ longer → held v k b longer t ≤ℤ held v k b g t }
+    ensures rising { (v k : ℤ) (b g longer t : ℕ) → v ≤ℤ k → g ≤ longer
+        → held v k b longer t ≤ℤ held v k b g t }
     ensures falling { (v k : ℤ) (b g longer t : ℕ) → k ≤ℤ v → g ≤ longer →
         held v k b g t ≤ℤ held v k b longer t }
 {}
@@ -31,5 +32,6 @@ pub fn windows_in_numbers()
     ensures boxes { (radius near far slow fast q t : ℕ) → 0 < q → near ≤ far → slow ≤ fast →
         let ranges : Interval = record { least = pos near; greatest = pos far } in
         let speeds : Interval = record { least = pos slow; greatest = pos fast } in
-        (((near - radius) * q ≤ t * fast) × (t * slow ≤ (far + radius) * q)) ↔ IsContactTimeOfBox radius ranges speeds q t }
+        (((near - radius) * q ≤ t * fast) × (t * slow ≤ (far + radius) * q))
+        ↔ IsContactTimeOfBox radius ranges speeds q t }
 {}

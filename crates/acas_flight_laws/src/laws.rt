@@ -52,10 +52,12 @@ pub fn curves_bound_climbs()
 /// A cell is endangered exactly where the area of its corners is endangered during its window, and so is a box.
 pub fn danger_is_in_the_window()
     ensures cells { (m : ModelData) (n i j k advisory : ℕ) (w : Times) → IsWindowOfCell m n w →
-        IsEndangeredCell m n i j k advisory ↔ IsEndangeredDuring m.half (demand_of m advisory) (area_of_cell m i j k) w }
+        IsEndangeredCell m n i j k advisory
+        ↔ IsEndangeredDuring m.half (demand_of m advisory) (area_of_cell m i j k) w }
     ensures boxes { (m : ModelData) (box : Box) (advisory : ℕ) (w : Times) →
         IsWindowOfBox m box.range box.closing w →
-        IsEndangeredBox m box advisory ↔ IsEndangeredDuring m.half (demand_of m advisory) (area_of_box box) w }
+        IsEndangeredBox m box advisory
+        ↔ IsEndangeredDuring m.half (demand_of m advisory) (area_of_box box) w }
 {}
 
 /// Contact at any time of a flight from a cell or a box endangers it, not only contact at the end of its response.
@@ -63,12 +65,14 @@ pub fn contact_on_the_way_endangers()
     ensures cells { (m : ModelData) (n i j k advisory q : ℕ) (s : State) (response : List Segment) (t : ℕ) →
         let v = s.own *ℤ pos q in
         IsModel m → advisory < m.grid.advisories → 0 < q → IsInCell m n i j k q s →
-        Meets (scaled q (demand_of m advisory)) v response → t ≤ lasting response → IsInContact m q s t (climb v (until t response)) →
+        Meets (scaled q (demand_of m advisory)) v response → t ≤ lasting response →
+        IsInContact m q s t (climb v (until t response)) →
         IsEndangeredCell m n i j k advisory }
     ensures boxes { (m : ModelData) (box : Box) (advisory q : ℕ) (s : State) (response : List Segment)
         (t : ℕ) → let v = s.own *ℤ pos q in
         IsModel m → advisory < m.grid.advisories → 0 < q → IsInBox box q s →
-        Meets (scaled q (demand_of m advisory)) v response → t ≤ lasting response → IsInContact m q s t (climb v (until t response)) →
+        Meets (scaled q (demand_of m advisory)) v response → t ≤ lasting response →
+        IsInContact m q s t (climb v (until t response)) →
         IsEndangeredBox m box advisory }
 {}
 
@@ -78,7 +82,8 @@ pub fn clear_areas_are_safe()
         ¬ IsEndangeredDuring half a area w }
     ensures cells { (m : ModelData) (n i j k advisory : ℕ) (w : Times) → IsModel m →
         advisory < m.grid.advisories → IsWindowOfCell m n w →
-        IsClear m.half (demand_of m advisory) (area_of_cell m i j k) w → ¬ IsEndangeredCell m n i j k advisory }
+        IsClear m.half (demand_of m advisory) (area_of_cell m i j k) w
+        → ¬ IsEndangeredCell m n i j k advisory }
     ensures boxes { (m : ModelData) (box : Box) (advisory : ℕ) (w : Times) → IsModel m →
         advisory < m.grid.advisories →
         IsWindowOfBox m box.range box.closing w →
@@ -94,5 +99,6 @@ pub fn extremes_are_one()
         IsHighExtreme a area w t → s ≡ t }
     ensures windows { (a : Demand) (area : Area) (v w : Times) (time : Fraction) →
         ((q t : ℕ) → 0 < q → IsDuring q v t ↔ IsDuring q w t) →
-        (IsLowExtreme a area v time → IsLowExtreme a area w time) × (IsHighExtreme a area v time → IsHighExtreme a area w time) }
+        (IsLowExtreme a area v time → IsLowExtreme a area w time)
+        × (IsHighExtreme a area v time → IsHighExtreme a area w time) }
 {}

@@ -7,3 +7,4 @@ pub mod Squares
 pub mod Orders
 pub mod IntRing
 pub mod Multipliers
+pub mod WideQuotients

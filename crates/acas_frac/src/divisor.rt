@@ -52,4 +52,22 @@ impl Divisor {
     {
         upper_half(x + self.by, self.multiplier) >> self.shift
     }
+
+    /// The quotient of a number of 128 bits by the divisor, rounded down: that of its upper digits, and that of what these leave, two
+    /// products in the place of a division.
+    pub fn down_wide(self, x: u128) -> u128
+        requires divisor { IsDivisor self }
+        requires by { self.by ≤ 2 ^ 62 }
+        ensures { result ≡ x / self.by }
+    {
+        let by = u128::from(self.by);
+        let lower = 62 - u32::from(self.shift);
+        let upper = x >> lower;
+        if upper >= 1 << 63 {
+            return x / by;
+        }
+        let first = u128::from(self.down(upper as u64)) << lower;
+        let rest = x - first * by;
+        first + u128::from(self.down(rest as u64))
+    }
 }

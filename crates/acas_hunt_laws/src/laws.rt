@@ -58,7 +58,8 @@ pub fn found_courses_are_one()
 pub fn hunts_find_a_course()
     ensures found { (half : ℕ) (h : Hunt) → IsHunt h → CanMeet half h → (c : Course) × Finds half h c }
     ensures flown { (q a : ℕ) (c : Course) →
-        (hold : List Segment) × (rest : List Segment) × (turn : List Segment) × IsFlownBy q a c hold rest turn }
+        (hold : List Segment) × (rest : List Segment) × (turn : List Segment)
+        × IsFlownBy q a c hold rest turn }
 {}
 
 /// An area that is not apart is endangered by a manoeuvre, and the hunt at the first times of the two least gaps can meet.

@@ -25,7 +25,8 @@ pub fn intruders_fly_within_two_numbers()
 /// A meeting is a state of the box, a response that meets the advisory and a flight that the intruder may fly, which last as long, such
 /// that then the range is within the radius, and the intruder, after both climbs, within the half height.
 pub fn meetings_in_numbers()
-    ensures { (m : ModelData) (advisory : ℕ) (may : Manoeuvre) (box : Box) (q : ℕ) (s : State) (response flight : List Segment) →
+    ensures { (m : ModelData) (advisory : ℕ) (may : Manoeuvre) (box : Box) (q : ℕ) (s : State)
+        (response flight : List Segment) →
         let t = lasting response in
         IsMeeting m advisory may box q s response flight
         ↔ ((0 < q) × IsInBox box q s × Meets (scaled q (demand_of m advisory)) (s.own *ℤ pos q) response

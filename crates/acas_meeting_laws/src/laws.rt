@@ -17,6 +17,7 @@ pub fn meetings_are_one()
     ensures some { (m : ModelData) (may : Manoeuvre) (b : AuditedBox) → IsModel m → IsBoxOf m b →
         IsArea (area_of_box b.states) → 0 < may.accel → may.rate ≤ fastest → RatesFit may b.states.intruder →
         (v : MeetVerdict) × IsMeetVerdict m may b v }
-    ensures one { (m : ModelData) (may : Manoeuvre) (b : AuditedBox) (v u : MeetVerdict) → IsModel m → IsBoxOf m b →
+    ensures one { (m : ModelData) (may : Manoeuvre) (b : AuditedBox) (v u : MeetVerdict) → IsModel m →
+        IsBoxOf m b →
         0 < may.accel → IsMeetVerdict m may b v → IsMeetVerdict m may b u → v ≡ u }
 {}

@@ -17,7 +17,8 @@ pub fn courses_in_numbers()
         ≡ held c.own.own c.own.aim c.own.pull c.own.hold c.own.time *ℤ pos a
         -ℤ (c.own.altitude *ℤ pos (q * q * q * a) +ℤ approach c.own.intruder c.goal a c.own.time) *ℤ pos c.own.pull }
     ensures den { (q a : ℕ) (c : Course) → (value q a c).den ≡ q * q * q * c.own.pull * a }
-    ensures low { (h : Hunt) → low_course h ≡ course (low_flight h.search) (over_square h.search (pos h.may.rate)) }
+    ensures low { (h : Hunt)
+        → low_course h ≡ course (low_flight h.search) (over_square h.search (pos h.may.rate)) }
     ensures high { (h : Hunt) →
         high_course h ≡ course (high_flight h.search) (over_square h.search (neg_ℤ (pos h.may.rate))) }
 {}

@@ -1,5 +1,5 @@
 //! A folder of files by name, which may fail.
-ghost use Rattle.std.specs.Prelude.{◌≡◌, ◌<◌, ◌≤◌, Bool, [], List, ℕ, Option, length, take, drop, IsSome, IfOk, OnOk, OnErr, IsErrOf, IsTrue};
+ghost use Rattle.std.specs.Prelude.{◌≡◌, ◌<◌, ◌≤◌, Bool, [], List, ℕ, Option, length, take, IsSome, IfOk, OnOk, OnErr, IsErrOf, IsTrue};
 ghost use Rattle.acas_outside.specs.Counts.{Rose, raised};
 ghost use Rattle.acas_outside.specs.Files.{Files, Given, Grows, Reads, Stores};
 
@@ -31,13 +31,12 @@ pub trait Folder {
     /// The names that a caller may use. No call changes them.
     ghost serves: { Self → List ℕ → Bool };
 
-    /// Reads bytes of a file from the place `at` on, and says how many; the rest of `into` stays as it is.
+    /// Reads bytes of a file from the place `at` on, and says how many. What stands in `into` behind them is not known.
     ///
     /// No bytes for an `into` that is not empty are the end of the file.
     fn read(&mut self, name: &str, at: u64, into: &mut [u8]) -> Result<usize, ReadMiss>
         requires { IsTrue (serves self.old name.now) }
         ensures bound { IfOk result (λ n. n ≤ length into.new) }
-        ensures rest { IfOk result (λ n. drop n into.new ≡ drop n into.old) }
         ensures given { Given (holds self.old) name.now (λ file. Reads file at result into.new) }
         ensures holds { holds self.new ≡ holds self.old }
         ensures serves { serves self.new ≡ serves self.old }

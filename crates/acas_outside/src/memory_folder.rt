@@ -120,7 +120,6 @@ impl Folder for MemoryFolder {
 
     fn read(&mut self, name: &str, at: u64, into: &mut [u8]) -> Result<usize, ReadMiss>
         ensures bound { IfOk result (λ n. n ≤ length into.new) }
-        ensures rest { IfOk result (λ n. drop n into.new ≡ drop n into.old) }
         ensures given { let files = (folder_state self.old).files in
             Given (Some files) name.now (λ file. Reads file at result into.new) }
         ensures holds { (folder_state self.new).files ≡ (folder_state self.old).files }
@@ -212,7 +211,6 @@ impl Folder for MemoryFolder {
 fn copy_piece(bytes: &[u8], at: u64, most: u32, into: &mut [u8]) -> usize
     requires { 1 ≤ most }
     ensures takes { TakesFrom bytes.now at result into.new }
-    ensures rest { drop result into.new ≡ drop result into.old }
     ensures count { result ≡ min (min (length bytes.now - at) (length into.old)) most }
 {
     let from = bytes.len().min(at as usize);

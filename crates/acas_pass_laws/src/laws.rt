@@ -43,7 +43,8 @@ pub fn passes_are_joined()
 /// contact.
 pub fn found_flights_end_in_contact()
     ensures { (half : ℕ) (s : Search) (w : Times) (c : Flight) (hold rest : List Segment) →
-        thinnest ≤ 2 * half → IsSearch s → IsTimed s w → CanMeet half s → IsFound half s c → IsResponse (unit s) c hold rest →
+        thinnest ≤ 2 * half → IsSearch s → IsTimed s w → CanMeet half s → IsFound half s c →
+        IsResponse (unit s) c hold rest →
         let q = fine (unit s) c in
         EndsInVerticalContact half s.demand s.area w q (c.altitude *ℤ pos q) (c.own *ℤ pos c.pull) (c.intruder *ℤ pos c.pull) (hold ++ rest) }
 {}

@@ -40,7 +40,8 @@ impl Places {
     pub(crate) fn make<A: Allocator>(alloc: &A, len: usize) -> Option<(Places, Right<A>)>
         requires { len ≤ 8_000_000 }
         ensures { IfSome result
-            (λ m. (m.0.slots ≡ replicate len None) × (m.1.alloc ≡ alloc.now) × (m.1.at ≡ m.0.at) × (m.1.len ≡ len)) }
+            (λ m. (m.0.slots ≡ replicate len None) × (m.1.alloc ≡ alloc.now) × (m.1.at ≡ m.0.at)
+            × (m.1.len ≡ len)) }
     {
         match alloc.allocate(len * 16, 8) {
             Ok(block) => {

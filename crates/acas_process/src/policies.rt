@@ -16,10 +16,12 @@ ghost use Rattle.acas_process.specs.Policies.{AreBounds, AreChanceBounds, always
 /// One law for tables and for policies: values that are high enough over the advisories that are allowed are at least what a policy
 /// costs that keeps to these, and values that are low enough are at most that.
 pub fn values_bound_what_is_allowed()
-    ensures above { (m : ModelData) (allowed : Allowed) (values : ℕ → Values) (policy : Policy) (n p : ℕ) (x : Vertex) →
+    ensures above { (m : ModelData) (allowed : Allowed) (values : ℕ → Values) (policy : Policy) (n p : ℕ)
+        (x : Vertex) →
         IsModel m → AreHighEnough m allowed values → KeepsTo m allowed policy → IsEntry m n p x →
         (pos 1_000_000 *ℤ expected_cost m policy n p x) ≤ℤ (pos (transition_total m ^ n) *ℤ values n p x) }
-    ensures below { (m : ModelData) (allowed : Allowed) (values : ℕ → Values) (policy : Policy) (n p : ℕ) (x : Vertex) →
+    ensures below { (m : ModelData) (allowed : Allowed) (values : ℕ → Values) (policy : Policy) (n p : ℕ)
+        (x : Vertex) →
         IsModel m → AreLowEnough m allowed values → KeepsTo m allowed policy → IsEntry m n p x →
         (pos (transition_total m ^ n) *ℤ values n p x) ≤ℤ (pos 1_000_000 *ℤ expected_cost m policy n p x) }
 {}
@@ -33,7 +35,8 @@ pub fn tables_and_policies_have_such_values()
         AreHighEnough m (only policy) (policy_values up m policy) }
     ensures policy_lower { (m : ModelData) (policy : Policy) →
         AreLowEnough m (only policy) (policy_values down m policy) }
-    ensures keeps { (m : ModelData) (policy : Policy) → SaysAdvisories m policy → KeepsTo m (only policy) policy }
+    ensures keeps { (m : ModelData) (policy : Policy) → SaysAdvisories m policy
+        → KeepsTo m (only policy) policy }
     ensures chooses { (m : ModelData) (policy : Policy) → IsModel m → IsPolicy m policy →
         KeepsTo m (any_choice m) policy }
 {}
@@ -46,7 +49,8 @@ pub fn policy_values_bound_costs()
         AreBounds m n (expected_cost m policy n p x)
         (policy_values down m policy n p x) (policy_values up m policy n p x) }
     ensures clear { (m : ModelData) → IsModel m → SaysAdvisories m always_clear }
-    ensures policies { (m : ModelData) (policy : Policy) → IsModel m → IsPolicy m policy → SaysAdvisories m policy }
+    ensures policies { (m : ModelData) (policy : Policy) → IsModel m → IsPolicy m policy
+        → SaysAdvisories m policy }
 {}
 
 /// A chance of contact is an expected cost: that of the same policy in the same model where contact costs 1 and a second costs nothing,
@@ -55,7 +59,8 @@ pub fn chances_are_expected_costs()
     ensures cost { (m : ModelData) (policy : Policy) (n p : ℕ) (x : Vertex) →
         contact_chance m policy n p x ≡ expected_cost (counting_contact m) policy n p x }
     ensures model { (m : ModelData) → IsModel m → IsModel (counting_contact m) }
-    ensures least { (m : ModelData) (policy : Policy) (n p : ℕ) (x : Vertex) → pos 0 ≤ℤ contact_chance m policy n p x }
+    ensures least { (m : ModelData) (policy : Policy) (n p : ℕ) (x : Vertex)
+        → pos 0 ≤ℤ contact_chance m policy n p x }
     ensures greatest { (m : ModelData) (policy : Policy) (n p : ℕ) (x : Vertex) → IsModel m →
         contact_chance m policy n p x ≤ℤ pos (transition_total m ^ n) }
 {}
@@ -71,15 +76,20 @@ pub fn policy_values_bound_chances()
 /// What a sound table's advice costs is between the table's own values. The values of that policy and the table's own never contradict
 /// each other, those of the compiled table among them.
 pub fn policy_values_and_tables_never_contradict()
-    ensures costs_below { (m : ModelData) (t : Table) (n p : ℕ) (x : Vertex) → IsModel m → IsSound m t → IsEntry m n p x →
+    ensures costs_below { (m : ModelData) (t : Table) (n p : ℕ) (x : Vertex) → IsModel m → IsSound m t →
+        IsEntry m n p x →
         (pos (transition_total m ^ n) *ℤ t.lower n p x) ≤ℤ (pos 1_000_000 *ℤ expected_cost m t.advice n p x) }
-    ensures costs_above { (m : ModelData) (t : Table) (n p : ℕ) (x : Vertex) → IsModel m → IsSound m t → IsEntry m n p x →
+    ensures costs_above { (m : ModelData) (t : Table) (n p : ℕ) (x : Vertex) → IsModel m → IsSound m t →
+        IsEntry m n p x →
         (pos 1_000_000 *ℤ expected_cost m t.advice n p x) ≤ℤ (pos (transition_total m ^ n) *ℤ t.upper n p x) }
-    ensures upper { (m : ModelData) (t : Table) (n p : ℕ) (x : Vertex) → IsModel m → IsSound m t → IsEntry m n p x →
+    ensures upper { (m : ModelData) (t : Table) (n p : ℕ) (x : Vertex) → IsModel m → IsSound m t →
+        IsEntry m n p x →
         t.lower n p x ≤ℤ policy_values up m t.advice n p x }
-    ensures lower { (m : ModelData) (t : Table) (n p : ℕ) (x : Vertex) → IsModel m → IsSound m t → IsEntry m n p x →
+    ensures lower { (m : ModelData) (t : Table) (n p : ℕ) (x : Vertex) → IsModel m → IsSound m t →
+        IsEntry m n p x →
         policy_values down m t.advice n p x ≤ℤ t.upper n p x }
-    ensures compiled { (m : ModelData) (n p : ℕ) (x : Vertex) → IsModel m → IsEntry m n p x → let t = compiled m in
+    ensures compiled { (m : ModelData) (n p : ℕ) (x : Vertex) → IsModel m → IsEntry m n p x →
+        let t = compiled m in
         (t.lower n p x ≤ℤ policy_values up m t.advice n p x)
         × (policy_values down m t.advice n p x ≤ℤ t.upper n p x) }
 {}
@@ -100,9 +110,11 @@ pub fn policies_that_say_the_same_are_one()
 
 /// The values of a policy are at most 10^15 for each second to go and one more, so they fit 64 bits.
 pub fn policy_values_fit()
-    ensures upper { (m : ModelData) (policy : Policy) (n p : ℕ) (x : Vertex) → IsModel m → SaysAdvisories m policy →
+    ensures upper { (m : ModelData) (policy : Policy) (n p : ℕ) (x : Vertex) → IsModel m →
+        SaysAdvisories m policy →
         IsEntry m n p x → unsigned_abs (policy_values up m policy n p x) ≤ (n + 1) * 10 ^ 15 }
-    ensures lower { (m : ModelData) (policy : Policy) (n p : ℕ) (x : Vertex) → IsModel m → SaysAdvisories m policy →
+    ensures lower { (m : ModelData) (policy : Policy) (n p : ℕ) (x : Vertex) → IsModel m →
+        SaysAdvisories m policy →
         IsEntry m n p x → unsigned_abs (policy_values down m policy n p x) ≤ (n + 1) * 10 ^ 15 }
 {}
 
@@ -112,12 +124,16 @@ pub fn policy_bounds_in_numbers()
         ((pos (transition_total m ^ n) *ℤ lower) ≤ℤ (pos 1_000_000 *ℤ number))
         × ((pos 1_000_000 *ℤ number) ≤ℤ (pos (transition_total m ^ n) *ℤ upper))
         × (upper ≤ℤ (lower +ℤ pos (2 * n))) }
-    ensures chances { (m : ModelData) (n : ℕ) (chance lower upper : ℤ) → AreChanceBounds m n chance lower upper →
+    ensures chances { (m : ModelData) (n : ℕ) (chance lower upper : ℤ) →
+        AreChanceBounds m n chance lower upper →
         AreBounds m n chance lower upper × (pos 0 ≤ℤ lower) × (upper ≤ℤ pos 1_000_000) }
-    ensures contact { (m : ModelData) (policy : Policy) (p : ℕ) (x : Vertex) → let h = place_value m.grid.h x.i in
+    ensures contact { (m : ModelData) (policy : Policy) (p : ℕ) (x : Vertex) →
+        let h = place_value m.grid.h x.i in
         neg_ℤ (pos m.half) ≤ℤ h → h ≤ℤ pos m.half → contact_chance m policy 0 p x ≡ pos 1 }
-    ensures above { (m : ModelData) (policy : Policy) (p : ℕ) (x : Vertex) → let h = place_value m.grid.h x.i in
+    ensures above { (m : ModelData) (policy : Policy) (p : ℕ) (x : Vertex) →
+        let h = place_value m.grid.h x.i in
         pos m.half <ℤ h → contact_chance m policy 0 p x ≡ pos 0 }
-    ensures below { (m : ModelData) (policy : Policy) (p : ℕ) (x : Vertex) → let h = place_value m.grid.h x.i in
+    ensures below { (m : ModelData) (policy : Policy) (p : ℕ) (x : Vertex) →
+        let h = place_value m.grid.h x.i in
         h <ℤ neg_ℤ (pos m.half) → contact_chance m policy 0 p x ≡ pos 0 }
 {}

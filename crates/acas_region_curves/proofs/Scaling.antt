@@ -20,6 +20,7 @@ record IsFine (vd kd bd gd td bn : ℕ) : Type 0 where
   times : td * gd ≤ TIME_PARTS
   early : vd * kd * bd * (td * gd) * (td * gd) ≤ 10 ^ 13
   late : vd * kd * (td * gd) * (bn * (vd * kd)) ≤ 10 ^ 13
+  den : vd * kd * bd * (td * gd) * (td * gd) * (bn * (vd * kd)) ≤ 10 ^ 18
   rates : vd * kd ≤ RATE_PARTS
 
 all_whole : (gd td bn : ℕ) → td * gd ≤ TIME_PARTS → bn ≤ GREATEST_LIMIT → IsFine 1 1 1 gd td bn
@@ -28,6 +29,7 @@ all_whole gd td bn h b = record {
   times = h;
   early = omega (arith, mul-le-mul h h);
   late = omega (arith, mul-le-mul h b);
+  den = omega (arith, mul-le-mul (mul-le-mul h h) b);
   rates = omega arith;
 }
 
@@ -40,6 +42,7 @@ coarse_rate vd kd td bn v h b =
       times = omega arith;
       early = omega (arith, mul-le-mul both h);
       late = omega (arith, mul-le-mul both pulls);
+      den = omega (arith, mul-le-mul (mul-le-mul both h) pulls);
       rates = v;
     }
 
@@ -51,6 +54,7 @@ coarse_pull bd td bn p h b =
       times = omega arith;
       early = omega (arith, mul-le-mul both h);
       late = omega (arith, mul-le-mul h b);
+      den = omega (arith, mul-le-mul (mul-le-mul both h) b);
       rates = omega arith;
     }
 
@@ -188,9 +192,6 @@ module _ (v k b g t : Fraction) (bn gn tn : ℕ) (w : IsHeldCurve v k b g t) (eb
       (ring (pos tn ∷ pos t.den ∷ pos g.den ∷ []) ((at 0 ⊗ at 2) ⊗ at 1) (at 0 ⊗ (at 1 ⊗ at 2)) refl ∙ ap (λ z. z *ℤ pos (t.den * g.den)) (sym et))
       e
 
-  pull_small : bn * (v.den * k.den) ≤ GREATEST_LIMIT * PULL_PARTS * RATE_PARTS
-  pull_small = let m : bn ≤ GREATEST_LIMIT * PULL_PARTS = omega (arith, pull_most, w.curve.pull.den) in let p = mul-le-mul m fine.rates in omega arith
-
   pub scaling : IsScaling v k b g t (v.num *ℤ pos (k.den * (b.den * (t.den * g.den)))) (k.num *ℤ pos (v.den * (b.den * (t.den * g.den)))) (bn * (v.den * k.den)) (gn * t.den) (tn * g.den)
       (v.den * k.den * b.den * (t.den * g.den) * (t.den * g.den) * (bn * (v.den * k.den)))
   scaling = record {
@@ -199,7 +200,7 @@ module _ (v k b g t : Fraction) (bn gn tn : ℕ) (w : IsHeldCurve v k b g t) (eb
     time = omega (arith, time_small, fine.times);
     flown = flown_small;
     some = mul-pos (mul-pos (mul-pos (mul-pos rates_some w.curve.pull.some) times_some) times_some) pull_some;
-    den_small = (let p = mul-le-mul fine.early pull_small in omega (arith, p));
+    den_small = fine.den;
     reduces = reduces;
     exact = exact;
   }

@@ -3,3 +3,4 @@ pub mod Scaling
 pub mod Chases
 pub mod Sizes
 pub mod View
+pub mod Ratios

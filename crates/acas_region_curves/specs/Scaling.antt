@@ -14,6 +14,6 @@ pub record IsScaling (v k b g t : Fraction) (vn kn : ℤ) (bn gn tn den : ℕ) :
   pub time : tn ≤ WINDOW_SECONDS * TIME_PARTS
   pub flown : bn * tn ≤ gain_size
   pub some : 0 < den
-  pub den_small : den ≤ 10 ^ 21
+  pub den_small : den ≤ 10 ^ 18
   pub reduces : ReducesWithinBounds (unsigned_abs (held vn kn bn gn tn)) den
   pub exact : (y : Fraction) → y.num *ℤ pos den ≡ held vn kn bn gn tn *ℤ pos y.den → IsHeld v k b g t y

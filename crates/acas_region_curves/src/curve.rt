@@ -4,10 +4,12 @@ ghost use Rattle.acas_frac.specs.Fraction.{Fraction};
 ghost use Rattle.acas_flight.specs.Curves.{held};
 ghost use Rattle.acas_flight.specs.Values.{IsApproach, IsHeld, all_lost, less_or_more};
 ghost use Rattle.acas_region_curves.specs.Limits.{IsCurve, IsHeldCurve, IsHold, IsPull, IsRate, IsTime};
+ghost use Rattle.acas_region_curves.specs.Ratios.{IsRatio};
 ghost use Rattle.acas_region_curves.specs.Scaling.{IsScaling};
 ghost use Rattle.acas_region_curves.specs.Sizes.{gain_size, rate_size, way_size};
 
 use crate::fineness::{HOLD_PARTS, PULL_PARTS, RATE_PARTS, TIME_PARTS};
+use crate::ratio::Ratio;
 use acas_frac::Frac;
 use acas_units::{GREATEST_DELAY, GREATEST_LIMIT, GREATEST_RATE, WINDOW_SECONDS};
 
@@ -195,6 +197,19 @@ pub fn held(v: &Frac, aim: &Frac, pull: &Frac, hold: &Frac, t: &Frac) -> Frac
     Frac::new(
         numerator(s.start, s.aim, s.pull, s.hold, s.time),
         s.den as i128,
+    )
+}
+
+/// The same climb as it was formed, for a flight that is only compared: it need not be in lowest terms.
+pub fn held_ratio(v: &Frac, aim: &Frac, pull: &Frac, hold: &Frac, t: &Frac) -> Ratio
+    requires { IsHeldCurve v.now aim.now pull.now hold.now t.now }
+    ensures climb { IsHeld v.now aim.now pull.now hold.now t.now result }
+    ensures bounds { IsRatio result }
+{
+    let s = over_common(v, aim, pull, hold, t);
+    Ratio::new(
+        numerator(s.start, s.aim, s.pull, s.hold, s.time),
+        s.den as u64,
     )
 }
 

@@ -17,7 +17,8 @@ pub fn replays_are_one()
         (count : ℕ) × (text : List ℕ) × IsReplay m a e count text }
     ensures one { (m : ModelData) (a : AdvicesData) (e : EncounterData)
         (count other_count : ℕ) (text other_text : List ℕ) →
-        IsReplay m a e count text → IsReplay m a e other_count other_text → (count ≡ other_count) × (text ≡ other_text) }
+        IsReplay m a e count text → IsReplay m a e other_count other_text
+        → (count ≡ other_count) × (text ≡ other_text) }
 {}
 
 /// What a replay advises is ruled on in the audit of the same table: where the state of a second may be in a cell, and the issued advice

@@ -155,7 +155,8 @@ fn write_second<S: Sink>(
     ensures ok { OnOk result ((c : Course) → IsCourseOf replayed.now c
         → Prints (S.written sink.old) (S.written sink.new) pen.old.buffer pen.new.buffer (line_in replayed.now c second)) }
     ensures err { OnErr result ((c : Course) → IsCourseOf replayed.now c
-        → AppendsPart (S.written sink.old) (S.written sink.new) (pen.old.buffer ++ line_in replayed.now c second)) }
+        → AppendsPart (S.written sink.old) (S.written sink.new) (pen.old.buffer
+        ++ line_in replayed.now c second)) }
     ensures frame { Emits S.Sink sink.old sink.new (IsErr result) }
 {
     let found = replayed.found_in(second, &at.state);

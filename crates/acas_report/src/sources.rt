@@ -7,7 +7,7 @@ ghost use Rattle.acas_report.specs.Ready.{IsReady};
 use acas_audit_blocks::{BlockAudit, DecidedBlock, Decisions};
 use acas_base::{Advices, Model};
 use acas_cell::{box_verdict, verdict, witness_of};
-use acas_cells::CellName;
+use acas_cells::{AdviceSet, CellName, advices_at};
 use acas_report_lines::{BoxRulings, Rulings};
 use acas_rulings::{AuditBox, Ruling};
 
@@ -20,7 +20,7 @@ impl Rulings for OneByOne {
 
     ghost fits = { λ it m. Unit {0} };
 
-    ghost ready = { λ it m n present. Unit {0} };
+    ghost ready = { λ it m a n present. Unit {0} };
 
     ghost takes = { λ m a n present number. number ≡ 0 };
 
@@ -32,6 +32,23 @@ impl Rulings for OneByOne {
         _present: u8,
         _count: &mut Decisions,
     ) {}
+
+    fn advised(
+        &self,
+        model: &Model,
+        advices: &Advices,
+        n: u32,
+        present: u8,
+        i: u32,
+        j: u32,
+        k: u32,
+    ) -> AdviceSet {
+        advices_at(model, advices, n, present, i, j, k).without(0)
+    }
+
+    fn certifies(&self, model: &Model, name: &CellName) -> bool {
+        matches!(verdict(model, name), Ruling::Certified)
+    }
 
     fn ruling(&self, model: &Model, name: &CellName) -> Ruling {
         verdict(model, name)
@@ -53,7 +70,7 @@ impl Rulings for ByBlocks {
 
     ghost fits = { λ it m. IsAuditOf m it.0 };
 
-    ghost ready = { λ it m n present. IsReady m n present it.0 };
+    ghost ready = { λ it m a n present. IsReady m a n present it.0 };
 
     ghost takes = { AreDecisionsOf };
 
@@ -66,6 +83,39 @@ impl Rulings for ByBlocks {
         count: &mut Decisions,
     ) {
         self.0.decide(model, advices, n, present, count);
+    }
+
+    fn advised(
+        &self,
+        _model: &Model,
+        _advices: &Advices,
+        _n: u32,
+        _present: u8,
+        i: u32,
+        j: u32,
+        k: u32,
+    ) -> AdviceSet {
+        self.0.certified(i, j, k).union(self.0.reported(i, j, k))
+    }
+
+    fn certifies(&self, model: &Model, name: &CellName) -> bool {
+        // Opens the grid: the advice is one of a set's.
+        let _ = model.grid();
+        let CellName {
+            i,
+            j,
+            k,
+            advice,
+            ..
+        } = *name;
+        if self.0.certified(i, j, k).has(advice) {
+            return true;
+        }
+        if self.0.reported(i, j, k).has(advice) {
+            return false;
+        }
+        // The advice is tabled at no corner of the cell, and was not decided.
+        matches!(verdict(model, name), Ruling::Certified)
     }
 
     fn ruling(&self, model: &Model, name: &CellName) -> Ruling {

@@ -29,15 +29,20 @@ ghost use Rattle.acas_report_laws.specs.Holds.{HoldsOfBox, HoldsOfCell, HoldsOfM
 /// of the same cells in order. And so do boxes, also against an intruder that may change its rate.
 pub fn lines_say_their_rulings()
     ensures all { (m : ModelData) (a : AdvicesData) (ruled other : List (Ruled CellName Ruling)) → IsModel m →
-        All (IsNameOf m) (names_of ruled) → All (IsNameOf m) (names_of other) → All (λ r. IsShortRuling r.ruling) ruled →
-        report_text m a which.All ruled ≡ report_text m a which.All other → map told ruled ≡ map told other }
-    ensures reported { (m : ModelData) (a : AdvicesData) (ruled other : List (Ruled CellName Ruling)) → IsModel m →
-        All (IsNameOf m) (names_of ruled) → IsStrictlySortedBy by_numbers (names_of ruled) → names_of ruled ≡ names_of other →
+        All (IsNameOf m) (names_of ruled) → All (IsNameOf m) (names_of other) →
         All (λ r. IsShortRuling r.ruling) ruled →
-        report_text m a which.Reported ruled ≡ report_text m a which.Reported other → map told ruled ≡ map told other }
+        report_text m a which.All ruled ≡ report_text m a which.All other → map told ruled ≡ map told other }
+    ensures reported { (m : ModelData) (a : AdvicesData) (ruled other : List (Ruled CellName Ruling)) →
+        IsModel m →
+        All (IsNameOf m) (names_of ruled) → IsStrictlySortedBy by_numbers (names_of ruled) →
+        names_of ruled ≡ names_of other →
+        All (λ r. IsShortRuling r.ruling) ruled →
+        report_text m a which.Reported ruled ≡ report_text m a which.Reported other
+        → map told ruled ≡ map told other }
     ensures boxes { (ruled other : List (Ruled ℕ Ruling)) →
         All (λ place. place < 10 ^ 63) (names_of ruled) → All (λ place. place < 10 ^ 63) (names_of other) →
-        All (λ r. IsShortRuling r.ruling) ruled → regions_text ruled ≡ regions_text other → map told ruled ≡ map told other }
+        All (λ r. IsShortRuling r.ruling) ruled → regions_text ruled ≡ regions_text other
+        → map told ruled ≡ map told other }
     ensures meetings { (ruled other : List (Ruled ℕ MeetVerdict)) →
         All (λ place. place < 10 ^ 63) (names_of ruled) → All (λ place. place < 10 ^ 63) (names_of other) →
         All (λ r. IsShortVerdict r.ruling) ruled → meetings_text ruled ≡ meetings_text other →
@@ -49,15 +54,18 @@ pub fn lines_say_their_rulings()
 pub fn printed_rulings_hold()
     ensures cells { (m : ModelData) (a : AdvicesData) (lines : Which) (counts : Counts) (text : List ℕ)
         (ruled : List (Ruled CellName Ruling)) →
-        IsModel m → IsReport m a lines counts text → names_of ruled ≡ advisory_cells m a → report_text m a lines ruled ≡ text →
+        IsModel m → IsReport m a lines counts text → names_of ruled ≡ advisory_cells m a →
+        report_text m a lines ruled ≡ text →
         All (HoldsOfCell m) ruled }
     ensures boxes { (m : ModelData) (boxes : List AuditedBox) (counts : Counts) (text : List ℕ)
         (ruled : List (Ruled ℕ Ruling)) →
         IsRegionsReport m boxes counts text → names_of ruled ≡ places boxes → regions_text ruled ≡ text →
         All (HoldsOfBox m boxes) ruled }
-    ensures meetings { (m : ModelData) (may : Manoeuvre) (boxes : List AuditedBox) (counts : MeetCounts) (text : List ℕ)
+    ensures meetings { (m : ModelData) (may : Manoeuvre) (boxes : List AuditedBox) (counts : MeetCounts)
+        (text : List ℕ)
         (ruled : List (Ruled ℕ MeetVerdict)) →
-        IsMeetingsReport m may boxes counts text → names_of ruled ≡ places boxes → meetings_text ruled ≡ text →
+        IsMeetingsReport m may boxes counts text → names_of ruled ≡ places boxes →
+        meetings_text ruled ≡ text →
         All (HoldsOfMeeting m may boxes) ruled }
 {}
 
@@ -81,10 +89,12 @@ pub fn reports_are_one()
 pub fn begun_reports_begin_the_report()
     ensures audits { (m : ModelData) (a : AdvicesData) (lines : Which) (old new : Option (List ℕ))
         (counts : Counts) (text : List ℕ) →
-        IsModel m → IsReportBegun m a lines old new → IsReport m a lines counts text → AppendsPart old new text }
+        IsModel m → IsReportBegun m a lines old new → IsReport m a lines counts text
+        → AppendsPart old new text }
     ensures boxes { (m : ModelData) (boxes : List AuditedBox) (old new : Option (List ℕ)) (counts : Counts)
         (text : List ℕ) →
-        IsModel m → AreBoxesOf m boxes → IsRegionsReportBegun m boxes old new → IsRegionsReport m boxes counts text →
+        IsModel m → AreBoxesOf m boxes → IsRegionsReportBegun m boxes old new →
+        IsRegionsReport m boxes counts text →
         AppendsPart old new text }
 {}
 
@@ -99,10 +109,12 @@ pub fn verdicts_make_one_report()
         (text t : List ℕ) →
         ((place : ℕ) → place < length boxes → (v w : MeetVerdict) →
         IsMeetVerdictAt m may boxes place v → IsMeetVerdictAt m may boxes place w → v ≡ w) →
-        IsMeetingsReport m may boxes counts text → IsMeetingsReport m may boxes c t → (counts ≡ c) × (text ≡ t) }
+        IsMeetingsReport m may boxes counts text → IsMeetingsReport m may boxes c t
+        → (counts ≡ c) × (text ≡ t) }
     ensures begun { (m : ModelData) (may : Manoeuvre) (boxes : List AuditedBox) (old new : Option (List ℕ))
         (counts : MeetCounts) (text : List ℕ) →
         ((place : ℕ) → place < length boxes → (v w : MeetVerdict) →
         IsMeetVerdictAt m may boxes place v → IsMeetVerdictAt m may boxes place w → v ≡ w) →
-        IsMeetingsBegun m may boxes old new → IsMeetingsReport m may boxes counts text → AppendsPart old new text }
+        IsMeetingsBegun m may boxes old new → IsMeetingsReport m may boxes counts text
+        → AppendsPart old new text }
 {}

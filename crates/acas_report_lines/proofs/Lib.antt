@@ -10,3 +10,4 @@ pub mod Carry
 pub mod Subjects
 pub mod Begun
 pub mod Reports
+pub mod Certified

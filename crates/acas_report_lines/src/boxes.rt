@@ -43,7 +43,8 @@ pub(crate) fn write_boxes_by<R: BoxSource, S: Sink>(
     rulings: &R,
     sink: &mut S,
 ) -> Result<Counts, ReportFault>
-    requires { (place : ℕ) → place < length boxes.now → R.takes rulings.now model.now (box_at boxes.now place) }
+    requires { (place : ℕ) → place < length boxes.now
+        → R.takes rulings.now model.now (box_at boxes.now place) }
     ensures report { IfOk result (λ counts. (text : List ℕ)
         × IsReportOn (IsSaidAt (R.rules rulings.now model.now) boxes.now) R.Ruling.certified (places boxes.now) 0
         (boxes_text R.Ruling.certified R.Ruling.text) counts text
@@ -71,7 +72,8 @@ fn write_whole<R: BoxSource, S: Sink>(
     sink: &mut S,
     pen: &mut Pen,
 ) -> Result<(), Failed>
-    requires boxes { (place : ℕ) → place < length boxes.now → R.takes rulings.now model.now (box_at boxes.now place) }
+    requires boxes { (place : ℕ) → place < length boxes.now
+        → R.takes rulings.now model.now (box_at boxes.now place) }
     requires empty { pen.old.buffer ≡ [] }
     requires certified { pen.old.counts.certified ≡ 0 }
     requires reported { pen.old.counts.reported ≡ 0 }
@@ -102,7 +104,8 @@ fn write_boxes<R: BoxSource, S: Sink>(
     sink: &mut S,
     pen: &mut Pen,
 ) -> Result<(), Failed>
-    requires boxes { (place : ℕ) → place < length boxes.now → R.takes rulings.now model.now (box_at boxes.now place) }
+    requires boxes { (place : ℕ) → place < length boxes.now
+        → R.takes rulings.now model.now (box_at boxes.now place) }
     requires room { Room (box_plan (R.rules rulings.now model.now) R.Ruling.certified R.Ruling.text boxes.now)
         pen.old.counts (places boxes.now) }
     ensures ok { OnOk result (Wrote (box_plan (R.rules rulings.now model.now) R.Ruling.certified R.Ruling.text boxes.now)

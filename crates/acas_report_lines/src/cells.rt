@@ -14,8 +14,7 @@ use crate::counts::leaves_out;
 use crate::lines::write_cell_line;
 use crate::pen::Pen;
 use crate::rulings::Rulings;
-use crate::said::Said;
-use acas_cells::{AdviceSet, CellName, advices_at};
+use acas_cells::{AdviceSet, CellName};
 use acas_count::Counter;
 use acas_outside::{Failed, Sink};
 
@@ -39,7 +38,8 @@ pub(crate) fn write_cells<R: Rulings, S: Sink>(
         (S.written sink.old) pen.old.buffer (S.written sink.new) (cells_of audit.now.model.now)) }
     ensures frame { Emits S.Sink sink.old sink.new (IsErr result) }
     ensures counted { OnOk result ((number : ℕ)
-        × ArePrepared R.takes audit.now.model.now audit.now.advices.now number × (count.new ≡ count.old + number)) }
+        × ArePrepared R.takes audit.now.model.now audit.now.advices.now number
+        × (count.new ≡ count.old + number)) }
     ensures rising { count.old ≤ count.new }
 {
     for n in 0..audit.model.grid().horizon {
@@ -71,7 +71,8 @@ fn write_layer<R: Rulings, S: Sink>(
     ensures frame { Emits S.Sink sink.old sink.new (IsErr result) }
     ensures fits { OnOk result (R.fits rulings.new audit.now.model.now) }
     ensures counted { OnOk result ((number : ℕ)
-        × IsLayerPrepared R.takes audit.now.model.now audit.now.advices.now n number × (count.new ≡ count.old + number)) }
+        × IsLayerPrepared R.takes audit.now.model.now audit.now.advices.now n number
+        × (count.new ≡ count.old + number)) }
     ensures most { OnOk result
         (count.new ≤ count.old + audit.now.model.now.grid.advisories * most_decisions audit.now.model.now) }
     ensures rising { count.old ≤ count.new }
@@ -99,7 +100,7 @@ fn write_block<R: Rulings, S: Sink>(
     pen: &mut Pen,
 ) -> Result<(), Failed>
     requires advices { AreAdvicesOf audit.now.model.now audit.now.advices.now }
-    requires ready { R.ready rulings.now audit.now.model.now at.n at.present }
+    requires ready { R.ready rulings.now audit.now.model.now audit.now.advices.now at.n at.present }
     requires n { at.n < audit.now.model.now.grid.horizon }
     requires present { at.present < audit.now.model.now.grid.advisories }
     requires room { Room (plan_of audit.now)
@@ -126,7 +127,7 @@ fn write_plane<R: Rulings, S: Sink>(
     pen: &mut Pen,
 ) -> Result<(), Failed>
     requires advices { AreAdvicesOf audit.now.model.now audit.now.advices.now }
-    requires ready { R.ready rulings.now audit.now.model.now at.n at.present }
+    requires ready { R.ready rulings.now audit.now.model.now audit.now.advices.now at.n at.present }
     requires n { at.n < audit.now.model.now.grid.horizon }
     requires present { at.present < audit.now.model.now.grid.advisories }
     requires i { at.i + 1 < length audit.now.model.now.grid.h }
@@ -154,7 +155,7 @@ fn write_row<R: Rulings, S: Sink>(
     pen: &mut Pen,
 ) -> Result<(), Failed>
     requires advices { AreAdvicesOf audit.now.model.now audit.now.advices.now }
-    requires ready { R.ready rulings.now audit.now.model.now at.n at.present }
+    requires ready { R.ready rulings.now audit.now.model.now audit.now.advices.now at.n at.present }
     requires n { at.n < audit.now.model.now.grid.horizon }
     requires present { at.present < audit.now.model.now.grid.advisories }
     requires i { at.i + 1 < length audit.now.model.now.grid.h }
@@ -183,7 +184,7 @@ fn write_cell<R: Rulings, S: Sink>(
     pen: &mut Pen,
 ) -> Result<(), Failed>
     requires advices { AreAdvicesOf audit.now.model.now audit.now.advices.now }
-    requires ready { R.ready rulings.now audit.now.model.now at.n at.present }
+    requires ready { R.ready rulings.now audit.now.model.now audit.now.advices.now at.n at.present }
     requires cell { IsCellOf audit.now.model.now (place_cell at) }
     requires room { Room (plan_of audit.now) pen.old.counts (place_cell at ∷ []) }
     ensures ok { OnOk result (Wrote (plan_of audit.now)
@@ -200,8 +201,12 @@ fn write_cell<R: Rulings, S: Sink>(
         j,
         k,
     } = at;
-    let set = advices_at(audit.model, audit.advices, n, present, i, j, k);
-    pen.counts.count_cell(set.has_no_advisory());
+    let set = rulings.advised(audit.model, audit.advices, n, present, i, j, k);
+    let clear = set.has_no_advisory();
+    pen.counts.count_cell(clear);
+    if clear {
+        return Ok(());
+    }
     write_advised(audit, rulings, at, set, sink, pen)?;
     Ok(())
 }
@@ -215,7 +220,7 @@ fn write_advised<R: Rulings, S: Sink>(
     sink: &mut S,
     pen: &mut Pen,
 ) -> Result<(), Failed>
-    requires ready { R.ready rulings.now audit.now.model.now at.n at.present }
+    requires ready { R.ready rulings.now audit.now.model.now audit.now.advices.now at.n at.present }
     requires cell { IsCellOf audit.now.model.now (place_cell at) }
     requires room { Room (set_plan audit.now at set)
         pen.old.counts (below audit.now.model.now.grid.advisories (λ advice. advice ∷ [])) }
@@ -242,7 +247,7 @@ fn write_advice<R: Rulings, S: Sink>(
     sink: &mut S,
     pen: &mut Pen,
 ) -> Result<(), Failed>
-    requires ready { R.ready rulings.now audit.now.model.now at.n at.present }
+    requires ready { R.ready rulings.now audit.now.model.now audit.now.advices.now at.n at.present }
     requires cell { IsCellOf audit.now.model.now (place_cell at) }
     requires advice { advice < audit.now.model.now.grid.advisories }
     requires small { advice < GREATEST_ADVISORIES }
@@ -278,7 +283,7 @@ fn write_advice<R: Rulings, S: Sink>(
     Ok(())
 }
 
-// Writes the line of a cell under an advice, where it is not left out, and counts it.
+// Counts a cell under an advice, and writes its line. Where the line is left out, no ruling is made.
 fn write_name<R: Rulings, S: Sink>(
     audit: &Audit<'_>,
     rulings: &R,
@@ -286,7 +291,8 @@ fn write_name<R: Rulings, S: Sink>(
     sink: &mut S,
     pen: &mut Pen,
 ) -> Result<(), Failed>
-    requires ready { R.ready rulings.now audit.now.model.now name.now.n name.now.present }
+    requires ready { R.ready rulings.now audit.now.model.now audit.now.advices.now
+        name.now.n name.now.present }
     requires cell { IsCellOf audit.now.model.now (cell_of name.now) }
     requires advice { name.now.advice < audit.now.model.now.grid.advisories }
     requires room { total pen.old.counts + 1 < 2 ^ 64 }
@@ -296,12 +302,12 @@ fn write_name<R: Rulings, S: Sink>(
         (S.written sink.old) pen.old.buffer (S.written sink.new) (name.now ∷ [])) }
     ensures frame { Emits S.Sink sink.old sink.new (IsErr result) }
 {
-    let ruling = rulings.ruling(audit.model, name);
-    let certified = ruling.is_certified();
+    let certified = rulings.certifies(audit.model, name);
     pen.counts.count(certified);
     if leaves_out(audit.which, certified) {
         return Ok(());
     }
+    let ruling = rulings.ruling(audit.model, name);
     write_cell_line(&mut pen.line, audit.model, name, &ruling);
     pen.buffer.print(sink, pen.line.bytes())?;
     Ok(())

@@ -37,5 +37,6 @@ pub fn begun_meetings_reports_go_on()
     ensures { (m : ModelData) (may : Manoeuvre) (boxes : List AuditedBox) (old new : Option (List ℕ)) →
         All (λ place. (verdict : MeetVerdict) × IsMeetVerdictAt m may boxes place verdict) (places boxes) →
         IsMeetingsBegun m may boxes old new →
-        (counts : MeetCounts) × (text : List ℕ) × IsMeetingsReport m may boxes counts text × AppendsPart old new text }
+        (counts : MeetCounts) × (text : List ℕ) × IsMeetingsReport m may boxes counts text
+        × AppendsPart old new text }
 {}

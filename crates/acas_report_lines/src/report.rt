@@ -76,10 +76,12 @@ fn write_whole<R: Rulings, S: Sink>(
         × IsReport audit.now.model.now audit.now.advices.now audit.now.which pen.new.counts text
         × Appends (S.written sink.old) (S.written sink.new) text) }
     ensures err { OnErr result
-        (IsReportBegun audit.now.model.now audit.now.advices.now audit.now.which (S.written sink.old) (S.written sink.new)) }
+        (IsReportBegun audit.now.model.now audit.now.advices.now audit.now.which (S.written sink.old)
+        (S.written sink.new)) }
     ensures frame { Emits S.Sink sink.old sink.new (IsErr result) }
     ensures counted { OnOk result ((number : ℕ)
-        × ArePrepared R.takes audit.now.model.now audit.now.advices.now number × (count.new ≡ count.old + number)) }
+        × ArePrepared R.takes audit.now.model.now audit.now.advices.now number
+        × (count.new ≡ count.old + number)) }
     ensures rising { count.old ≤ count.new }
 {
     // Opens the model's limits: there is room for the counts.

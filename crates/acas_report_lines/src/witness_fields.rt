@@ -58,7 +58,8 @@ pub(crate) fn line_meeting(line: &mut Line, meeting: &Meeting)
 #[tactic(auto, unfolding(crate::specs::Text::labelled, crate::specs::Text::field))]
 fn line_against(line: &mut Line, meeting: &Meeting)
     requires { length line.old + 10 + 2 * SEGMENT_BYTES ≤ LINE_BYTES }
-    ensures value { line.new ≡ line.old ++ labelled (codes "against") (response_text (against_of meeting.now)) }
+    ensures value { line.new
+        ≡ line.old ++ labelled (codes "against") (response_text (against_of meeting.now)) }
     ensures room { length line.new ≤ length line.old + 10 + 2 * SEGMENT_BYTES }
 {
     line.push(b" against ");
@@ -66,6 +67,7 @@ fn line_against(line: &mut Line, meeting: &Meeting)
 }
 
 // Appends a word and a fraction, each behind a space.
+#[inline(always)]
 #[tactic(auto, unfolding(crate::specs::Text::labelled, crate::specs::Text::field))]
 fn line_labelled(line: &mut Line, word: &[u8], value: &Frac)
     requires short { length word.now ≤ 8 }

@@ -39,7 +39,8 @@ fn contact_of(model: &Model, counted: Counted) -> i64
 pub(crate) fn ending(model: &Model, counted: Counted, vertex: u32) -> i64
     requires { vertex < vertices model.now.grid }
     ensures value { result
-        ≡ millionths (terminal_cost (model_counting counted model.now) (numbers.vertex_at model.now.grid vertex)) }
+        ≡ millionths (terminal_cost (model_counting counted model.now)
+        (numbers.vertex_at model.now.grid vertex)) }
     ensures limits { unsigned_abs result ≤ 10 ^ 15 }
 {
     let grid = model.grid();

@@ -98,7 +98,8 @@ fn put_column(
     ensures written { (s : ℕ) → s < states model.now.grid → column_at model.now.grid s ≡ column
         → IsPlanned model.now.grid costs.now (policy_of model.now plan.now) (n + 1)
         (pairs_at means.now (altitude_at model.now.grid s)) s (pair_at above.new s) }
-    ensures others { (s : ℕ) → column_at model.now.grid s ≢ column → pair_at above.new s ≡ pair_at above.old s }
+    ensures others { (s : ℕ) → column_at model.now.grid s ≢ column
+        → pair_at above.new s ≡ pair_at above.old s }
     ensures count { length above.new ≡ states model.now.grid }
 {
     let grid = model.grid();

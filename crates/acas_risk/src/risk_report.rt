@@ -126,7 +126,8 @@ fn print_states<S: Sink>(
     ensures ok { OnOk result (Prints (S.written sink.old) (S.written sink.new) pen.old.buffer pen.new.buffer
         (below (states model.now.grid) (λ s. risk_line model.now s (row_at values.now s)))) }
     ensures err { OnErr result (AppendsPart (S.written sink.old) (S.written sink.new)
-        (pen.old.buffer ++ below (states model.now.grid) (λ s. risk_line model.now s (row_at values.now s)))) }
+        (pen.old.buffer
+        ++ below (states model.now.grid) (λ s. risk_line model.now s (row_at values.now s)))) }
     ensures frame { Emits S.Sink sink.old sink.new (IsErr result) }
 {
     for state in 0..model.grid().states() {

@@ -24,12 +24,15 @@ ghost use Rattle.acas_rulings.specs.Rulings.{IsRulingOfBox, IsRulingOfCell};
 pub fn witnesses_are_one()
     ensures some { (m : ModelData) (advisory : ℕ) (area : Area) (w : Times) → IsModel m →
         advisory < m.grid.advisories →
-        area.altitude.least ≤ℤ area.altitude.greatest → AreRates area.own → AreRates area.intruder → AreEnds w →
+        area.altitude.least ≤ℤ area.altitude.greatest → AreRates area.own → AreRates area.intruder →
+        AreEnds w →
         ¬ IsClear m.half (demand_of m advisory) area w →
-        (f : Flight) × IsWitnessOf m.half (demand_of m advisory) area w f × All IsReduced (flight_fractions f) }
+        (f : Flight) × IsWitnessOf m.half (demand_of m advisory) area w f
+        × All IsReduced (flight_fractions f) }
     ensures one { (m : ModelData) (advisory : ℕ) (area : Area) (w : Times) (f g : Flight) → IsModel m →
         advisory < m.grid.advisories →
-        IsWitnessOf m.half (demand_of m advisory) area w f → IsWitnessOf m.half (demand_of m advisory) area w g →
+        IsWitnessOf m.half (demand_of m advisory) area w f →
+        IsWitnessOf m.half (demand_of m advisory) area w g →
         All IsReduced (flight_fractions f) → All IsReduced (flight_fractions g) → f ≡ g }
 {}
 

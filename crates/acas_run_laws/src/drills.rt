@@ -20,10 +20,12 @@ pub fn drills_need_no_folder()
         × (after.faults ≡ before.faults) }
     ensures done { (number : ℕ) (cause : Cause) (before after : Outside)
         → AnswersForm (Some (Drill number)) cause before after → (code_of cause ≡ 0) ⊎ (code_of cause ≡ 1)
-        → (reported : ℕ) × (text : List ℕ) × IsDrillText number reported text × (cause ≡ report_cause reported)
+        → (reported : ℕ) × (text : List ℕ) × IsDrillText number reported text
+        × (cause ≡ report_cause reported)
         × (after.written ≡ append_known before.written text) }
     ensures cut { (number : ℕ) (before after : Outside) →
         AnswersForm (Some (Drill number)) Output before after
         → (reported : ℕ) × (text : List ℕ) × IsDrillText number reported text
-        × (count : ℕ) × (count < length text) × (after.written ≡ append_known before.written (take count text)) }
+        × (count : ℕ) × (count < length text)
+        × (after.written ≡ append_known before.written (take count text)) }
 {}

@@ -54,7 +54,8 @@ pub fn right_files_are_not_refused()
         → before.holds ≡ Some files → SaysModel files model bytes m → get files boxes ≡ Some given
         → length given ≤ TEXT_BYTES → IsBoxesText m given said → HasNoFault before after
         → Headline (Some (Regions model boxes)) cause before after → EndsWell cause }
-    ensures manoeuvre { (model boxes bytes given : List ℕ) (accel rate : ℕ) (m : ModelData) (said : List AuditedBox)
+    ensures manoeuvre { (model boxes bytes given : List ℕ) (accel rate : ℕ) (m : ModelData)
+        (said : List AuditedBox)
         (cause : Cause) (files : Files) (before after : Outside)
         → before.holds ≡ Some files → SaysModel files model bytes m → get files boxes ≡ Some given
         → length given ≤ TEXT_BYTES → IsBoxesText m given said

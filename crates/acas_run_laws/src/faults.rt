@@ -25,7 +25,8 @@ pub fn risen_counts_are_greater()
 /// the limit was taken.
 pub fn faults_have_their_counts()
     ensures absent { (form : Option Form) (role : FileRole) (before after : Outside)
-        → AnswersForm form (Absent role) before after → before.misses < 2 ^ 64 - 1 → before.misses < after.misses }
+        → AnswersForm form (Absent role) before after → before.misses < 2 ^ 64 - 1
+        → before.misses < after.misses }
     ensures folder { (form : Option Form) (before after : Outside)
         → AnswersForm form Folder before after → before.faults < 2 ^ 64 - 1 → before.faults < after.faults }
     ensures output { (form : Option Form) (before after : Outside)
@@ -45,5 +46,6 @@ pub fn refusals_are_of_bytes()
         → AnswersForm form (Input fault) before after → fault ≢ inputs.Memory }
     ensures table { (form : Option Form) (refusal : TableRefusal) (before after : Outside)
         → AnswersForm form (Table refusal) before after
-        → (refusal ≢ OfForm reads.Failed) × (refusal ≢ OfForm reads.Absent) × (refusal ≢ OfForm reads.Memory) }
+        → (refusal ≢ OfForm reads.Failed) × (refusal ≢ OfForm reads.Absent)
+        × (refusal ≢ OfForm reads.Memory) }
 {}

@@ -28,6 +28,7 @@ pub fn error_lines_are_whole_or_cut_by_a_fault()
     ensures line { (cause : Cause) (words : List (List ℕ)) (old new : Option (List ℕ)) (before after : ℕ)
         → Reports cause words old new before after → code_of cause ≢ 0 → code_of cause ≢ 1
         → (new ≡ append_known old (error_line cause words))
-        ⊎ ((count : ℕ) × (count < length (error_line cause words)) × (new ≡ append_known old (take count (error_line cause words)))
+        ⊎ ((count : ℕ) × (count < length (error_line cause words))
+        × (new ≡ append_known old (take count (error_line cause words)))
         × (before < 2 ^ 64 - 1 → before < after)) }
 {}

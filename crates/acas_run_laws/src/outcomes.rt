@@ -28,8 +28,10 @@ pub fn outcomes_are_one()
 /// Where the folder tells its files, a run that ends with the exit code 0 or 1 has ended as the one outcome says: by its cause, with its
 /// whole output and its file.
 pub fn done_runs_end_as_called_for()
-    ensures { (form : Form) (cause : Cause) (files : Files) (before after : Outside) (o : Outcome) → HasIntruder form
-        → before.holds ≡ Some files → AnswersForm (Some form) cause before after → (code_of cause ≡ 0) ⊎ (code_of cause ≡ 1)
+    ensures { (form : Form) (cause : Cause) (files : Files) (before after : Outside) (o : Outcome)
+        → HasIntruder form
+        → before.holds ≡ Some files → AnswersForm (Some form) cause before after
+        → (code_of cause ≡ 0) ⊎ (code_of cause ≡ 1)
         → (CallsFor form).ends files o
         → (cause ≡ o.cause) × (after.written ≡ append_known before.written o.output)
         × (after.holds ≡ Some (with_file o.file files)) }
@@ -40,7 +42,8 @@ pub fn done_runs_end_as_called_for()
 /// So two runs of a form over the same files that end with 0 or 1 have ended by the same cause and left the same files, and where their
 /// outputs held the same before, they hold the same.
 pub fn done_runs_agree()
-    ensures { (form : Form) (cause other : Cause) (files : Files) (before after again end : Outside) → HasIntruder form
+    ensures { (form : Form) (cause other : Cause) (files : Files) (before after again end : Outside)
+        → HasIntruder form
         → before.holds ≡ Some files → again.holds ≡ Some files → again.written ≡ before.written
         → AnswersForm (Some form) cause before after → AnswersForm (Some form) other again end
         → (code_of cause ≡ 0) ⊎ (code_of cause ≡ 1) → (code_of other ≡ 0) ⊎ (code_of other ≡ 1)
@@ -52,8 +55,10 @@ pub fn done_runs_agree()
 /// A run whose output failed has appended fewer bytes than all of the one outcome's output, and those the first.
 pub fn failed_outputs_hold_a_part()
     ensures { (form : Form) (files : Files) (before after : Outside) (o : Outcome) → HasIntruder form
-        → before.holds ≡ Some files → AnswersForm (Some form) Output before after → (CallsFor form).ends files o
-        → (count : ℕ) × (count < length o.output) × (after.written ≡ append_known before.written (take count o.output)) }
+        → before.holds ≡ Some files → AnswersForm (Some form) Output before after
+        → (CallsFor form).ends files o
+        → (count : ℕ) × (count < length o.output)
+        × (after.written ≡ append_known before.written (take count o.output)) }
 {
     drilled_models_are_within_limits();
 }

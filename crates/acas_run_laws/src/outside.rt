@@ -31,7 +31,8 @@ pub fn memory_gives_and_takes_what_it_may()
 /// A part of bytes has fewer bytes than all: of what was appended to an output, and of what is stored in a file or was added to it.
 pub fn parts_are_fewer_bytes()
     ensures appended { (written bytes : List ℕ) (new : Option (List ℕ)) → AppendsPart (Some written) new bytes
-        → IsSomeAnd new (λ now. (length written ≤ length now) × (length now < length written + length bytes)) }
+        → IsSomeAnd new (λ now. (length written ≤ length now)
+        × (length now < length written + length bytes)) }
     ensures untold { (old new : Option (List ℕ)) (bytes : List ℕ) → AppendsPart old new bytes →
         0 < length bytes }
     ensures stored { (files : Files) (new : Option Files) (name bytes : List ℕ) →
@@ -40,7 +41,8 @@ pub fn parts_are_fewer_bytes()
     ensures grown { (files : Files) (new : Option Files) (name held bytes : List ℕ) →
         GrowsPart (Some files) new name bytes
         → get files name ≡ Some held
-        → IsSomeAnd new (λ now. IsSomeAnd (get now name) (λ longer. length longer < length held + length bytes)) }
+        → IsSomeAnd new (λ now. IsSomeAnd (get now name)
+        (λ longer. length longer < length held + length bytes)) }
 {}
 
 /// A call of a folder that failed, or found a name absent, has a greater count than before, below the last value of 64 bits, whatever

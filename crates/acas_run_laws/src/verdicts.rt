@@ -30,7 +30,8 @@ pub fn verdicts_tell_danger()
     ensures certified_meeting { (m : ModelData) (may : Manoeuvre) (boxes : List AuditedBox) (place : ℕ) →
         meetings.IsVerdictOnBox m may boxes place meet.Certified
         → ¬ IsEndangeredBy m (box_at boxes place).advisory may (box_at boxes place).states }
-    ensures reported_meeting { (m : ModelData) (may : Manoeuvre) (boxes : List AuditedBox) (place : ℕ) (w : Meeting) →
+    ensures reported_meeting { (m : ModelData) (may : Manoeuvre) (boxes : List AuditedBox) (place : ℕ)
+        (w : Meeting) →
         meetings.IsVerdictOnBox m may boxes place (meet.Reported w)
         → IsEndangeredBy m (box_at boxes place).advisory may (box_at boxes place).states }
 {}

@@ -31,7 +31,8 @@ pub fn what_is_not_named_is_not_counted()
     ensures regions { (model boxes : List ℕ) (holds : Option Files) (cause : Cause) (old new : Work)
         → CountsForm (Some (Regions model boxes)) holds cause old new
         → (new.backups ≡ old.backups) × (new.turned ≡ old.turned) × (new.decisions ≡ old.decisions) }
-    ensures manoeuvre { (model boxes : List ℕ) (accel rate : ℕ) (holds : Option Files) (cause : Cause) (old new : Work)
+    ensures manoeuvre { (model boxes : List ℕ) (accel rate : ℕ) (holds : Option Files) (cause : Cause)
+        (old new : Work)
         → CountsForm (Some (Manoeuvre model boxes accel rate)) holds cause old new
         → (new.backups ≡ old.backups) × (new.turned ≡ old.turned) × (new.decisions ≡ old.decisions) }
     ensures safeable { (model table : List ℕ) (holds : Option Files) (cause : Cause) (old new : Work)
@@ -69,7 +70,8 @@ pub fn done_runs_are_counted()
         → (digest : List ℕ) × (m : ModelData) × IsModelFile (get files model) digest m
         × (new.backups ≡ old.backups + backup_count m) × (new.turned ≡ old.turned + entries m.grid) }
     ensures audit { (model table : List ℕ) (which : Which) (files : Files) (cause : Cause) (old new : Work)
-        → CountsForm (Some (Audit model table which)) (Some files) cause old new → (code_of cause ≡ 0) ⊎ (code_of cause ≡ 1)
+        → CountsForm (Some (Audit model table which)) (Some files) cause old new
+        → (code_of cause ≡ 0) ⊎ (code_of cause ≡ 1)
         → (m : ModelData) × (advices : AdvicesData) × IsTableOf model table files m advices
         × (number : ℕ) × AreAuditsDecisions m advices number × (new.decisions ≡ old.decisions + number) }
 {}

@@ -31,7 +31,8 @@ pub(crate) fn write_cells<S: Sink>(
     pen: &mut Pen,
 ) -> Result<SafeCounts, Failed>
     requires { AreAdvicesOf model.now advices.now }
-    ensures counted { IfOk result (λ counts. (found : Cell → Outlook) → AreOutlooks model.now advices.now found →
+    ensures counted { IfOk result (λ counts. (found : Cell → Outlook) →
+        AreOutlooks model.now advices.now found →
         counts ≡ counts_of model.now advices.now found) }
     ensures ok { OnOk result ((found : Cell → Outlook) → AreOutlooks model.now advices.now found →
         Prints (S.written sink.old) (S.written sink.new) pen.old.buffer pen.new.buffer
@@ -110,7 +111,8 @@ fn write_cell<S: Sink>(
     requires cell { IsCellOf model.now (cell_of cell.now) }
     requires room { total counts.now + 1 < 2 ^ 64 }
     ensures few { IfOk result (λ new. total new ≤ total counts.now + 1) }
-    ensures counted { IfOk result (λ new. (found : Cell → Outlook) (before : List Cell) → AreOutlooks model.now advices.now found →
+    ensures counted { IfOk result (λ new. (found : Cell → Outlook) (before : List Cell) →
+        AreOutlooks model.now advices.now found →
         counts.now ≡ counts_in model.now advices.now found before →
         new ≡ counts_in model.now advices.now found (before ++ cell_of cell.now ∷ [])) }
     ensures ok { OnOk result ((found : Cell → Outlook) → AreOutlooks model.now advices.now found →

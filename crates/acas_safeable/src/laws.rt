@@ -44,7 +44,8 @@ pub fn outlooks_are_one()
         IsOutlook m c found → IsOutlook m c other → found ≡ other }
     ensures some { (m : ModelData) (c : Cell) → IsModel m → IsCellOf m c → 0 < c.n →
         (found : Outlook) × IsOutlook m c found }
-    ensures one_report { (m : ModelData) (a : AdvicesData) (counts counts' : SafeCounts) (text text' : List ℕ) →
+    ensures one_report { (m : ModelData) (a : AdvicesData) (counts counts' : SafeCounts)
+        (text text' : List ℕ) →
         IsModel m → IsSafeableReport m a counts text → IsSafeableReport m a counts' text' →
         (counts ≡ counts') × (text ≡ text') }
 {}
@@ -52,7 +53,8 @@ pub fn outlooks_are_one()
 /// This report and an audit, joined. Where the state that is reached, over q^3, is in a cell of a second less that is not endangered under
 /// an advisory, no flight that is given that advisory then ends in contact.
 pub fn certified_cells_keep_safe()
-    ensures { (m : ModelData) (n i j k i' j' k' advisory q : ℕ) (s later : State) (first second : List Segment) →
+    ensures { (m : ModelData) (n i j k i' j' k' advisory q : ℕ) (s later : State)
+        (first second : List Segment) →
         let v = s.own *ℤ pos q in
         IsModel m → advisory < m.grid.advisories →
         EndsInContactLater m (n + 1) i j k advisory q s first second →

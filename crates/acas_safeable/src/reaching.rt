@@ -59,7 +59,8 @@ fn least_altitude(asked: &Asked, area: &BoxState) -> i128
 
 // The greatest altitude that is reached.
 fn greatest_altitude(asked: &Asked, area: &BoxState) -> i128
-    ensures { result ≡ greatest_altitude (demand_in asked.now) (interval_of area.now.h) (interval_of area.now.v0)
+    ensures { result
+        ≡ greatest_altitude (demand_in asked.now) (interval_of area.now.h) (interval_of area.now.v0)
         (interval_of area.now.v1) }
 {
     altitude_after::<Up>(
@@ -102,7 +103,8 @@ fn reached_from(asked: &Asked, area: &BoxState) -> Option<BoxState>
     ensures area { IfSome result (λ reached. area_of reached ≡
         reached_from (demand_in asked.now) (interval_of area.now.h) (interval_of area.now.v0) (interval_of area.now.v1)) }
     ensures past { result ≡ None → ¬ IsWithinAltitudes
-        (reached_from (demand_in asked.now) (interval_of area.now.h) (interval_of area.now.v0) (interval_of area.now.v1)) }
+        (reached_from (demand_in asked.now) (interval_of area.now.h) (interval_of area.now.v0)
+        (interval_of area.now.v1)) }
 {
     let least = within(least_altitude(asked, area))?;
     let greatest = within(greatest_altitude(asked, area))?;
@@ -119,9 +121,11 @@ fn reached_from(asked: &Asked, area: &BoxState) -> Option<BoxState>
 /// exactly where an altitude of it is past 1,200,000 ticks, either way. It takes no memory.
 pub fn reached(model: &Model, cell: &ClearCell) -> Option<BoxState>
     requires { IsCellOf model.now (cell_of cell.now) }
-    ensures area { IfSome result (λ area. area_of area ≡ reached_area model.now cell.now.i cell.now.j cell.now.k) }
+    ensures area { IfSome result (λ area. area_of area
+        ≡ reached_area model.now cell.now.i cell.now.j cell.now.k) }
     ensures within { IfSome result (λ area. IsWithinAltitudes (area_of area)) }
-    ensures past { result ≡ None → ¬ IsWithinAltitudes (reached_area model.now cell.now.i cell.now.j cell.now.k) }
+    ensures past { result ≡ None
+        → ¬ IsWithinAltitudes (reached_area model.now cell.now.i cell.now.j cell.now.k) }
 {
     let area = area_of_cell(model, cell.i, cell.j, cell.k);
     reached_from(&clear_of_conflict(model), &area)

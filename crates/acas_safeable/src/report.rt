@@ -54,7 +54,8 @@ fn write_whole<S: Sink>(
 ) -> Result<SafeCounts, Failed>
     requires advices { AreAdvicesOf model.now advices.now }
     requires empty { pen.old.buffer ≡ [] }
-    ensures counted { IfOk result (λ counts. (found : Cell → Outlook) → AreOutlooks model.now advices.now found →
+    ensures counted { IfOk result (λ counts. (found : Cell → Outlook) →
+        AreOutlooks model.now advices.now found →
         counts ≡ counts_of model.now advices.now found) }
     ensures ok { OnOk result ((found : Cell → Outlook) → AreOutlooks model.now advices.now found →
         Appends (S.written sink.old) (S.written sink.new) (safeable_text model.now advices.now found)) }

@@ -5,10 +5,10 @@ use Rattle.std.specs.Int.{int_min}
 use mir.Val.{SFits}
 use Rattle.acas_spec.specs.Model.{ModelData, advisory_at, sigma_at}
 use Rattle.acas_spec.specs.declared.parts.SigmaPoint.{SigmaPoint}
-use Rattle.acas_grid.specs.Grid.{clamp_point}
 use Rattle.acas_spec.specs.declared.place.Point.{Point}
 use Rattle.acas_spec.specs.declared.place.Vertex.{Vertex}
-use Rattle.acas_process.specs.Step.{after_second, command, moved, vertex_point}
+use Rattle.acas_process.specs.Step.{after_second, command, vertex_point}
+use Rattle.acas_step.specs.Second.{led_past}
 
 test-true : (x b : ℤ) → x <ℤ b → int_lt x b ≡ true
 test-true x b h = grind (arith, ints)
@@ -34,12 +34,11 @@ command_above lo hi pull v fall r h k e f = rw (test-false v lo h, test-true hi 
 pub point-same : {h h' v0 v0' v1 v1' : ℤ} → h ≡ h' → v0 ≡ v0' → v1 ≡ v1' → ◌≡◌ {A = Point} (record { h = h; v0 = v0; v1 = v1 }) (record { h = h'; v0 = v0'; v1 = v1' })
 point-same p q r = cc
 
-pub moved_is : (m : ModelData) (x : Vertex) (a q : ℕ) (from : Point) (n : SigmaPoint) (own : ℤ) (to r : Point) →
-    from ≡ vertex_point m.grid x → n ≡ sigma_at m q → own ≡ command (advisory_at m a).lo (advisory_at m a).hi (pos m.pull) from.v0 +ℤ n.own → to ≡ after_second from own n.intruder → r ≡ clamp_point m.grid to → r ≡ moved m x a q
-moved_is m x a q from n own to r e f g h k =
+pub led_past-is : (m : ModelData) (x : Vertex) (a q : ℕ) (from : Point) (n : SigmaPoint) (own : ℤ) (to : Point) →
+    from ≡ vertex_point m.grid x → n ≡ sigma_at m q → own ≡ command (advisory_at m a).lo (advisory_at m a).hi (pos m.pull) from.v0 +ℤ n.own → to ≡ after_second from own n.intruder → to ≡ led_past m x a q
+led_past-is m x a q from n own to e f g h =
     let start : Point = vertex_point m.grid x in
     let rule : ℤ → ℤ = λ v. command (advisory_at m a).lo (advisory_at m a).hi (pos m.pull) v in
-    k ∙ ap (λ z. clamp_point m.grid z)
-    (h ∙ ap (λ z. after_second z own n.intruder) e
+    h ∙ ap (λ z. after_second z own n.intruder) e
     ∙ ap (λ w. after_second start w n.intruder) (g ∙ ap (λ (z : Point). rule z.v0 +ℤ n.own) e ∙ ap (λ (z : SigmaPoint). rule start.v0 +ℤ z.own) f)
-    ∙ ap (λ (z : SigmaPoint). after_second start (rule start.v0 +ℤ (sigma_at m q).own) z.intruder) f)
+    ∙ ap (λ (z : SigmaPoint). after_second start (rule start.v0 +ℤ (sigma_at m q).own) z.intruder) f

@@ -1,7 +1,7 @@
 -- Means of a layer that is a table's, by number and by vertex, and lists of pairs of which one more is written.
 use Rattle.std.proofs.Common.{◌≡◌, ℕ, ◌<◌, ◌≤◌, unsigned_abs, List, length, refl, inl, inr, sym, subst, ◌∙◌, arith}
 use Rattle.acas_spec.specs.Limits.{IsModel}
-use Rattle.acas_spec.specs.Model.{ModelData, states}
+use Rattle.acas_spec.specs.Model.{GridData, ModelData, states}
 use Rattle.acas_spec.specs.Table.{Table}
 use Rattle.acas_spec.specs.declared.place.Vertex.{Vertex}
 use Rattle.acas_frac.specs.Rounding.{down, up}
@@ -14,8 +14,10 @@ use Rattle.acas_process.proofs.SameLaws.{mean_same}
 use Rattle.acas_process.proofs.SizeLaws.{mean_bounded}
 use Rattle.acas_step.specs.Layer.{AreValuesOf, AreWithin, layer_values, pair_at, value_of}
 use Rattle.acas_step.specs.Means.{AreMeansAt, AreMeansOf}
+use Rattle.acas_step.specs.Reach.{IsReach}
 use Rattle.acas_step.specs.declared.layer.Side.{Side}
 use Rattle.acas_step.specs.declared.layer.Side.TheVariants.{Lower, Upper}
+use Rattle.acas_step.specs.declared.reach.Reach.{Reach}
 use Rattle.acas_step.proofs.NumberedStates.{layer_values-is, state_number-below}
 
 -- a mean of the values of a table's layer is that of the layer
@@ -46,3 +48,17 @@ means_bounded m below x a pair most Lower valid known all are within =
     subst (λ z. unsigned_abs z ≤ most) (sym are.lower)
     (mean_bounded down (inl refl) m (layer_values Lower m.grid below) x a most valid
     (λ y inside. within.bounded (state_number m.grid a (vertex_number m.grid y)) (omega (arith, all, state_number-below m.grid a y known inside))))
+
+-- the reach of a layer bounds both sides
+reach_within : (g : GridData) (below : List Pair) (r : Reach) (side : Side) → IsReach g below r → AreWithin r.size side below
+reach_within g below r Upper reach = reach.upper
+reach_within g below r Lower reach = reach.lower
+
+-- no mean of all states is larger than the reach of the layer says
+pub means_within : (m : ModelData) (below means : List Pair) (r : Reach) → IsModel m → length below ≡ states m.grid → length means ≡ states m.grid → IsReach m.grid below r
+    → ((s : ℕ) → s < states m.grid → AreMeansAt m below (state_vertex m.grid s) (state_present m.grid s) (pair_at means s)) → (side : Side) → AreWithin r.size side means
+means_within m below means r valid all count reach are side = record {
+  bounded = λ s here.
+      let inside : s < states m.grid = omega (arith, count, here) in
+      means_bounded m below (state_vertex m.grid s) (state_present m.grid s) (pair_at means s) r.size side valid (state_present-below m.grid s inside) all (are s inside) (reach_within m.grid below r side reach);
+}

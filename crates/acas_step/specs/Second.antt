@@ -1,8 +1,11 @@
 -- What the inner functions say of a second of flight: no number is larger, up or down, than the limits of a model allow.
-use Rattle.std.specs.Prelude.{◌+◌, ◌*◌, ◌≤◌, ℤ, unsigned_abs}
+use Rattle.std.specs.Prelude.{ℕ, ◌+◌, ◌*◌, ◌≤◌, ℤ, pos, ◌+ℤ◌, unsigned_abs}
+use Rattle.acas_spec.specs.Model.{ModelData, advisory_at, sigma_at}
+use Rattle.acas_process.specs.Step.{after_second, command, vertex_point}
 use Rattle.acas_units.specs.declared.limits.TheConstants.{GREATEST_ALTITUDE, GREATEST_RATE, GREATEST_NOISE, GREATEST_LIMIT}
 use Rattle.acas_units.specs.declared.ticks.TheConstants.{TICKS_PER_FOOT}
 use Rattle.acas_spec.specs.declared.place.Point.{Point}
+use Rattle.acas_spec.specs.declared.place.Vertex.{Vertex}
 
 -- an altitude of an axis, in ticks
 abbrev pub IsAltitude : ℤ → Type 0
@@ -33,3 +36,10 @@ pub record IsAxisPoint (s : Point) : Type 0 where
   pub h : IsAltitude s.h
   pub v0 : IsRate s.v0
   pub v1 : IsRate s.v1
+
+-- where the sigma point of number q takes the vertex x within a second under the advisory of number a, be that beside the grid
+abbrev pub led_past : ModelData → Vertex → ℕ → ℕ → Point
+led_past m x a q =
+    let s = vertex_point m.grid x in
+    let own = command (advisory_at m a).lo (advisory_at m a).hi (pos m.pull) s.v0 in
+    after_second s (own +ℤ (sigma_at m q).own) (sigma_at m q).intruder

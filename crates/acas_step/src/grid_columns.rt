@@ -1,6 +1,7 @@
 //! The columns of a grid: the vertices that have the same rates, altitude by altitude.
 ghost use Rattle.std.specs.Prelude.{◌≡◌, ◌*◌, ◌<◌, length};
-ghost use Rattle.acas_spec.specs.Model.{vertices};
+ghost use Rattle.acas_spec.specs.Model.{states, vertices};
+ghost use Rattle.acas_grid.specs.Grid.{state_number};
 ghost use Rattle.acas_step.specs.Columns.{column_of, columns, vertex_in};
 ghost use Rattle.acas_step.specs.Ends.{FitsGrid};
 
@@ -24,6 +25,19 @@ pub fn vertex_in_column(grid: &Grid, column: u32, i: u32) -> u32
     // Opens the axes: there are so few vertices that their numbers are small.
     let _ = grid.vertices();
     i * column_count(grid) + column
+}
+
+/// The number of a state, where the number of the grid's vertices is at hand.
+pub fn state_among(grid: &Grid, width: u32, present: u8, vertex: u32) -> u32
+    requires width { width ≡ vertices grid.now }
+    requires present { present < grid.now.advisories }
+    requires vertex { vertex < vertices grid.now }
+    ensures value { result ≡ state_number grid.now present vertex }
+    ensures below { result < states grid.now }
+{
+    // Opens the axes: there are so few vertices that the numbers of states are small.
+    let _ = grid.vertices();
+    u32::from(present) * width + vertex
 }
 
 /// The number of the column at the lower corner of a cell.

@@ -1,5 +1,5 @@
 //! How large the values of a layer are, and under which advisories they are the same.
-ghost use Rattle.std.specs.Prelude.{◌≡◌, ◌+◌, ◌*◌, ◌^◌, ◌<◌, ◌≤ℤ◌, length};
+ghost use Rattle.std.specs.Prelude.{◌≡◌, ◌+◌, ◌*◌, ◌^◌, ◌<◌, ◌≤◌, length, unsigned_abs};
 ghost use Rattle.acas_spec.specs.Model.{states};
 ghost use Rattle.acas_step.specs.Layer.{AreWithin};
 ghost use Rattle.acas_step.specs.Reach.{IsReach};
@@ -12,7 +12,8 @@ use acas_units::Pair;
 /// What is found of a layer before its means are formed.
 #[derive(Clone, Copy, Debug, PartialEq, Eq)]
 pub struct Reach {
-    /// No value of the layer is larger, up or down, in millionths.
+    /// No value of the layer is larger, up or down, in millionths. It need not be the size of the largest: it has the binary digits of
+    /// all values together, and so is at most twice as large.
     pub size: u64,
 
     /// Sums of values by weights that are this in all, or less, have 64 bits.
@@ -22,26 +23,13 @@ pub struct Reach {
     pub likes: Likes,
 }
 
-// The least and the greatest of 0 and some values, of both sides.
-#[derive(Clone, Copy)]
-struct Span {
-    least: i64,
-    greatest: i64,
-}
-
-// The same with a pair's values.
-fn span_with(span: Span, pair: Pair) -> Span
-    ensures least { result.least ≤ℤ span.least }
-    ensures greatest { span.greatest ≤ℤ result.greatest }
-    ensures upper_above { result.least ≤ℤ pair.upper }
-    ensures lower_above { result.least ≤ℤ pair.lower }
-    ensures upper_below { pair.upper ≤ℤ result.greatest }
-    ensures lower_below { pair.lower ≤ℤ result.greatest }
+// The binary digits of a word and of a pair's values, up or down.
+fn digits_with(digits: u64, pair: Pair) -> u64
+    ensures digits { digits ≤ result }
+    ensures upper { unsigned_abs pair.upper ≤ result }
+    ensures lower { unsigned_abs pair.lower ≤ result }
 {
-    Span {
-        least: span.least.min(pair.upper).min(pair.lower),
-        greatest: span.greatest.max(pair.upper).max(pair.lower),
-    }
+    digits | pair.upper.unsigned_abs() | pair.lower.unsigned_abs()
 }
 
 // The greatest whole weight by which sums of values of a size surely have 64 bits, even where each is raised by the size.
@@ -54,18 +42,15 @@ fn widest_of(size: u64) -> u64
     ((1 << 63) - 1) / (2 * size + 1)
 }
 
-// The size of the largest value of a layer.
+// A size that no value of a layer exceeds: all binary digits that some value has, up or down. It is at most twice the largest value.
 fn size_of(below: &[Pair]) -> u64
     ensures { (side : Side) → AreWithin result side below.now }
 {
-    let mut span = Span {
-        least: 0,
-        greatest: 0,
-    };
+    let mut digits = 0;
     for pair in below {
-        span = span_with(span, *pair);
+        digits = digits_with(digits, *pair);
     }
-    span.greatest.unsigned_abs().max(span.least.unsigned_abs())
+    digits
 }
 
 /// The reach of a layer, found by one look at each of its values, and by comparing advisories as far as their pairs are the same.

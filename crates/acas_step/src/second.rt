@@ -6,7 +6,7 @@ ghost use Rattle.acas_grid.specs.Grid.{IsInside, IsVertex};
 ghost use Rattle.acas_process.specs.Step as process;
 ghost use Rattle.acas_grid.specs.States as numbers;
 ghost use Rattle.acas_step.specs.Reach.{change_from, own_rate};
-ghost use Rattle.acas_step.specs.Second.{IsAltitude, IsAxisPoint, IsNoise, IsOwnChange, IsPull, IsRate, IsRateChange};
+ghost use Rattle.acas_step.specs.Second.{IsAltitude, IsAxisPoint, IsNoise, IsOwnChange, IsPull, IsRate, IsRateChange, led_past};
 
 use acas_base::Model;
 use acas_grid::{Point, Vertex, vertex_at};
@@ -125,6 +125,20 @@ pub(crate) fn pilot_change(model: &Model, advisory: u8, v: i64) -> i64
     own_change(model, advisory, v, 0)
 }
 
+// Where a sigma point takes a vertex within a second under an advisory, be that beside the grid.
+pub fn led_past(model: &Model, from: Vertex, advisory: u8, sigma: u32) -> Point
+    requires vertex { IsVertex model.now.grid from }
+    requires advisory { advisory < model.now.grid.advisories }
+    requires sigma { sigma < length model.now.sigmas }
+    ensures value { result ≡ led_past model.now from advisory sigma }
+    ensures near { unsigned_abs result.h ≤ 2_000_000 }
+{
+    let start = vertex_point(model, from);
+    let noise = noise(model, sigma);
+    let own = own_change(model, advisory, start.v0, noise.own);
+    after_second(start, own, noise.intruder)
+}
+
 // Where a sigma point takes a vertex within a second under an advisory.
 pub fn moved_from(model: &Model, from: Vertex, advisory: u8, sigma: u32) -> Point
     requires vertex { IsVertex model.now.grid from }
@@ -133,10 +147,7 @@ pub fn moved_from(model: &Model, from: Vertex, advisory: u8, sigma: u32) -> Poin
     ensures value { result ≡ process.moved model.now from advisory sigma }
     ensures inside { IsInside model.now.grid result }
 {
-    let start = vertex_point(model, from);
-    let noise = noise(model, sigma);
-    let own = own_change(model, advisory, start.v0, noise.own);
-    let end = after_second(start, own, noise.intruder);
+    let end = led_past(model, from, advisory, sigma);
     model.grid().clamp(end)
 }
 

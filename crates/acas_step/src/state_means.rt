@@ -4,10 +4,11 @@ ghost use Rattle.acas_spec.specs.Model.{states, vertices};
 ghost use Rattle.acas_spec.specs.Table.{Table};
 ghost use Rattle.acas_grid.specs.Grid.{state_number};
 ghost use Rattle.acas_step.specs.Columns.{columns, pairs_at, vertex_in};
-ghost use Rattle.acas_step.specs.Layer.{AreValuesOf, pair_at};
+ghost use Rattle.acas_step.specs.Layer.{AreValuesOf, AreWithin, pair_at};
 ghost use Rattle.acas_step.specs.Means.{AreMeansOf};
+ghost use Rattle.acas_step.specs.declared.layer.Side.{Side};
 
-use crate::grid_columns::{column_count, vertex_in_column};
+use crate::grid_columns::{column_count, state_among, vertex_in_column};
 use crate::layer_means::LayerMeans;
 use crate::means::{ColumnMeans, VertexMeans, advisory_count};
 use crate::reach::reach_of;
@@ -25,9 +26,10 @@ fn put_means(model: &Model, vertex: u32, vertex_means: &VertexMeans, means: &mut
         → pair_at means.new s ≡ pair_at means.old s }
 {
     let grid = model.grid();
+    let width = grid.vertices();
     for advisory in 0..advisory_count(model) {
-        let state = grid.state_number(advisory, vertex) as usize;
-        means[state] = vertex_means[usize::from(advisory)];
+        let state = state_among(grid, width, advisory, vertex);
+        means[state as usize] = vertex_means[usize::from(advisory)];
     }
 }
 
@@ -49,13 +51,13 @@ fn put_column(model: &Model, column: u32, column_means: &ColumnMeans, means: &mu
     }
 }
 
-/// Writes what `fill_means` does, by what forms the model's means. It takes no memory.
+/// Writes what `fill_means` does, by what forms the model's means. It gives a size that no mean exceeds, up or down, and takes no memory.
 pub fn fill_means_with<M: LayerMeans>(
     model: &Model,
     layer_means: &M,
     below: &[Pair],
     means: &mut [Pair],
-)
+) -> u64
     requires fits { M.fits layer_means.now model.now }
     requires horizon { 0 < model.now.grid.horizon }
     requires below { length below.now ≡ states model.now.grid }
@@ -63,6 +65,7 @@ pub fn fill_means_with<M: LayerMeans>(
     ensures count { length means.new ≡ states model.now.grid }
     ensures means { (t : Table) (n : ℕ) → AreValuesOf model.now t n below.now
         → AreMeansOf model.now t n means.new }
+    ensures size { (side : Side) → AreWithin result side means.new }
 {
     let reach = reach_of(model, below);
     let none = [Pair { upper: 0, lower: 0 }; GREATEST_ADVISORIES as usize];
@@ -71,4 +74,5 @@ pub fn fill_means_with<M: LayerMeans>(
         layer_means.fill_column(model, reach, column, below, &mut column_means);
         put_column(model, column, &column_means, means);
     }
+    reach.size
 }

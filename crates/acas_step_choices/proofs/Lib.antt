@@ -1,2 +1,2 @@
-pub mod BestFrom
+pub mod LeastSoFar
 pub mod BestEntries

@@ -1,5 +1,5 @@
 -- The best entries of the states at a vertex, by the means there under each advisory and by the layer below.
-use Rattle.std.specs.Prelude.{◌≡◌, ℕ, ◌^◌, ◌<◌, ◌≤◌, unsigned_abs, List, [], length, get_or}
+use Rattle.std.specs.Prelude.{◌≡◌, ◌≢◌, ℕ, ◌^◌, ◌<◌, ◌≤◌, unsigned_abs, List, [], length, get_or}
 use Rattle.acas_spec.specs.Model.{ModelData, choices_at}
 use Rattle.acas_spec.specs.declared.parts.Choice.{Choice}
 use Rattle.acas_spec.specs.declared.place.Vertex.{Vertex}
@@ -10,7 +10,7 @@ use Rattle.acas_units.specs.declared.pair.Pair.{Pair}
 use Rattle.acas_process.specs.Bounds.{choice_value}
 use Rattle.acas_process.specs.Compiled.{first_least, least}
 use Rattle.acas_step.specs.Choices.{value_by_mean}
-use Rattle.acas_step.specs.Columns.{vertex_in}
+use Rattle.acas_step.specs.Columns.{pairs_at, vertex_in}
 use Rattle.acas_step.specs.Layer.{layer_values, no_pair, value_at}
 use Rattle.acas_step.specs.declared.layer.Side.{Side}
 use Rattle.acas_step.specs.declared.layer.Side.TheVariants.{Upper, Lower}
@@ -49,10 +49,16 @@ pub record AreColumnEntries (m : ModelData) (below : List Pair) (column : ℕ) (
 pub record LeaveRoom (m : ModelData) (vertex_means : List Pair) : Type 0 where
   pub each : (side : Side) (a : ℕ) → a < m.grid.advisories → unsigned_abs (value_at side vertex_means a) ≤ 2 ^ 62
 
--- a pair has the two values of a choice
-pub record IsValued (m : ModelData) (vertex_means : List Pair) (p : ℕ) (c : Choice) (pair : Pair) : Type 0 where
-  pub upper : pair.upper ≡ value_by_mean m p (value_at Upper vertex_means) c.advisory
-  pub lower : pair.lower ≡ value_by_mean m p (value_at Lower vertex_means) c.advisory
+-- a pair has the two values of choosing the advisory a
+pub record IsValued (m : ModelData) (vertex_means : List Pair) (p a : ℕ) (pair : Pair) : Type 0 where
+  pub upper : pair.upper ≡ value_by_mean m p (value_at Upper vertex_means) a
+  pub lower : pair.lower ≡ value_by_mean m p (value_at Lower vertex_means) a
+
+-- a pair has the least values of some choices
+pub record IsLeast (m : ModelData) (vertex_means : List Pair) (p : ℕ) (choices : List Choice) (pair : Pair)
+    : Type 0 where
+  pub upper : pair.upper ≡ least (value_by_mean m p (value_at Upper vertex_means)) choices
+  pub lower : pair.lower ≡ least (value_by_mean m p (value_at Lower vertex_means)) choices
 
 -- an entry has the least values of some choices, and the first choice that has the least upper value
 pub record IsBest (m : ModelData) (vertex_means : List Pair) (p : ℕ) (choices : List Choice) (e : Entry)
@@ -64,3 +70,29 @@ pub record IsBest (m : ModelData) (vertex_means : List Pair) (p : ℕ) (choices 
 -- the entries under the first present advisories are the best of their choices
 pub record AreBest (m : ModelData) (vertex_means : List Pair) (count : ℕ) (entries : List Entry) : Type 0 where
   pub each : (p : ℕ) → p < count → IsBest m vertex_means p (choices_at m p) (entry_at entries p)
+
+-- ---- under one present advisory
+
+-- the entries under other present advisories than p are what they were
+pub record LeaveOthers (p : ℕ) (old new : List Entry) : Type 0 where
+  pub each : (q : ℕ) → q ≢ p → entry_at new q ≡ entry_at old q
+
+-- so they are at each place of a column
+pub record LeaveColumnOthers (p : ℕ) (old new : List (List Entry)) : Type 0 where
+  pub each : (i : ℕ) → LeaveOthers p (entries_in old i) (entries_in new i)
+
+-- at the first places of a column the entries under the present advisory p are the best of its choices
+pub record AreBestUnder (m : ModelData) (means : List (List Pair)) (p count : ℕ) (lists : List (List Entry))
+    : Type 0 where
+  pub each : (i : ℕ) → i < count → IsBest m (pairs_at means i) p (choices_at m p) (entry_at (entries_in lists i) p)
+
+-- ---- by the means at the vertices of a column
+
+-- beside the means at each place there is room for a cost
+pub record ColumnLeavesRoom (m : ModelData) (means : List (List Pair)) : Type 0 where
+  pub each : (i : ℕ) → i < length m.grid.h → LeaveRoom m (pairs_at means i)
+
+-- at each place the entries under the first present advisories are the best of their choices
+pub record AreColumnBest (m : ModelData) (means : List (List Pair)) (count : ℕ) (lists : List (List Entry))
+    : Type 0 where
+  pub each : (i : ℕ) → i < length m.grid.h → AreBest m (pairs_at means i) count (entries_in lists i)

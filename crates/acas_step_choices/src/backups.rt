@@ -1,7 +1,6 @@
 //! The value of a choice, and how many upper ones were formed. One such value is a backup of dynamic programming, as in ATC-371
 //! (Kochenderfer and Chryssanthacopoulos, MIT Lincoln Laboratory, 2011).
 ghost use Rattle.std.specs.Prelude.{◌≡◌, ℕ, ◌+◌, ◌*◌, ◌<◌, ◌≤◌, ◌^◌, ◌+ℤ◌, length, unsigned_abs};
-ghost use Rattle.acas_spec.specs.Axis.{IsBetween};
 ghost use Rattle.acas_spec.specs.Model.{states, vertices};
 ghost use Rattle.acas_grid.specs.States as numbers;
 ghost use Rattle.acas_process.specs.Bounds.{millionths};
@@ -13,7 +12,7 @@ use acas_count::Counter;
 use acas_frac::Rounding;
 use acas_spec::Choice;
 use acas_step::{CellSearch, LedTo, Side, mean_by, with_cost};
-use acas_units::{GREATEST_COST, LEAST_COST, Pair};
+use acas_units::Pair;
 
 /// Work that only the calls here do: the upper value of a choice, formed of its mean.
 #[derive(Debug, Drop)]
@@ -25,12 +24,12 @@ pub struct FormedValue {
 /// choices raise it.
 pub type Backups = Counter<FormedValue>;
 
-// Counts one backup.
-fn count_one(count: &mut Backups)
-    requires { count.old + 1 < 2 ^ 64 }
-    ensures { count.new ≡ count.old + 1 }
+/// Counts so many backups, of upper values that were formed.
+pub(crate) fn count_formed(count: &mut Backups, formed: usize)
+    requires { count.old + formed < 2 ^ 64 }
+    ensures { count.new ≡ count.old + formed }
 {
-    count.raise(1, &FormedValue { formed: () });
+    count.raise(formed as u64, &FormedValue { formed: () });
 }
 
 // The value of a choice by the mean under its advisory, in millionths: its action value. It counts one backup for the upper side and
@@ -41,28 +40,9 @@ fn value_of_choice(mean: i64, choice: &Choice, side: Side, count: &mut Backups) 
     ensures count { count.new ≡ count.old + counted side }
 {
     if side == Side::Upper {
-        count_one(count);
+        count_formed(count, 1);
     }
     with_cost(mean, choice.cost)
-}
-
-/// Both values of a choice by the means under its advisory, in millionths, where they have 64 bits: those of `value_of_choice`. It
-/// counts one backup, for the upper side.
-pub(crate) fn values_of_choice(means: Pair, choice: &Choice, count: &mut Backups) -> Pair
-    requires upper { unsigned_abs means.upper ≤ 2 ^ 62 }
-    requires lower { unsigned_abs means.lower ≤ 2 ^ 62 }
-    requires cost { IsBetween LEAST_COST GREATEST_COST choice.now.cost }
-    requires count { count.old + 1 < 2 ^ 64 }
-    ensures upper { result.upper ≡ means.upper +ℤ millionths choice.now.cost }
-    ensures lower { result.lower ≡ means.lower +ℤ millionths choice.now.cost }
-    ensures count { count.new ≡ count.old + 1 }
-{
-    count_one(count);
-    let cost = 1_000_000 * choice.cost;
-    Pair {
-        upper: means.upper + cost,
-        lower: means.lower + cost,
-    }
 }
 
 /// The value of a choice as `backup` gives it, by what gives the corners. It counts one backup for the upper side and none for the

@@ -1,8 +1,9 @@
 //! The best entries over a layer: those at a vertex under each present advisory, by the means of the layer there.
-ghost use Rattle.std.specs.Prelude.{◌≡◌, ℕ, ◌+◌, ◌*◌, ◌<◌, ◌^◌, length};
-ghost use Rattle.acas_spec.specs.Model.{states, vertices};
+ghost use Rattle.std.specs.Prelude.{◌≡◌, ℕ, ◌+◌, ◌*◌, ◌<◌, ◌≤◌, ◌^◌, length};
+ghost use Rattle.acas_spec.specs.Model.{choices_at, states, vertices};
 ghost use Rattle.acas_grid.specs.States.{vertex_at};
-ghost use Rattle.acas_step_choices.specs.Best.{AreBest, AreColumnEntries, AreVertexEntries, LeaveRoom};
+ghost use Rattle.acas_step_choices.specs.Best.{AreBest, AreBestUnder, AreColumnEntries, AreVertexEntries, ColumnLeavesRoom, IsBest, LeaveColumnOthers, LeaveOthers, LeaveRoom, entry_at};
+ghost use Rattle.acas_step_choices.specs.Priced.{IsPricedList};
 ghost use Rattle.acas_step.specs.Choices.{choice_count};
 ghost use Rattle.acas_step.specs.Columns.{columns};
 ghost use Rattle.acas_step.specs.Layer.{AreWithin};
@@ -11,6 +12,8 @@ ghost use Rattle.acas_step.specs.declared.layer.Side.{Side};
 
 use crate::backups::Backups;
 use crate::best::best_choice;
+use crate::priced::{PricedList, priced_list};
+use crate::two::best_of_two;
 use acas_base::Model;
 use acas_step::{ColumnMeans, LayerMeans, Reach, VertexMeans, advisory_count, means_at};
 use acas_units::{Entry, GREATEST_ADVISORIES, GREATEST_VERTICES, Pair};
@@ -21,7 +24,39 @@ pub type VertexEntries = [Entry; GREATEST_ADVISORIES as usize];
 /// Those at the vertices of a column, by the place of the altitude.
 pub type ColumnEntries = [VertexEntries; GREATEST_VERTICES as usize];
 
-// Writes the best entries at a vertex, by the means there. It counts a backup for each choice.
+// Writes the entry under one present advisory at a vertex, and leaves those under the others.
+fn put_entry(present: u8, entry: Entry, entries: &mut VertexEntries)
+    requires known { present < 16 }
+    ensures written { entry_at entries.new present ≡ entry }
+    ensures others { LeaveOthers present entries.old entries.new }
+{
+    entries[usize::from(present)] = entry;
+}
+
+// Writes the best entry under one present advisory at a vertex, by its choices and by the means there. It counts a backup for each
+// choice.
+fn write_best(
+    model: &Model,
+    present: u8,
+    list: &PricedList,
+    vertex_means: &VertexMeans,
+    entries: &mut VertexEntries,
+    count: &mut Backups,
+)
+    requires list { IsPricedList model.now present list.now }
+    requires known { present < 16 }
+    requires means { LeaveRoom model.now vertex_means.now }
+    requires count { count.old + length (choices_at model.now present) < 2 ^ 64 }
+    ensures best { let choices = choices_at model.now present in
+        IsBest model.now vertex_means.now present choices (entry_at entries.new present) }
+    ensures others { LeaveOthers present entries.old entries.new }
+    ensures count { count.new ≡ count.old + length (choices_at model.now present) }
+{
+    let entry = best_choice(model, present, list, vertex_means, count);
+    put_entry(present, entry, entries);
+}
+
+// Writes the best entries at a vertex, by the means there, with one list of choices at a time. It counts a backup for each choice.
 fn fill_best(
     model: &Model,
     vertex_means: &VertexMeans,
@@ -36,7 +71,101 @@ fn fill_best(
     // A model within its limits has a list of choices under each present advisory.
     let _ = model.grid();
     for present in 0..advisory_count(model) {
-        entries[usize::from(present)] = best_choice(model, present, vertex_means, count);
+        let list = priced_list(model, present);
+        write_best(model, present, &list, vertex_means, entries, count);
+    }
+}
+
+// Writes the best entries under one present advisory at two places of a column that follow those already filled, and leaves those
+// under the others. It counts a backup for each choice at each of the two.
+fn write_two(
+    model: &Model,
+    present: u8,
+    list: &PricedList,
+    place: usize,
+    means: &ColumnMeans,
+    entries: &mut ColumnEntries,
+    count: &mut Backups,
+)
+    requires list { IsPricedList model.now present list.now }
+    requires known { present < 16 }
+    requires means { ColumnLeavesRoom model.now means.now }
+    requires inside { place + 1 < length model.now.grid.h }
+    requires so_far { AreBestUnder model.now means.now present place entries.old }
+    requires count { count.old + 2 * length (choices_at model.now present) < 2 ^ 64 }
+    ensures best { AreBestUnder model.now means.now present (place + 2) entries.new }
+    ensures others { LeaveColumnOthers present entries.old entries.new }
+    ensures count { count.new ≡ count.old + 2 * length (choices_at model.now present) }
+{
+    // A model within its limits has no more altitudes than a column has places.
+    let _ = model.grid();
+    let two = best_of_two(
+        model,
+        present,
+        list,
+        &means[place],
+        &means[place + 1],
+        count,
+    );
+    put_entry(present, two.first, &mut entries[place]);
+    put_entry(present, two.second, &mut entries[place + 1]);
+}
+
+// Writes the best entries under one present advisory at so many places of a column, two at a time, and leaves those under the others.
+// It counts a backup for each choice at each of them.
+fn fill_twos(
+    model: &Model,
+    present: u8,
+    list: &PricedList,
+    twos: usize,
+    means: &ColumnMeans,
+    entries: &mut ColumnEntries,
+    count: &mut Backups,
+)
+    requires list { IsPricedList model.now present list.now }
+    requires known { present < 16 }
+    requires means { ColumnLeavesRoom model.now means.now }
+    requires inside { 2 * twos ≤ length model.now.grid.h }
+    requires count { count.old + 2 * twos * length (choices_at model.now present) < 2 ^ 64 }
+    ensures best { AreBestUnder model.now means.now present (2 * twos) entries.new }
+    ensures others { LeaveColumnOthers present entries.old entries.new }
+    ensures count { count.new ≡ count.old + 2 * twos * length (choices_at model.now present) }
+{
+    let _ = model.grid();
+    for n in 0..twos {
+        write_two(model, present, list, 2 * n, means, entries, count);
+    }
+}
+
+// Writes the best entries under one present advisory at the vertices of a column, by the means there, and leaves those under the
+// others. It counts a backup for each vertex and choice.
+fn fill_present(
+    model: &Model,
+    present: u8,
+    means: &ColumnMeans,
+    entries: &mut ColumnEntries,
+    count: &mut Backups,
+)
+    requires known { present < model.now.grid.advisories }
+    requires means { ColumnLeavesRoom model.now means.now }
+    requires count { count.old + length model.now.grid.h * length (choices_at model.now present) < 2 ^ 64 }
+    ensures best { AreBestUnder model.now means.now present (length model.now.grid.h) entries.new }
+    ensures others { LeaveColumnOthers present entries.old entries.new }
+    ensures count { count.new ≡ count.old + length model.now.grid.h * length (choices_at model.now present) }
+{
+    let altitudes = model.grid().h.len() as usize;
+    let list = priced_list(model, present);
+    fill_twos(model, present, &list, altitudes / 2, means, entries, count);
+    if altitudes % 2 == 1 {
+        let last = altitudes - 1;
+        write_best(
+            model,
+            present,
+            &list,
+            &means[last],
+            &mut entries[last],
+            count,
+        );
     }
 }
 
@@ -83,9 +212,9 @@ pub fn fill_entries<M: LayerMeans>(
     ensures entries { AreColumnEntries model.now below.now column entries.new }
     ensures count { count.new ≡ count.old + length model.now.grid.h * choice_count model.now }
 {
-    let grid = model.grid();
+    let _ = model.grid();
     layer_means.fill_column(model, reach, column, below, means);
-    for i in 0..grid.h.len() {
-        fill_best(model, &means[i as usize], &mut entries[i as usize], count);
+    for present in 0..advisory_count(model) {
+        fill_present(model, present, means, entries, count);
     }
 }

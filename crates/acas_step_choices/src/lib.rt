@@ -4,6 +4,8 @@
 mod backups;
 mod best;
 mod entries;
+mod priced;
+mod two;
 
 pub use backups::{Backups, backup, backup_by};
 pub use entries::{ColumnEntries, VertexEntries, entries_at, fill_entries};

@@ -2,3 +2,4 @@ pub mod UnitSums
 pub mod SourceMeans
 pub mod SharedMeans
 pub mod ColumnPoints
+pub mod CornerSums

@@ -34,7 +34,7 @@ means_of_twin m below likes changes column i a b pair inside here alike are know
     means_shared m below likes (vertex_at m.grid (vertex_in m.grid column i)) changes a b pair alike
     (subst (λ (v : ℤ). AreChanges m v changes) (own_rate_in_column m.grid column i inside here) are) known earlier like change formed
 
-whole_weight : (m : ModelData) → weights_below m (length m.sigmas) ≡ total_weight m
+pub whole_weight : (m : ModelData) → weights_below m (length m.sigmas) ≡ total_weight m
 whole_weight m = ap (λ (sigmas : List SigmaPoint). sum_by weight_of sigmas) (take_all (length m.sigmas) m.sigmas (omega arith))
 
 -- the sums over all points, by the whole weight, are the means

@@ -1,5 +1,5 @@
 -- What the means of a column are formed of.
-use Rattle.std.specs.Prelude.{◌≡◌, ℕ, ◌+◌, ◌*◌, ◌^◌, ◌<◌, ℤ, pos, List, length, get_or}
+use Rattle.std.specs.Prelude.{◌≡◌, ℕ, ◌+◌, ◌*◌, ◌^◌, ◌<◌, ◌≤◌, ℤ, pos, List, length, get_or}
 use Rattle.acas_spec.specs.Model.{GridData, ModelData, states, total_weight}
 use Rattle.acas_grid.specs.States.{vertex_at}
 use Rattle.acas_units.specs.declared.pair.Pair.{Pair}
@@ -11,7 +11,8 @@ use Rattle.acas_step.specs.declared.cell.Cell.{Cell}
 use Rattle.acas_step_stencils.specs.Stencils.{AreStencilsOf}
 use Rattle.acas_step_stencils.specs.declared.stencils.Stencils.{Stencils}
 use Rattle.acas_step_columns.specs.declared.columns.Source.{Source}
-use Rattle.acas_step_columns.specs.declared.columns.Source.TheVariants.{Twin, Sums, Layer}
+use Rattle.acas_step_columns.specs.declared.columns.Source.TheVariants.{Twin, Sums, Wide, Layer}
+use Rattle.acas_step_columns.specs.declared.wide_means.TheConstants.{WIDE_SIZE}
 use Rattle.acas_step.specs.declared.layer.Side.TheVariants.{Upper, Lower}
 use Rattle.acas_step.specs.declared.reach.Reach.{Reach}
 
@@ -45,10 +46,12 @@ pub record AreColumnSums (m : ModelData) (below : List Pair) (by column a q : �
   pub each : (i : ℕ) → i < length m.grid.h
       → AreRaisedSums m below by (vertex_at m.grid (vertex_in m.grid column i)) a q (raised_in uppers lowers i)
 
--- the means under the advisory a are those under an earlier one, or they are formed of sums that have 64 bits, or of the layer
+-- the means under the advisory a are those under an earlier one, or they are formed of sums that have 64 bits, or of sums that have 128,
+-- or of the layer
 abbrev pub IsSource : ModelData → List Pair → Reach → List ℤ → ℕ → ℕ → List ℕ → List ℕ → Source → Type 0
 IsSource m below reach changes column a uppers lowers (Twin b) =
     (b < a) × (get_or reach.likes b 0 ≡ get_or reach.likes a 0) × (get_or changes b (pos 0) ≡ get_or changes a (pos 0))
 IsSource m below reach changes column a uppers lowers Sums =
     (total_weight m * (2 * reach.size + 1) < 2 ^ 63) × AreColumnSums m below reach.size column a (length m.sigmas) uppers lowers
+IsSource m below reach changes column a uppers lowers Wide = reach.size ≤ WIDE_SIZE
 IsSource m below reach changes column a uppers lowers Layer = a < m.grid.advisories

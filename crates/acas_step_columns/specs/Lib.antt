@@ -1,1 +1,2 @@
 pub mod ColumnSums
+pub mod WideSums

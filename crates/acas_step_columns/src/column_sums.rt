@@ -5,28 +5,30 @@ ghost use Rattle.std.specs.Prelude.{◌≡◌, ℕ, ◌+◌, ◌*◌, ◌^◌, �
 ghost use Rattle.acas_spec.specs.Model.{states, total_weight, vertices};
 ghost use Rattle.acas_grid.specs.States as numbers;
 ghost use Rattle.acas_process.specs.Step as process;
-ghost use Rattle.acas_step.specs.Columns.{columns};
+ghost use Rattle.acas_step.specs.Columns.{columns, vertex_in};
 ghost use Rattle.acas_step_columns.specs.ColumnSums.{AreBlends, AreBlendsWithin, AreColumnSums, AreSumsWithin, HasColumn};
 ghost use Rattle.acas_step_stencils.specs.Units.{HoldsRates};
 ghost use Rattle.acas_step.specs.Ends.{FitsGrid};
 ghost use Rattle.acas_step.specs.Layer.{AreWithin};
 ghost use Rattle.acas_step_narrow.specs.Narrow.{IsRaisedPoint};
 ghost use Rattle.acas_step_narrow.specs.Raised.{AreRaisedWithin, HasRoom, raised_in};
-ghost use Rattle.acas_step_stencils.specs.Stencils.{AreStencilsOf, HaveStencil};
+ghost use Rattle.acas_step_stencils.specs.Stencils.{AreStencilsOf, HaveStencil, IsRise};
 ghost use Rattle.acas_step.specs.declared.layer.Side.TheVariants.{Upper, Lower};
 ghost use Rattle.acas_units.specs.declared.pair.Pair.{Pair};
 
 use acas_base::Model;
 use acas_grid::Grid;
-use acas_step::{Cell, Reach, column_of_cell, first_state, sigma_count, vertex_in_column};
+use acas_step::{Cell, Reach, column_count, column_of_cell, first_state, sigma_count};
 use acas_step_narrow::{
-    Raised, SideColumn, along_h, along_v0, narrow_weight, quotient_down, quotient_up, with_point,
+    Raised, SideColumn, along_h, along_rates, narrow_weight, quotient_down, quotient_up,
+    rate_weights, with_point,
 };
-use acas_step_stencils::Stencils;
+use acas_step_stencils::{Rise, Stencils};
 use acas_units::Pair;
 
 // Writes the values of a layer, blended on both rates of a cell, for each place of the altitudes, where those of an advisory begin
-// at `first`.
+// at `first`. It stands by itself, so that its loop has the registers.
+#[inline(never)]
 fn fill_blends(
     grid: &Grid,
     cell: &Cell,
@@ -45,30 +47,36 @@ fn fill_blends(
     ensures within { AreBlendsWithin grid.now cell.now by uppers.new lowers.new }
 {
     let row = grid.v1.len() as usize;
-    let column = column_of_cell(grid, cell);
+    let columns = column_count(grid) as usize;
+    let weights = rate_weights(cell, by);
+    let mut at = first + column_of_cell(grid, cell) as usize;
     for i in 0..grid.h.len() {
-        let at = first + vertex_in_column(grid, column, i) as usize;
-        let blend = along_v0(below, at, row, by, cell);
+        let blend = along_rates(below, at, row, &weights);
         uppers[i as usize] = blend.upper;
         lowers[i as usize] = blend.lower;
+        at += columns;
     }
 }
 
-// Both sides at the point to which a sigma point leads from a vertex, where its cell is not too wide: by the blends at the rates of
-// a cell that holds the rates of the point.
+// Both sides at the point to which a sigma point leads from the vertex of a column at a place of the altitudes, where its cell is not
+// too wide: by the rise of the column, and by the blends at the rates of a cell that holds the rates of the point.
 fn point_in_column(
     model: &Model,
     stencils: &Stencils,
     reach: Reach,
-    vertex: u32,
+    column: u32,
+    i: u32,
     advisory: u8,
     sigma: u32,
+    rise: Rise,
     rates: &Cell,
     blend_uppers: &SideColumn,
     blend_lowers: &SideColumn,
 ) -> Option<Raised>
-    requires stencil { HaveStencil model.now stencils.now vertex advisory sigma }
-    requires rates { let x = numbers.vertex_at model.now.grid vertex in
+    requires stencil { HaveStencil model.now stencils.now column advisory sigma }
+    requires place { i < length model.now.grid.h }
+    requires rise { IsRise model.now stencils.now column advisory sigma rise }
+    requires rates { let x = numbers.vertex_at model.now.grid (vertex_in model.now.grid column i) in
         HoldsRates model.now.grid stencils.now.units (process.moved model.now x advisory sigma) rates.now }
     requires room { reach.widest * (2 * reach.size + 1) < 2 ^ 63 }
     requires within { AreBlendsWithin model.now.grid rates.now reach.size blend_uppers.now blend_lowers.now }
@@ -76,12 +84,12 @@ fn point_in_column(
     ensures point { (below : List Pair) → length below ≡ states model.now.grid
         → AreWithin reach.size Upper below → AreWithin reach.size Lower below
         → AreBlends model.now.grid rates.now (advisory * vertices model.now.grid) reach.size below blend_uppers.now blend_lowers.now
-        → let x = numbers.vertex_at model.now.grid vertex in
+        → let x = numbers.vertex_at model.now.grid (vertex_in model.now.grid column i) in
         IfSome result (IsRaisedPoint model.now below reach.size advisory (process.moved model.now x advisory sigma)) }
 {
     // Says what holds of each model.
     let _ = model.grid();
-    let at = stencils.cell_at_rates(model, vertex, advisory, sigma, rates);
+    let at = stencils.cell_at_rates(model, column, i, advisory, sigma, rise, rates);
     if at.divisor.by > reach.widest {
         return None;
     }
@@ -122,19 +130,22 @@ fn add_points(
         → AreWithin reach.size Upper below → AreWithin reach.size Lower below
         → AreBlends model.now.grid rates.now (advisory * vertices model.now.grid) reach.size below blend_uppers.now blend_lowers.now
         → AreColumnSums model.now below reach.size column advisory sigma uppers.old lowers.old
-        → result ≡ true → AreColumnSums model.now below reach.size column advisory (sigma + 1) uppers.new lowers.new }
+        → result ≡ true
+        → AreColumnSums model.now below reach.size column advisory (sigma + 1) uppers.new lowers.new }
 {
     let grid = model.grid();
     let weight = narrow_weight(model, sigma);
+    let rise = stencils.rise(model, column, advisory, sigma);
     for i in 0..grid.h.len() {
-        let vertex = vertex_in_column(grid, column, i);
         match point_in_column(
             model,
             stencils,
             reach,
-            vertex,
+            column,
+            i,
             advisory,
             sigma,
+            rise,
             rates,
             blend_uppers,
             blend_lowers,
@@ -187,10 +198,9 @@ pub(crate) fn fill_sums(
 {
     let grid = model.grid();
     let first = first_state(grid, advisory);
-    let lowest = vertex_in_column(grid, column, 0);
     clear_sums(model, uppers, lowers);
     for sigma in 0..sigma_count(model) {
-        let corner = stencils.unit_cell(model, lowest, advisory, sigma);
+        let corner = stencils.unit_cell(model, column, 0, advisory, sigma);
         if corner.divisor.by > reach.widest {
             return false;
         }

@@ -10,6 +10,7 @@ ghost use Rattle.acas_step_stencils.specs.Stencils.{AreStencilsOf};
 ghost use Rattle.acas_step.specs.declared.layer.Side.{Side};
 
 use crate::column_sums::fill_sums;
+use crate::wide_means::{WIDE_SIZE, wide_means};
 use acas_base::Model;
 use acas_frac::{Down, Up};
 use acas_step::{
@@ -29,7 +30,10 @@ enum Source {
     // Sums of 64 bits.
     Sums,
 
-    // The layer below, in 128 bits.
+    // The layer below, both sides at once in 128 bits.
+    Wide,
+
+    // The layer below, each side by itself.
     Layer,
 }
 
@@ -72,6 +76,9 @@ fn source_of(
     {
         return Source::Sums;
     }
+    if reach.size <= WIDE_SIZE {
+        return Source::Wide;
+    }
     Source::Layer
 }
 
@@ -112,6 +119,7 @@ fn mean_pair_from(
             };
             means_of_sums(sums, stencils.total, reach.size)
         }
+        Source::Wide => wide_means(model, stencils, reach, column, i, advisory, below),
         Source::Layer => {
             let vertex = vertex_in_column(grid, column, i);
             Pair {

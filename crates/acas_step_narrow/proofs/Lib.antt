@@ -2,3 +2,4 @@ pub mod RaisedMeans
 pub mod RaisedWritten
 pub mod RaisedLaws
 pub mod RaisedSums
+mod RateSums

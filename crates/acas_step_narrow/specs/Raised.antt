@@ -6,6 +6,7 @@ use Rattle.acas_step.specs.declared.cell.Cell.{Cell}
 use Rattle.acas_step.specs.declared.cell.Ends.{Ends}
 use Rattle.acas_step.specs.declared.layer.Side.{Side}
 use Rattle.acas_step_narrow.specs.declared.raised.Raised.{Raised}
+use Rattle.acas_step_narrow.specs.declared.raised.RateWeights.{RateWeights}
 
 -- a value that is raised by a number, where it is no further below 0 than that
 abbrev pub raised : ℕ → ℤ → ℕ
@@ -37,17 +38,34 @@ along_h t row plane f n = blended t.h (along_v0 t row f n) (along_v0 t row f (n 
 abbrev pub mixed : Ends → ℤ → ℤ → ℤ
 mixed e near far = pos e.lower *ℤ near +ℤ pos e.upper *ℤ far
 
--- a value no further from 0 than a number by which it is raised, and what it is then
-pub record IsRaised (by : ℕ) (z : ℤ) (n : ℕ) : Type 0 where
-  pub within : unsigned_abs z ≤ by
-  pub value : raised by z ≡ n
-
 -- blends over a cell of numbers up to so much have 64 bits
 pub record HasRoom (most : ℕ) (t : Cell) : Type 0 where
   pub values : most < 2 ^ 63
   pub v1 : most * width t.v1 < 2 ^ 63
   pub v0 : most * width t.v1 * width t.v0 < 2 ^ 63
   pub h : most * width t.v1 * width t.v0 * width t.h < 2 ^ 63
+
+-- the weights of the corners of a cell on both rates, and by how much their sums of values up to so much are raised
+pub record AreRateWeights (t : Cell) (by : ℕ) (w : RateWeights) : Type 0 where
+  pub here : w.here ≡ pos (t.v0.lower * t.v1.lower)
+  pub next : w.next ≡ pos (t.v0.lower * t.v1.upper)
+  pub row : w.row ≡ pos (t.v0.upper * t.v1.lower)
+  pub both : w.both ≡ pos (t.v0.upper * t.v1.upper)
+  pub most : w.most ≡ by * width t.v1 * width t.v0
+  pub room : 2 * w.most < 2 ^ 63
+
+-- four values by the weights of the corners
+abbrev pub weighted_sum : RateWeights → ℤ → ℤ → ℤ → ℤ → ℤ
+weighted_sum w here next row both = w.here *ℤ here +ℤ w.next *ℤ next +ℤ w.row *ℤ row +ℤ w.both *ℤ both
+
+-- values no further from 0 than so much, whose sums by the weights of a cell have 64 bits
+pub record AreSummed (w : RateWeights) (by : ℕ) (here next row both : ℤ) : Type 0 where
+  pub cell : Cell
+  pub weights : AreRateWeights cell by w
+  pub one : unsigned_abs here ≤ by
+  pub two : unsigned_abs next ≤ by
+  pub three : unsigned_abs row ≤ by
+  pub four : unsigned_abs both ≤ by
 
 -- neither number is more than so much
 pub record AreRaisedWithin (most : ℕ) (p : Raised) : Type 0 where

@@ -5,4 +5,4 @@ mod narrow_means;
 mod raised;
 
 pub use narrow_means::{means_of_sums, narrow_weight, quotient_down, quotient_up, with_point};
-pub use raised::{Raised, SideColumn, along_h, along_v0};
+pub use raised::{Raised, RateWeights, SideColumn, along_h, along_rates, rate_weights};

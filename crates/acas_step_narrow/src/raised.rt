@@ -1,8 +1,10 @@
 //! The values of a layer at the corners of a cell, in 64 bits and both sides at once: they are blended on the two rates, raised by as
-//! much as the blends can be, so that none is below 0, and blended on the altitude.
-ghost use Rattle.std.specs.Prelude.{◌≡◌, ℕ, ◌+◌, ◌*◌, ◌^◌, ◌<◌, ◌≤◌, length, ℤ, unsigned_abs};
+//! much as the blends can be, so that none is below 0, and blended on the altitude. The weights on the rates are multiplied out once.
+ghost use Rattle.std.specs.Prelude.{◌≡◌, ℕ, ◌+◌, ◌*◌, ◌^◌, ◌<◌, ◌≤◌, length, unsigned_abs};
 ghost use Rattle.acas_step.specs.Layer.{AreWithin};
-ghost use Rattle.acas_step_narrow.specs.Raised.{AreRaisedWithin, HasRoom, HaveRoom, IsRaised, along_v0, along_v1, blended, mixed, raised, raised_at, raised_in, width};
+ghost use Rattle.acas_step.specs.Sizes.{rate_gap};
+ghost use Rattle.acas_step.specs.declared.cell.Cell.{Cell as CellValue};
+ghost use Rattle.acas_step_narrow.specs.Raised.{AreRaisedWithin, AreRateWeights, AreSummed, HasRoom, HaveRoom, along_v0, blended, raised, raised_at, raised_in, weighted_sum, width};
 ghost use Rattle.acas_step.specs.declared.layer.Side.TheVariants.{Upper, Lower};
 
 use acas_step::{Cell, Ends};
@@ -43,97 +45,64 @@ fn near_alone(near: u64, ends: Ends) -> u64
     near * ends.lower
 }
 
-// Two values at the ends of a cell on an axis, each times the distance to the other end.
-fn mix(near: i64, far: i64, ends: Ends) -> i64
-    requires gap { width ends < 2 ^ 63 }
-    requires near { unsigned_abs near * width ends < 2 ^ 62 }
-    requires far { unsigned_abs far * width ends < 2 ^ 62 }
-    ensures { result ≡ mixed ends near far }
-{
-    ends.lower as i64 * near + ends.upper as i64 * far
+/// The weights of the four corners of a cell on both rates, each the product of the distances to the other ends, and by how much their
+/// sums are raised.
+#[derive(Clone, Copy)]
+pub struct RateWeights {
+    here: i64,
+    next: i64,
+    row: i64,
+    both: i64,
+    most: u64,
 }
 
-// The same where the value at the far end has no weight, whatever it is.
-fn mix_alone(near: i64, ends: Ends) -> i64
-    requires gap { width ends < 2 ^ 63 }
-    requires near { unsigned_abs near * width ends < 2 ^ 63 }
-    requires far { ends.upper ≡ 0 }
-    ensures { (far : ℤ) → result ≡ mixed ends near far }
-{
-    ends.lower as i64 * near
-}
-
-// Both values from a place on, blended on the intruder rate.
-fn values_along_v1(below: &[Pair], at: usize, by: u64, cell: &Cell) -> Pair
-    requires place { at + 1 < length below.now }
-    requires upper { AreWithin by Upper below.now }
-    requires lower { AreWithin by Lower below.now }
-    requires gap { width cell.now.v1 < 2 ^ 63 }
+/// The weights of a cell, for values that are no further from 0 than a number by which they are raised.
+pub fn rate_weights(cell: &Cell, by: u64) -> RateWeights
+    requires v0 { width cell.now.v0 ≤ rate_gap }
+    requires v1 { width cell.now.v1 ≤ rate_gap }
     requires room { HasRoom (2 * by) cell.now }
-    ensures upper { IsRaised (by * width cell.now.v1) result.upper
-        (along_v1 cell.now (raised_at by Upper below.now) at) }
-    ensures lower { IsRaised (by * width cell.now.v1) result.lower
-        (along_v1 cell.now (raised_at by Lower below.now) at) }
+    ensures { AreRateWeights cell.now by result }
 {
-    let near = below[at];
-    if cell.v1.upper == 0 {
-        return Pair {
-            upper: mix_alone(near.upper, cell.v1),
-            lower: mix_alone(near.lower, cell.v1),
-        };
-    }
-    let far = below[at + 1];
-    Pair {
-        upper: mix(near.upper, far.upper, cell.v1),
-        lower: mix(near.lower, far.lower, cell.v1),
+    let v0 = cell.v0;
+    let v1 = cell.v1;
+    RateWeights {
+        here: (v0.lower * v1.lower) as i64,
+        next: (v0.lower * v1.upper) as i64,
+        row: (v0.upper * v1.lower) as i64,
+        both: (v0.upper * v1.upper) as i64,
+        most: by * (v1.lower + v1.upper) * (v0.lower + v0.upper),
     }
 }
 
-// Both values from a place on, blended on the intruder rate and on the own rate.
-fn values_along_v0(below: &[Pair], at: usize, row: usize, by: u64, cell: &Cell) -> Pair
-    requires place { at + row + 1 < length below.now }
-    requires upper { AreWithin by Upper below.now }
-    requires lower { AreWithin by Lower below.now }
-    requires v1 { width cell.now.v1 < 2 ^ 63 }
-    requires v0 { width cell.now.v0 < 2 ^ 63 }
-    requires room { HasRoom (2 * by) cell.now }
-    ensures upper { IsRaised (by * width cell.now.v1 * width cell.now.v0) result.upper
-        (along_v0 cell.now row (raised_at by Upper below.now) at) }
-    ensures lower { IsRaised (by * width cell.now.v1 * width cell.now.v0) result.lower
-        (along_v0 cell.now row (raised_at by Lower below.now) at) }
+// The sum of four values by the weights of the corners.
+fn sum_by(weights: &RateWeights, here: i64, next: i64, row: i64, both: i64) -> i64
+    requires { (by : ℕ) × AreSummed weights.now by here next row both }
+    ensures { result ≡ weighted_sum weights.now here next row both }
 {
-    let near = values_along_v1(below, at, by, cell);
-    if cell.v0.upper == 0 {
-        return Pair {
-            upper: mix_alone(near.upper, cell.v0),
-            lower: mix_alone(near.lower, cell.v0),
-        };
-    }
-    let far = values_along_v1(below, at + row, by, cell);
-    Pair {
-        upper: mix(near.upper, far.upper, cell.v0),
-        lower: mix(near.lower, far.lower, cell.v0),
-    }
+    weights.here * here + weights.next * next + weights.row * row + weights.both * both
 }
 
 /// The values from a place on, blended on the intruder rate and on the own rate, which is a row further at each place, and raised: as
 /// the blends of the raised values.
-pub fn along_v0(below: &[Pair], at: usize, row: usize, by: u64, cell: &Cell) -> Raised
+pub fn along_rates(below: &[Pair], at: usize, row: usize, weights: &RateWeights) -> Raised
     requires place { at + row + 1 < length below.now }
-    requires upper { AreWithin by Upper below.now }
-    requires lower { AreWithin by Lower below.now }
-    requires v1 { width cell.now.v1 < 2 ^ 63 }
-    requires v0 { width cell.now.v0 < 2 ^ 63 }
-    requires room { HasRoom (2 * by) cell.now }
-    ensures upper { result.upper ≡ along_v0 cell.now row (raised_at by Upper below.now) at }
-    ensures lower { result.lower ≡ along_v0 cell.now row (raised_at by Lower below.now) at }
-    ensures within { AreRaisedWithin (2 * by * width cell.now.v1 * width cell.now.v0) result }
+    requires weights { (t : CellValue) × (by : ℕ) × AreRateWeights t by weights.now
+        × AreWithin by Upper below.now × AreWithin by Lower below.now }
+    ensures upper { (t : CellValue) (by : ℕ) → AreRateWeights t by weights.now → AreWithin by Upper below.now
+        → result.upper ≡ along_v0 t row (raised_at by Upper below.now) at }
+    ensures lower { (t : CellValue) (by : ℕ) → AreRateWeights t by weights.now → AreWithin by Lower below.now
+        → result.lower ≡ along_v0 t row (raised_at by Lower below.now) at }
+    ensures within { AreRaisedWithin (2 * weights.now.most) result }
 {
-    let values = values_along_v0(below, at, row, by, cell);
-    let most = by * (cell.v1.lower + cell.v1.upper) * (cell.v0.lower + cell.v0.upper);
+    let here = below[at];
+    let next = below[at + 1];
+    let other = below[at + row];
+    let both = below[at + row + 1];
+    let upper = sum_by(weights, here.upper, next.upper, other.upper, both.upper);
+    let lower = sum_by(weights, here.lower, next.lower, other.lower, both.lower);
     Raised {
-        upper: raise(values.upper, most),
-        lower: raise(values.lower, most),
+        upper: raise(upper, weights.most),
+        lower: raise(lower, weights.most),
     }
 }
 

@@ -33,7 +33,8 @@ vertex_at-vertex_in g column i inside here =
     let is : IsVertex g y = record { i = here; j = div_below column (length g.v1) (length g.v0) width inside; k = mod_below column (length g.v1) width } in
     ap (vertex_at g) (sym (numbered i j k (length g.v0) (length g.v1) column (div-add-mod' column (length g.v1)))) ∙ vertex_at-vertex_number g y is
 
-vertex_at-column : (g : GridData) (column i : ℕ) → column < columns g → i < length g.h → vertex_at g column ≡ record { i = 0; j = column / length g.v1; k = column % length g.v1 }
+-- and so has the lowest one
+pub vertex_at-column : (g : GridData) (column i : ℕ) → column < columns g → i < length g.h → vertex_at g column ≡ record { i = 0; j = column / length g.v1; k = column % length g.v1 }
 vertex_at-column g column i inside here =
     ap (vertex_at g) (sym (vertex_in-lowest g column)) ∙ vertex_at-vertex_in g column 0 inside (omega (arith, here))
 

@@ -1,4 +1,7 @@
 pub mod UnitLaws
 pub mod StencilLaws
 pub mod ColumnVertices
+pub mod ColumnHeights
+pub mod EvenHeights
+pub mod EvenCells
 pub mod ColumnCells

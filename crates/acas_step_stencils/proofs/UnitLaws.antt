@@ -19,11 +19,11 @@ use Rattle.acas_process.specs.Axis.{gap}
 use Rattle.acas_process.proofs.AxisLaws.{distance-add, next_above}
 use Rattle.acas_step.specs.Ends.{FitsAxis, IsRound}
 use Rattle.acas_step.specs.Sizes.{altitude_gap, rate_gap}
-use Rattle.acas_step_stencils.specs.Stencils.{IsAbove, IsStencil}
+use Rattle.acas_step_stencils.specs.Stencils.{IsAbove, IsColumnStencil}
 use Rattle.acas_step_stencils.specs.Units.{AreGapsWithin, AreUnits, DivideGaps, DivideOffsets, DivideUnits, DividesGaps, IsCountedIn, IsEndsIn, IsGapIn, IsKnownCell, IsRoundIn, IsVertexCell}
 use Rattle.acas_step.specs.declared.cell.Cell.{Cell}
 use Rattle.acas_step.specs.declared.cell.Ends.{Ends}
-use Rattle.acas_step_stencils.specs.declared.stencils.Stencil.{Stencil}
+use Rattle.acas_step_stencils.specs.declared.column_stencils.ColumnStencil.{ColumnStencil}
 use Rattle.acas_step_stencils.specs.declared.units.Units.{Units}
 use Rattle.acas_step_stencils.specs.declared.vertex_cells.VertexCell.{VertexCell}
 use Rattle.acas_step.proofs.CornerLaws.{factor_pos, fits_grid}
@@ -68,19 +68,19 @@ grid_finer g u w finer divide = record {
   v1 = gaps_finer g.v1 u.v1 w.v1 finer.v1 divide.v1;
 }
 
-offsets_finer : (u w : Units) (s : Stencil) → DivideUnits u w → DivideOffsets w s → DivideOffsets u s
+offsets_finer : (u w : Units) (s : ColumnStencil) → DivideUnits u w → DivideOffsets w s → DivideOffsets u s
 offsets_finer u w s finer divide = record {
-  h = dvd_trans u.h finer.h divide.h;
+  climb = dvd_trans u.h finer.h divide.climb;
   v0 = dvd_trans u.v0 finer.v0 divide.v0;
   v1 = dvd_trans u.v1 finer.v1 divide.v1;
 }
 
-pub offsets_more : (u w : Units) (xs : List Stencil) (i : ℕ) (e : Stencil) → i < length xs → DivideUnits u w → ((n : ℕ) (d : Stencil) → n < i → DivideOffsets w (get_or xs n d)) → DivideOffsets u (get_or xs i e)
-    → (n : ℕ) (d : Stencil) → n < i + 1 → DivideOffsets u (get_or xs n d)
+pub offsets_more : (u w : Units) (xs : List ColumnStencil) (i : ℕ) (e : ColumnStencil) → i < length xs → DivideUnits u w → ((n : ℕ) (d : ColumnStencil) → n < i → DivideOffsets w (get_or xs n d)) → DivideOffsets u (get_or xs i e)
+    → (n : ℕ) (d : ColumnStencil) → n < i + 1 → DivideOffsets u (get_or xs n d)
 offsets_more u w xs i e inside finer before here = λ n d.
     below_more (λ (k : ℕ). DivideOffsets u (get_or xs k d)) i
     (λ k h. offsets_finer u w (get_or xs k d) finer (before k d h))
-    (subst (λ (s : Stencil). DivideOffsets u s) (get_or_default xs i e d inside) here) n
+    (subst (λ (s : ColumnStencil). DivideOffsets u s) (get_or_default xs i e d inside) here) n
 
 -- ---- stencils that are counted in units
 
@@ -89,12 +89,13 @@ above-counted axis unit x place place' offset counted at is e =
     let here : IsAbove axis unit x place counted = record { cell = is.cell; above = omega (arith, e, is.above) } in
     above-same unit x counted refl (sym at) here
 
-pub stencil-counted : (g : GridData) (u : Units) (x : Point) (s counted : Stencil) → IsStencil g (record { h = 1; v0 = 1; v1 = 1 }) x s → IsCountedIn u s counted → IsStencil g u x counted
-stencil-counted g u x s counted is of = record {
-  base = omega (arith, is.base, of.base);
-  h = above-counted g.h u.h x.h (vertex_at g s.base).i (vertex_at g counted.base).i s.h counted.h (ap (λ (n : ℕ). (vertex_at g n).i) of.base) is.h of.h;
-  v0 = above-counted g.v0 u.v0 x.v0 (vertex_at g s.base).j (vertex_at g counted.base).j s.v0 counted.v0 (ap (λ (n : ℕ). (vertex_at g n).j) of.base) is.v0 of.v0;
-  v1 = above-counted g.v1 u.v1 x.v1 (vertex_at g s.base).k (vertex_at g counted.base).k s.v1 counted.v1 (ap (λ (n : ℕ). (vertex_at g n).k) of.base) is.v1 of.v1;
+pub stencil-counted : (g : GridData) (u : Units) (x : Point) (rise : ℤ) (s counted : ColumnStencil) → IsColumnStencil g (record { h = 1; v0 = 1; v1 = 1 }) x rise s → IsCountedIn u s counted → IsColumnStencil g u x rise counted
+stencil-counted g u x rise s counted is of = record {
+  column = omega (arith, is.column, of.column);
+  v0 = above-counted g.v0 u.v0 x.v0 (vertex_at g s.column).j (vertex_at g counted.column).j s.v0 counted.v0 (ap (λ (n : ℕ). (vertex_at g n).j) of.column) is.v0 of.v0;
+  v1 = above-counted g.v1 u.v1 x.v1 (vertex_at g s.column).k (vertex_at g counted.column).k s.v1 counted.v1 (ap (λ (n : ℕ). (vertex_at g n).k) of.column) is.v1 of.v1;
+  climb = of.climb ∙ omega (arith, ints, is.climb);
+  small = of.small;
 }
 
 -- an offset in a unit is at most the gap in it

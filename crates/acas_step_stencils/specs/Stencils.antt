@@ -1,17 +1,25 @@
--- Where the sigma points lead from each vertex under each advisory, and what is found of a layer before its means are formed.
-use Rattle.std.specs.Prelude.{◌≡◌, ℕ, ◌*◌, ◌/◌, ◌%◌, ◌<◌, ℤ, List, length, get_or, if◌then◌else◌, nat_eq}
+-- Where the sigma points lead from each column of vertices under each advisory, found before the layers are formed.
+use Rattle.std.specs.Prelude.{◌≡◌, ℕ, ◌*◌, ◌/◌, ◌%◌, ◌<◌, ◌≤◌, ℤ, pos, ◌-ℤ◌, ◌*ℤ◌, unsigned_abs, List, length, get_or, if◌then◌else◌, nat_eq}
 use Rattle.acas_spec.specs.Axis.{place_value}
-use Rattle.acas_spec.specs.Model.{GridData, ModelData, states, total_weight, vertices}
+use Rattle.acas_spec.specs.Model.{GridData, ModelData, total_weight, vertices}
 use Rattle.acas_spec.specs.declared.place.Point.{Point}
+use Rattle.acas_spec.specs.declared.place.Vertex.{Vertex}
 use Rattle.acas_grid.specs.Axis.{IsCell}
-use Rattle.acas_grid.specs.States.{state_present, state_vertex, vertex_at}
+use Rattle.acas_grid.specs.States.{vertex_at}
 use Rattle.acas_process.specs.Axis.{distance}
 use Rattle.acas_process.specs.Step.{moved}
 use Rattle.acas_frac.specs.Divisor.{IsDivisor}
-use Rattle.acas_step_stencils.specs.Units.{AreUnits, AreVertexCells}
+use Rattle.acas_frac.specs.declared.divisor.Divisor.{Divisor}
+use Rattle.acas_step.specs.Columns.{columns}
+use Rattle.acas_step.specs.Second.{led_past}
+use Rattle.acas_step_stencils.specs.Units.{AreHeights, AreUnits, AreVertexCells, IsEvenGap, IsInGaps, IsVertexCell}
+use Rattle.acas_step_stencils.specs.declared.column_stencils.ColumnStencil.{ColumnStencil}
+use Rattle.acas_step_stencils.specs.declared.stencils.CellSize.{CellSize}
+use Rattle.acas_step_stencils.specs.declared.stencils.Rise.{Rise}
 use Rattle.acas_step_stencils.specs.declared.stencils.Stencil.{Stencil}
 use Rattle.acas_step_stencils.specs.declared.stencils.Stencils.{Stencils}
 use Rattle.acas_step_stencils.specs.declared.units.Units.{Units}
+use Rattle.acas_step_stencils.specs.declared.vertex_cells.VertexCell.{VertexCell}
 
 -- a number is in the cell that begins at a place of an axis, so many units above that place
 pub record IsAbove (axis : List ℤ) (unit : ℕ) (x : ℤ) (place offset : ℕ) : Type 0 where
@@ -25,31 +33,61 @@ pub record IsStencil (g : GridData) (units : Units) (x : Point) (s : Stencil) : 
   pub v0 : IsAbove g.v0 units.v0 x.v0 (vertex_at g s.base).j s.v0
   pub v1 : IsAbove g.v1 units.v1 x.v1 (vertex_at g s.base).k s.v1
 
--- where a second leads, by the number of a stencil: state by state, and of each state by sigma point
-abbrev pub point_of : ModelData → ℕ → Point
-point_of m n =
-    let state = n / length m.sigmas in
-    moved m (state_vertex m.grid state) (state_present m.grid state) (n % length m.sigmas)
+-- how far a second leads up from the vertex x, be that beside the grid
+abbrev pub climb_from : ModelData → Vertex → ℕ → ℕ → ℤ
+climb_from m x a q = (led_past m x a q).h -ℤ place_value m.grid.h x.i
 
--- the first stencils of a list are those of the points to which a second leads
-pub record AreStencils (m : ModelData) (units : Units) (count : ℕ) (stencils : List Stencil) : Type 0 where
-  pub each : (n : ℕ) (d : Stencil) → n < count → IsStencil m.grid units (point_of m n) (get_or stencils n d)
+-- the stencil of the rates of a point and of a climb: the column at the lower corner of their cell, how far above that corner they are
+-- on each axis, and the climb
+pub record IsColumnStencil (g : GridData) (u : Units) (x : Point) (rise : ℤ) (s : ColumnStencil) : Type 0 where
+  pub column : s.column < columns g
+  pub v0 : IsAbove g.v0 u.v0 x.v0 (vertex_at g s.column).j s.v0
+  pub v1 : IsAbove g.v1 u.v1 x.v1 (vertex_at g s.column).k s.v1
+  pub climb : pos u.h *ℤ s.climb ≡ rise
+  pub small : unsigned_abs s.climb ≤ 4_000_000
 
--- how many stencils a model has: one for each state and sigma point, and none where there is no second to go
+-- the stencil of the column c, the advisory a and the sigma point q, by their numbers: from the lowest vertex of the column
+abbrev pub IsStencilOf : ModelData → Units → ℕ → ℕ → ℕ → ColumnStencil → Type 0
+IsStencilOf m units c a q s =
+    let x = vertex_at m.grid c in
+    IsColumnStencil m.grid units (moved m x a q) (climb_from m x a q) s
+
+-- the stencil of a number: advisory by advisory, of each by column, and of each column by sigma point
+abbrev pub IsStencilNumbered : ModelData → Units → ℕ → ColumnStencil → Type 0
+IsStencilNumbered m units n s =
+    let row = n / length m.sigmas in
+    IsStencilOf m units (row % columns m.grid) (row / columns m.grid) (n % length m.sigmas) s
+
+-- the first stencils of a list are those of their numbers
+pub record AreStencils (m : ModelData) (u : Units) (count : ℕ) (stencils : List ColumnStencil) : Type 0 where
+  pub each : (n : ℕ) (d : ColumnStencil) → n < count → IsStencilNumbered m u n (get_or stencils n d)
+
+-- how many stencils a model has: one for each advisory, column and sigma point, and none where there is no second to go
 abbrev pub stencil_count : ModelData → ℕ
-stencil_count m = if nat_eq m.grid.horizon 0 then 0 else states m.grid * length m.sigmas
+stencil_count m = if nat_eq m.grid.horizon 0 then 0 else m.grid.advisories * columns m.grid * length m.sigmas
 
--- stencils are those of a model, in units, with the cells above the vertices and the whole weight of the sigma points
+-- stencils are those of a model, in units, with the heights of the altitudes and their gap, the cells above the vertices and the whole
+-- weight of the sigma points
 pub record AreStencilsOf (m : ModelData) (s : Stencils) : Type 0 where
   pub count : length s.stencils.items ≡ stencil_count m
   pub stencils : AreStencils m s.units (stencil_count m) s.stencils.items
   pub units : AreUnits s.units
+  pub heights : AreHeights m.grid.h s.units.h s.heights.items
+  pub even : IsEvenGap s.heights.items s.even
   pub cells : AreVertexCells m.grid s.units s.cells.items
   pub total : IsDivisor s.total
   pub by : s.total.by ≡ total_weight m
 
--- stencils are those of a model, and have one of a sigma point at a vertex under an advisory, by their numbers
-pub record HaveStencil (m : ModelData) (s : Stencils) (x a k : ℕ) : Type 0 where
+-- stencils are those of a model, and have one of a sigma point at a column under an advisory, by their numbers
+pub record HaveStencil (m : ModelData) (s : Stencils) (c a k : ℕ) : Type 0 where
+  pub stencils : AreStencilsOf m s
+  pub horizon : 0 < m.grid.horizon
+  pub column : c < columns m.grid
+  pub advisory : a < m.grid.advisories
+  pub sigma : k < length m.sigmas
+
+-- the same of a vertex in place of a column
+pub record HaveVertex (m : ModelData) (s : Stencils) (x a k : ℕ) : Type 0 where
   pub stencils : AreStencilsOf m s
   pub horizon : 0 < m.grid.horizon
   pub vertex : x < vertices m.grid
@@ -60,3 +98,18 @@ pub record HaveStencil (m : ModelData) (s : Stencils) (x a k : ℕ) : Type 0 whe
 pub record AreUsable (m : ModelData) (s : Stencils) : Type 0 where
   pub stencils : AreStencilsOf m s
   pub horizon : 0 < m.grid.horizon
+
+-- a divisor is the whole weight of the cell above the vertex of a number
+pub record IsDivisorAbove (g : GridData) (u : Units) (n : ℕ) (d : Divisor) : Type 0 where
+  pub above : (c : VertexCell) × IsVertexCell g u (vertex_at g n) c × (c.divisor ≡ d)
+
+-- a size is that of the cell above the vertex of a number
+pub record IsSizeAbove (g : GridData) (u : Units) (n : ℕ) (s : CellSize) : Type 0 where
+  pub above : (c : VertexCell) × IsVertexCell g u (vertex_at g n) c × (c.h ≡ s.gap) × (c.divisor ≡ s.divisor)
+
+-- the stencil of a sigma point at a column under an advisory, by their numbers, its climb in gaps of the altitudes, and the whole weight of
+-- the cell above the lowest vertex of the column that it leads to
+pub record IsRise (m : ModelData) (s : Stencils) (c a k : ℕ) (r : Rise) : Type 0 where
+  pub led : IsStencilOf m s.units c a k r.led
+  pub climb : IsInGaps s.even r.led.climb r.climb
+  pub divisor : IsDivisorAbove m.grid s.units r.led.column r.divisor

@@ -1,9 +1,11 @@
-//! Stencils: where each state leads under each sigma point, for all layers at once.
+//! Stencils: where each column of vertices leads under each advisory and sigma point, for all layers at once.
 #![tactic(auto)]
 
+mod column_stencils;
+mod heights;
 mod stencil_corners;
 mod stencils;
 mod units;
 mod vertex_cells;
 
-pub use stencils::Stencils;
+pub use stencils::{Rise, Stencils};

@@ -1,34 +1,53 @@
-//! Where the sigma points lead from each vertex under each advisory, found once for all layers.
-ghost use Rattle.std.specs.Prelude.{◌≡◌, ℕ, ◌+◌, ◌*◌, ◌<◌, ◌≤◌, ℤ, length, get_or, IfOk};
+//! Where the sigma points lead from each vertex under each advisory: by the stencil of its column, found once for all layers, and by its
+//! altitude.
+ghost use Rattle.std.specs.Prelude.{◌≡◌, ◌+◌, ◌<◌, ◌≤◌, ℕ, ℤ, length, IfOk};
 ghost use Rattle.acas_spec.specs.Limits.{IsGrid};
-ghost use Rattle.acas_spec.specs.Model.{states, vertices};
+ghost use Rattle.acas_spec.specs.Model.{vertices};
 ghost use Rattle.acas_spec.specs.declared.place.Point.{Point};
-ghost use Rattle.acas_grid.specs.Grid.{IsInside};
 ghost use Rattle.acas_grid.specs.States as numbers;
 ghost use Rattle.acas_process.specs.Step as process;
+ghost use Rattle.acas_step.specs.Columns.{columns, vertex_in};
 ghost use Rattle.acas_step.specs.Corners.{AreCorners, IsInterpolation, IsWeighting};
 ghost use Rattle.acas_step.specs.Ends.{FitsGrid, IsEnds, IsRound};
-ghost use Rattle.acas_step_stencils.specs.Stencils.{AreStencils, AreStencilsOf, HaveStencil, IsAbove, IsStencil, point_of, stencil_count};
-ghost use Rattle.acas_step_stencils.specs.Units.{AreUnits, DivideGaps, DivideOffsets, DivideUnits, HoldsRates, IsCountedIn, IsUnitCell, IsVertexCell};
-ghost use Rattle.acas_step_stencils.specs.declared.stencils.Stencil.{Stencil};
+ghost use Rattle.acas_step_stencils.specs.Stencils.{AreStencilsOf, HaveStencil, HaveVertex, IsAbove, IsDivisorAbove, IsRise, IsSizeAbove, IsStencil, IsStencilOf};
+ghost use Rattle.acas_step_stencils.specs.Units.{AreUnits, HoldsRates, IsLedTo, IsUnitCell, IsVertexCell};
 
-use crate::units::{Units, common, gap_at, grid_units, in_unit};
+use crate::column_stencils::{ColumnStencil, count_of, fill_in_units};
+use crate::heights::{
+    ClimbInGaps, HeightPlace, climb_in_gaps, even_gap, heights_of, place_after, place_by_search,
+};
+use crate::units::{Units, gap_at};
 use crate::vertex_cells::{VertexCell, vertex_cells};
 use acas_base::Model;
 use acas_frac::Divisor;
-use acas_grid::{Axis, Grid, Vertex, state_present, state_vertex, vertex_at};
-use acas_spec::Point;
-use acas_step::{Cell, CornerSet, Ends, cell_near, corner_set, moved_from, total_weight};
+use acas_grid::{Axis, Grid, vertex_at};
+use acas_step::{Cell, CornerSet, Ends, column_count, corner_set, total_weight, vertex_in_column};
 use std::alloc::{AllocError, Global};
 
 /// The number of the vertex at the lower corner of a cell, and how far above that corner a point is on each axis, in the units of
-/// the axes. It takes 16 bytes.
+/// the axes.
 #[derive(Clone, Copy, Debug)]
 pub(crate) struct Stencil {
     base: u32,
     h: u32,
     v0: u32,
     v1: u32,
+}
+
+/// The stencil of a column, with its climb in gaps of the altitudes, and the whole weight of the cell above the lowest vertex of the column
+/// that it leads to: what the cells of all its vertices follow from.
+#[derive(Clone, Copy)]
+pub struct Rise {
+    led: ColumnStencil,
+    climb: ClimbInGaps,
+    divisor: Divisor,
+}
+
+/// The gap of a cell on the axis of altitudes, in a unit, and the whole weight of the cell as a divisor.
+#[derive(Clone, Copy)]
+pub(crate) struct CellSize {
+    gap: u32,
+    divisor: Divisor,
 }
 
 /// The cell of a stencil in units, the number of its lower corner, and its whole weight as a divisor.
@@ -39,153 +58,18 @@ pub struct UnitCell {
     pub divisor: Divisor,
 }
 
-/// The stencils of a model: for each advisory, vertex and sigma point the cell that a second leads to, and where in it. With them
-/// stand the cell above each vertex and the whole weight of the sigma points.
+/// The stencils of a model: for each advisory, column of vertices and sigma point the cell of the rates that a second leads to, where in
+/// it, and how far up. With them stand the heights of the altitudes, the gap between them if it is the same everywhere, the cell above each
+/// vertex and the whole weight of the sigma points.
 #[derive(Debug, Drop)]
 pub struct Stencils {
-    stencils: Vec<Stencil>,
+    stencils: Vec<ColumnStencil>,
     units: Units,
+    heights: Vec<u32>,
+    even: u32,
     cells: Vec<VertexCell>,
     /// The whole weight of the sigma points.
     pub total: Divisor,
-}
-
-// The stencil of a cell that holds a point, in units of 1.
-fn stencil_of(grid: &Grid, cell: &Cell) -> Stencil
-    requires grid { IsGrid grid.now }
-    requires fits { FitsGrid grid.now cell.now }
-    ensures { (x : Point) → IsRound grid.now x cell.now
-        → IsStencil grid.now (record { h = 1; v0 = 1; v1 = 1 }) x result }
-{
-    let base = grid.vertex_number(Vertex {
-        i: cell.h.cell,
-        j: cell.v0.cell,
-        k: cell.v1.cell,
-    });
-    Stencil {
-        base,
-        h: cell.h.upper as u32,
-        v0: cell.v0.upper as u32,
-        v1: cell.v1.upper as u32,
-    }
-}
-
-// Where a second leads, by the number of a stencil.
-fn led_to(model: &Model, number: u32) -> Point
-    requires { number < states model.now.grid * length model.now.sigmas }
-    ensures value { result ≡ point_of model.now number }
-    ensures inside { IsInside model.now.grid result }
-{
-    let grid = model.grid();
-    let points = model.points().len() as u32;
-    let state = number / points;
-    let from = state_vertex(grid, state);
-    moved_from(model, from, state_present(grid, state), number % points)
-}
-
-// The stencil of a number, in units of 1.
-fn stencil_at(model: &Model, number: u32) -> Stencil
-    requires { number < states model.now.grid * length model.now.sigmas }
-    ensures { IsStencil model.now.grid (record { h = 1; v0 = 1; v1 = 1 }) (point_of model.now number) result }
-{
-    let grid = model.grid();
-    let near = state_vertex(grid, number / model.points().len() as u32);
-    stencil_of(grid, &cell_near(grid, near, led_to(model, number)))
-}
-
-// How many stencils a model has.
-fn count_of(model: &Model) -> u32
-    ensures value { result ≡ stencil_count model.now }
-    ensures inside { result ≤ states model.now.grid * length model.now.sigmas }
-{
-    let grid = model.grid();
-    if grid.horizon == 0 {
-        return 0;
-    }
-    grid.states() * model.points().len() as u32
-}
-
-// Writes the stencils of a model, in units of 1.
-fn fill_stencils(model: &Model, count: u32, stencils: &mut [Stencil])
-    requires count { count ≤ states model.now.grid * length model.now.sigmas }
-    requires stencils { length stencils.old ≡ count }
-    ensures count { length stencils.new ≡ count }
-    ensures stencils { AreStencils model.now (record { h = 1; v0 = 1; v1 = 1 }) count stencils.new }
-{
-    for number in 0..count {
-        stencils[number as usize] = stencil_at(model, number);
-    }
-}
-
-// Units that divide others and the offsets of a stencil.
-fn units_with(units: Units, stencil: Stencil) -> Units
-    requires { AreUnits units }
-    ensures some { AreUnits result }
-    ensures units { DivideUnits result units }
-    ensures offsets { DivideOffsets result stencil }
-{
-    Units {
-        h: common(u64::from(stencil.h), units.h),
-        v0: common(u64::from(stencil.v0), units.v0),
-        v1: common(u64::from(stencil.v1), units.v1),
-    }
-}
-
-// Units that divide the gaps of a grid and the offsets of stencils.
-fn units_of(grid: &Grid, stencils: &[Stencil]) -> Units
-    ensures some { AreUnits result }
-    ensures gaps { DivideGaps grid.now result }
-    ensures offsets { (n : ℕ) (d : Stencil) → n < length stencils.now
-        → DivideOffsets result (get_or stencils.now n d) }
-{
-    let mut units = grid_units(grid);
-    for stencil in stencils {
-        units = units_with(units, *stencil);
-    }
-    units
-}
-
-// A stencil whose offsets are counted in units.
-fn counted(stencil: Stencil, units: Units) -> Stencil
-    requires units { AreUnits units }
-    requires offsets { DivideOffsets units stencil }
-    ensures { IsCountedIn units stencil result }
-{
-    Stencil {
-        base: stencil.base,
-        h: in_unit(stencil.h, units.h),
-        v0: in_unit(stencil.v0, units.v0),
-        v1: in_unit(stencil.v1, units.v1),
-    }
-}
-
-// Counts the offsets of stencils in units that divide them.
-fn count_offsets(units: Units, stencils: &mut [Stencil])
-    requires units { AreUnits units }
-    requires offsets { (n : ℕ) (d : Stencil) → n < length stencils.old
-        → DivideOffsets units (get_or stencils.old n d) }
-    ensures count { length stencils.new ≡ length stencils.old }
-    ensures counted { (n : ℕ) (d : Stencil) → n < length stencils.old
-        → IsCountedIn units (get_or stencils.old n d) (get_or stencils.new n d) }
-{
-    for number in 0..stencils.len() {
-        stencils[number] = counted(stencils[number], units);
-    }
-}
-
-// Writes the stencils of a model in units of its own, and gives these.
-fn fill_in_units(model: &Model, count: u32, stencils: &mut [Stencil]) -> Units
-    requires count { count ≤ states model.now.grid * length model.now.sigmas }
-    requires stencils { length stencils.old ≡ count }
-    ensures count { length stencils.new ≡ count }
-    ensures stencils { AreStencils model.now result count stencils.new }
-    ensures some { AreUnits result }
-    ensures gaps { DivideGaps model.now.grid result }
-{
-    fill_stencils(model, count, stencils);
-    let units = units_of(model.grid(), stencils);
-    count_offsets(units, stencils);
-    units
 }
 
 // The ends of the cell that begins at a place of an axis, for a number that is so many units above that place.
@@ -217,15 +101,33 @@ fn cell_of_stencil(grid: &Grid, units: Units, stencil: Stencil) -> Cell
     }
 }
 
+// The stencil of a vertex by that of its column and the place of the height that it leads to.
+fn stencil_of(grid: &Grid, led: ColumnStencil, at: HeightPlace) -> Stencil
+    requires column { led.column < columns grid.now }
+    requires place { at.place < length grid.now.h }
+    ensures base { result.base ≡ vertex_in grid.now led.column at.place }
+    ensures below { result.base < vertices grid.now }
+    ensures h { result.h ≡ at.offset }
+    ensures v0 { result.v0 ≡ led.v0 }
+    ensures v1 { result.v1 ≡ led.v1 }
+{
+    Stencil {
+        base: vertex_in_column(grid, led.column, at.place),
+        h: at.offset,
+        v0: led.v0,
+        v1: led.v1,
+    }
+}
+
 // The ends of a cell on an axis in a unit, for a number that is so many units above the place where it begins.
-fn ends_in(place: u8, gap: u32, offset: u32) -> Ends
+fn ends_in(place: u32, gap: u32, offset: u32) -> Ends
     requires { offset ≤ gap }
     ensures cell { result.cell ≡ place }
     ensures lower { result.lower + offset ≡ gap }
     ensures upper { result.upper ≡ offset }
 {
     Ends {
-        cell: u32::from(place),
+        cell: place,
         lower: u64::from(gap - offset),
         upper: u64::from(offset),
     }
@@ -242,9 +144,9 @@ fn unit_cell_of(grid: &Grid, units: Units, above: VertexCell, stencil: Stencil) 
     let _ = grid.vertices();
     UnitCell {
         cell: Cell {
-            h: ends_in(above.i, above.h, stencil.h),
-            v0: ends_in(above.j, above.v0, stencil.v0),
-            v1: ends_in(above.k, above.v1, stencil.v1),
+            h: ends_in(u32::from(above.i), above.h, stencil.h),
+            v0: ends_in(u32::from(above.j), above.v0, stencil.v0),
+            v1: ends_in(u32::from(above.k), above.v1, stencil.v1),
         },
         base: stencil.base,
         divisor: above.divisor,
@@ -252,98 +154,186 @@ fn unit_cell_of(grid: &Grid, units: Units, above: VertexCell, stencil: Stencil) 
 }
 
 impl Stencils {
-    /// The stencils of a model. It takes 16 bytes for each, and at horizon 0 there are none; and it takes 40 bytes for each vertex.
-    /// It fails only for want of memory.
+    /// The stencils of a model. It takes 16 bytes for each, and at horizon 0 there are none; and it takes 40 bytes for each vertex and
+    /// 4 for each altitude. It fails only for want of memory.
     pub fn make(alloc: Global, model: &Model) -> Result<Stencils, AllocError>
         ensures { IfOk result (λ stencils. AreStencilsOf model.now stencils) }
     {
         let count = count_of(model);
-        let none = Stencil {
-            base: 0,
-            h: 0,
+        let none = ColumnStencil {
+            column: 0,
             v0: 0,
             v1: 0,
+            climb: 0,
         };
         let mut stencils = vec![in alloc; none; count as usize]?;
         let units = fill_in_units(model, count, &mut stencils);
+        let heights = heights_of(alloc, model.grid(), units.h)?;
+        let even = even_gap(&heights);
         let cells = vertex_cells(alloc, model.grid(), units)?;
         Ok(Stencils {
             stencils,
             units,
+            heights,
+            even,
             cells,
             total: Divisor::new(total_weight(model) as u64),
         })
     }
 
-    // The stencil of a sigma point at a vertex under an advisory.
-    fn stencil(&self, model: &Model, vertex: u32, advisory: u8, sigma: u32) -> Stencil
-        requires { HaveStencil model.now self.now vertex advisory sigma }
-        ensures { let x = numbers.vertex_at model.now.grid vertex in
+    // The stencil of a sigma point at a column under an advisory.
+    fn in_column(&self, model: &Model, column: u32, advisory: u8, sigma: u32) -> ColumnStencil
+        requires { HaveStencil model.now self.now column advisory sigma }
+        ensures { IsStencilOf model.now self.now.units column advisory sigma result }
+    {
+        let row = u32::from(advisory) * column_count(model.grid()) + column;
+        self.stencils[row as usize * model.points().len() + sigma as usize]
+    }
+
+    // The stencil of a sigma point at the vertex of a column under an advisory, at a place of the altitudes.
+    fn stencil(&self, model: &Model, column: u32, i: u32, advisory: u8, sigma: u32) -> Stencil
+        requires stencil { HaveStencil model.now self.now column advisory sigma }
+        requires place { i < length model.now.grid.h }
+        ensures { let x = numbers.vertex_at model.now.grid (vertex_in model.now.grid column i) in
             IsStencil model.now.grid self.now.units (process.moved model.now x advisory sigma) result }
     {
-        let state = model.grid().state_number(advisory, vertex) as usize;
-        self.stencils[state * model.points().len() + sigma as usize]
+        let grid = model.grid();
+        let led = self.in_column(model, column, advisory, sigma);
+        let at = place_by_search(&self.heights, i, led.climb);
+        stencil_of(grid, led, at)
+    }
+
+    /// What the cells of all vertices of a column follow from, for a sigma point under an advisory: to be formed once for the column, with
+    /// the one division that it takes.
+    pub fn rise(&self, model: &Model, column: u32, advisory: u8, sigma: u32) -> Rise
+        requires { HaveStencil model.now self.now column advisory sigma }
+        ensures { IsRise model.now self.now column advisory sigma result }
+    {
+        let _ = model.grid();
+        let led = self.in_column(model, column, advisory, sigma);
+        Rise {
+            led,
+            climb: climb_in_gaps(led.climb, self.even),
+            divisor: self.cells[led.column as usize].divisor,
+        }
+    }
+
+    // The place of the altitude to which a sigma point leads from the vertex of a column under an advisory, by the rise of the column.
+    fn place_risen(
+        &self,
+        model: &Model,
+        column: u32,
+        i: u32,
+        advisory: u8,
+        sigma: u32,
+        rise: Rise,
+    ) -> HeightPlace
+        requires stencil { HaveStencil model.now self.now column advisory sigma }
+        requires place { i < length model.now.grid.h }
+        requires rise { IsRise model.now self.now column advisory sigma rise }
+        ensures { (x : ℕ) × IsLedTo self.now.heights.items i rise.led.climb x result }
+    {
+        let _ = model.grid();
+        place_after(&self.heights, self.even, i, rise.led.climb, rise.climb)
+    }
+
+    // The size of the cell above a vertex of the column that a rise leads to: over an even axis of altitudes all of them have the same.
+    fn size_above(&self, model: &Model, base: u32, rise: Rise) -> CellSize
+        requires stencils { AreStencilsOf model.now self.now }
+        requires column { rise.led.column < columns model.now.grid }
+        requires divisor { IsDivisorAbove model.now.grid self.now.units rise.led.column rise.divisor }
+        requires base { (place : ℕ) × (place + 1 < length model.now.grid.h)
+            × (base ≡ vertex_in model.now.grid rise.led.column place) }
+        ensures { IsSizeAbove model.now.grid self.now.units base result }
+    {
+        let _ = model.grid();
+        if self.even > 0 {
+            return CellSize {
+                gap: self.even,
+                divisor: rise.divisor,
+            };
+        }
+        let corner = self.cells[base as usize];
+        CellSize {
+            gap: corner.h,
+            divisor: corner.divisor,
+        }
     }
 
     // The cell to which a sigma point leads from a vertex within a second under an advisory.
     pub(crate) fn cell(&self, model: &Model, vertex: u32, advisory: u8, sigma: u32) -> Cell
-        requires { HaveStencil model.now self.now vertex advisory sigma }
+        requires { HaveVertex model.now self.now vertex advisory sigma }
         ensures round { let x = numbers.vertex_at model.now.grid vertex in
             IsRound model.now.grid (process.moved model.now x advisory sigma) result }
         ensures fits { FitsGrid model.now.grid result }
     {
         let grid = model.grid();
-        let stencil = self.stencil(model, vertex, advisory, sigma);
+        let columns = column_count(grid);
+        let stencil = self.stencil(model, vertex % columns, vertex / columns, advisory, sigma);
         cell_of_stencil(grid, self.units, stencil)
     }
 
-    /// The cell in units to which a sigma point leads from a vertex within a second under an advisory, with no division.
-    pub fn unit_cell(&self, model: &Model, vertex: u32, advisory: u8, sigma: u32) -> UnitCell
-        requires { HaveStencil model.now self.now vertex advisory sigma }
-        ensures { let x = numbers.vertex_at model.now.grid vertex in
+    /// The cell in units to which a sigma point leads from the vertex of a column at a place of the altitudes within a second under an
+    /// advisory, with no division.
+    pub fn unit_cell(
+        &self,
+        model: &Model,
+        column: u32,
+        i: u32,
+        advisory: u8,
+        sigma: u32,
+    ) -> UnitCell
+        requires stencil { HaveStencil model.now self.now column advisory sigma }
+        requires place { i < length model.now.grid.h }
+        ensures { let x = numbers.vertex_at model.now.grid (vertex_in model.now.grid column i) in
             IsUnitCell model.now.grid self.now.units (process.moved model.now x advisory sigma) result }
     {
-        let stencil = self.stencil(model, vertex, advisory, sigma);
+        let stencil = self.stencil(model, column, i, advisory, sigma);
         let above = self.cells[stencil.base as usize];
         unit_cell_of(model.grid(), self.units, above, stencil)
     }
 
-    /// The cell in units to which a sigma point leads from a vertex within a second under an advisory, where the rates are in a cell
-    /// that is known.
+    /// The cell in units to which a sigma point leads from the vertex of a column at a place of the altitudes within a second under an
+    /// advisory, by the rise of the column and where the rates are in a cell that is known.
     pub fn cell_at_rates(
         &self,
         model: &Model,
-        vertex: u32,
+        column: u32,
+        i: u32,
         advisory: u8,
         sigma: u32,
+        rise: Rise,
         rates: &Cell,
     ) -> UnitCell
-        requires stencil { HaveStencil model.now self.now vertex advisory sigma }
-        requires rates { let x = numbers.vertex_at model.now.grid vertex in
+        requires stencil { HaveStencil model.now self.now column advisory sigma }
+        requires place { i < length model.now.grid.h }
+        requires rise { IsRise model.now self.now column advisory sigma rise }
+        requires rates { let x = numbers.vertex_at model.now.grid (vertex_in model.now.grid column i) in
             HoldsRates model.now.grid self.now.units (process.moved model.now x advisory sigma) rates.now }
-        ensures cell { let x = numbers.vertex_at model.now.grid vertex in
+        ensures cell { let x = numbers.vertex_at model.now.grid (vertex_in model.now.grid column i) in
             IsUnitCell model.now.grid self.now.units (process.moved model.now x advisory sigma) result }
         ensures v0 { result.cell.v0 ≡ rates.now.v0 }
         ensures v1 { result.cell.v1 ≡ rates.now.v1 }
     {
-        let _ = model.grid();
-        let stencil = self.stencil(model, vertex, advisory, sigma);
-        let corner = self.cells[stencil.base as usize];
+        let grid = model.grid();
+        let at = self.place_risen(model, column, i, advisory, sigma, rise);
+        let base = vertex_in_column(grid, rise.led.column, at.place);
+        let size = self.size_above(model, base, rise);
         UnitCell {
             cell: Cell {
-                h: ends_in(corner.i, corner.h, stencil.h),
+                h: ends_in(at.place, size.gap, at.offset),
                 v0: rates.v0,
                 v1: rates.v1,
             },
-            base: stencil.base,
-            divisor: corner.divisor,
+            base,
+            divisor: size.divisor,
         }
     }
 
     /// The corners of the cell to which a sigma point leads from a vertex within a second under an advisory: those that `corners`
     /// gives of the point that `moved` gives.
     pub fn corners(&self, model: &Model, vertex: u32, advisory: u8, sigma: u32) -> CornerSet
-        requires { HaveStencil model.now self.now vertex advisory sigma }
+        requires { HaveVertex model.now self.now vertex advisory sigma }
         ensures corners { let x = numbers.vertex_at model.now.grid vertex in
             let s = process.moved model.now x advisory sigma in
             AreCorners model.now.grid s result.corners result.total }

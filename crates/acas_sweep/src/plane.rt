@@ -15,7 +15,7 @@ use crate::layer::terminal_entry;
 use crate::order::vertex_after;
 use acas_base::Model;
 use acas_plane::PlaneBlock;
-use acas_step::{ColumnMeans, LayerMeans, column_count, reach_of, vertex_in_column};
+use acas_step::{ColumnMeans, LayerMeans, column_count, reach_of, state_among, vertex_in_column};
 use acas_step_choices::{Backups, ColumnEntries, VertexEntries, fill_entries};
 
 // Writes the entries of a vertex with no second to go, under all present advisories.
@@ -29,9 +29,11 @@ fn put_endings(model: &Model, vertex: u32, block: &mut PlaneBlock, advice: &mut 
         (pairs_in block.new.work) advice.new }
     ensures filled { IsFilledTo model.now.grid (turn model.now.grid vertex + 1) 0 block.new }
 {
+    let grid = model.grid();
+    let width = grid.vertices();
     let entry = terminal_entry(model, vertex);
-    for present in 0..model.grid().advisories as u8 {
-        let state = model.grid().state_number(present, vertex);
+    for present in 0..grid.advisories as u8 {
+        let state = state_among(grid, width, present, vertex);
         block.put(state, entry.pair);
         advice[state as usize] = entry.advice;
     }
@@ -68,9 +70,11 @@ fn put_vertex(
     ensures filled { IsFilledTo model.now.grid (turn model.now.grid vertex + 1) 0 block.new }
     ensures finished { block.new.finished ≡ block.old.finished }
 {
-    for present in 0..model.grid().advisories as u8 {
+    let grid = model.grid();
+    let width = grid.vertices();
+    for present in 0..grid.advisories as u8 {
         let best = entries[usize::from(present)];
-        let state = model.grid().state_number(present, vertex);
+        let state = state_among(grid, width, present, vertex);
         block.put(state, best.pair);
         advice[state as usize] = best.advice;
     }

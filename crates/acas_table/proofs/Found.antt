@@ -81,7 +81,7 @@ entry_given P None name old source fault within not_memory checks = λ model. tt
 entry_given P (Some files) name old source fault within not_memory checks = λ model. entry_file P (get files name) old source fault within not_memory checks model
 
 -- and behind an entry without fault a reader stands one further
-entry_good : (P : Entry → List ℕ → Type 0) (file : Option (List ℕ)) (old new : TableReader) (entry : Entry) → new.shape ≡ old.shape → new.format ≡ old.format → new.given ≡ old.given + 1 → new.fault ≡ None → new.done ≡ false
+pub entry_good : (P : Entry → List ℕ → Type 0) (file : Option (List ℕ)) (old new : TableReader) (entry : Entry) → new.shape ≡ old.shape → new.format ≡ old.format → new.given ≡ old.given + 1 → new.fault ≡ None → new.done ≡ false
     → (IsAtFile old.source file → IsOfFormat old.format file → Checks (λ b. entry_fault old.shape b old.given) P file new.source (Ok entry))
     → (digest : List ℕ) → IfSome file (λ bytes. HasRead digest old bytes → HasRead digest new bytes)
 entry_good P None old new entry shape format given sound more checks = λ digest. tt

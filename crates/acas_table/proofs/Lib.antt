@@ -7,4 +7,5 @@ pub mod Standing
 pub mod Looks
 pub mod Starts
 pub mod Found
+pub mod Nexts
 pub mod Told

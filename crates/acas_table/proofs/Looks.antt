@@ -114,7 +114,7 @@ advice_given Q (Some files) name f s i old new entry fault stands bad blames che
     advice_file Q (get files name) f s i old new entry fault stands format bad blames (checks at)
 
 -- or none
-read_file : (file : Option (List ℕ)) (f : Format) (s : TableShape) (i : ℕ) (old new : Source) (entry : Entry) → StandsAt f s old (entry_start f s i) → IsOfFormat f file
+pub read_file : (file : Option (List ℕ)) (f : Format) (s : TableShape) (i : ℕ) (old new : Source) (entry : Entry) → StandsAt f s old (entry_start f s i) → IsOfFormat f file
     → advice_fault s i entry.advice ≡ None
     → Checks (λ bytes. end_fault old.expected bytes old.place 17) (λ e bytes. e ≡ entry_of (part bytes old.place 17)) file new (Ok entry)
     → Checks (λ bytes. bytes_fault s bytes i) (λ e bytes. e ≡ entry_at s bytes i) file new (Ok entry)
@@ -155,7 +155,7 @@ pub behind_given : {X : Type 0} (P : X → List ℕ → Type 0) (holds : Option 
 behind_given P None name f s i k old new result is checks = tt
 behind_given P (Some files) name f s i k old new result is checks = λ at format. behind_file P (get files name) f s i k new result is format (checks at format)
 
-alone_file : {X : Type 0} (P : X → List ℕ → Type 0) (file : Option (List ℕ)) (f : Format) (s : TableShape) (i : ℕ) (new : Source) (result : Result X TableFault) → None ≡ ended_group f s i → IsOfFormat f file
+pub alone_file : {X : Type 0} (P : X → List ℕ → Type 0) (file : Option (List ℕ)) (f : Format) (s : TableShape) (i : ℕ) (new : Source) (result : Result X TableFault) → None ≡ ended_group f s i → IsOfFormat f file
     → Checks (λ bytes. bytes_fault s bytes i) P file new result → Checks (λ bytes. entry_fault s bytes i) P file new result
 alone_file P None f s i new result is format checks = checks_none P (λ bytes. bytes_fault s bytes i) (λ bytes. entry_fault s bytes i) new result checks
 alone_file P (Some bytes) f s i new result is format checks =

@@ -59,7 +59,7 @@ none_ends f s source given groups left shape stands some =
           sym (ended-all_left g groups left given (some_group f s shape) all stands.group ∙ ap group_before (stands.begun all))
     ]
 
-reads_entry : (f : Format) (s : TableShape) (source : Source) (given groups left : ℕ) → IsShape s → StandsIn f s source given groups left → 0 < left → ReadsNext f s source given None
+pub reads_entry : (f : Format) (s : TableShape) (source : Source) (given groups left : ℕ) → IsShape s → StandsIn f s source given groups left → 0 < left → ReadsNext f s source given None
 reads_entry f s source given groups left shape stands some =
     let behind = group_of_left (group_size f s) groups left given some stands.rest stands.group in
     record {

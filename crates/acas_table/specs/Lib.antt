@@ -3,3 +3,4 @@ pub mod Writer
 pub mod Source
 pub mod Standing
 pub mod Reader
+pub mod AtHand

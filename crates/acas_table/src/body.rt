@@ -104,8 +104,8 @@ fn read_bytes<F: Folder>(
     Ok(entry)
 }
 
-// Whether an entry may have such an advice.
-fn is_advice(shape: &TableShape, index: u32, byte: u8) -> bool
+/// Whether an entry may have such an advice.
+pub fn is_advice(shape: &TableShape, index: u32, byte: u8) -> bool
     ensures { result ≡ (if nat_lt index shape.now.states
         then byte == 255 else nat_lt byte shape.now.advisories) }
 {

@@ -5,10 +5,10 @@ ghost use Rattle.acas_table_text.specs.Shape.{IsShape, entry_count};
 ghost use Rattle.acas_table_text.specs.Format.{group_size, length_of};
 ghost use Rattle.acas_table.specs.Standing.{StandsIn};
 
-use crate::body::{read_end, read_entry};
+use crate::body::{is_advice, read_end, read_entry};
 use crate::header::{check_model, read_format};
 use crate::place::GroupPlace;
-use crate::source::Source;
+use crate::source::{ENTRY, Source};
 use acas_base::Model;
 use acas_outside::Folder;
 use acas_table_text::{Format, TableFault, TableShape};
@@ -41,12 +41,14 @@ pub struct TableReader {
 }
 
 impl TableReader {
-    ghost use Rattle.std.specs.Prelude.{◌≡◌, ◌≤◌, ◌<◌, ◌+◌, List, ℕ, false, is_ok, IsTrue, IsErrOf, IfOk, OnOk, OnErr};
+    ghost use Rattle.std.specs.Prelude.{◌≡◌, ◌≤◌, ◌<◌, ◌+◌, List, ℕ, false, is_ok, IsTrue, IsErrOf, Ok, IfOk, IfSome, OnOk, OnErr};
     ghost use Rattle.acas_outside.specs.Counts.{raised};
     ghost use Rattle.acas_outside.specs.Files.{Given};
     ghost use Rattle.acas_outside.specs.Frame.{OnlyReads};
     ghost use Rattle.acas_table_text.specs.Shape.{entry_count, shape_of};
     ghost use Rattle.acas_table_text.specs.Format.{expected_length, length_of};
+    ghost use Rattle.acas_units.specs.declared.pair.Entry.{Entry as EntryData};
+    ghost use Rattle.acas_table.specs.AtHand.{IsNext};
     ghost use Rattle.acas_table.specs.Source.{Takes};
     ghost use Rattle.acas_table.specs.Reader.{reader_state, IsNew, HasRead, Leaves, Told, Starts, GivesEntry, Finishes};
 
@@ -159,6 +161,39 @@ impl TableReader {
                 Err(fault)
             }
         }
+    }
+
+    /// The next entry, where nothing is to be done but to take it: its bytes are at hand, no digest is to be read before it, its advice
+    /// is one that it may have, and no fault was found. It is not taken yet.
+    pub fn peek(&self) -> Option<Entry>
+        ensures { IfSome result (IsNext self.now) }
+    {
+        if self.fault.is_some() || self.place.left == 0 {
+            return None;
+        }
+        let entry = self.source.peek()?;
+        if is_advice(&self.shape, self.given, entry.advice) {
+            Some(entry)
+        } else {
+            None
+        }
+    }
+
+    /// Takes the next entry, which was seen so.
+    pub fn pass(&mut self)
+        requires more { (reader_state self.old).given < entry_count (reader_state self.old).shape }
+        requires not_done { (reader_state self.old).done ≡ false }
+        requires next { (entry : EntryData) × IsNext self.old entry }
+        ensures given { (entry : EntryData) → IsNext self.old entry → (digest bytes : List ℕ) →
+            HasRead digest self.old bytes → GivesEntry digest (reader_state self.old) bytes (Ok entry) }
+        ensures stands { (digest bytes : List ℕ) →
+            HasRead digest self.old bytes → HasRead digest self.new bytes }
+        ensures state { let old = reader_state self.old in
+            reader_state self.new ≡ record old { given = old.given + 1 } }
+    {
+        self.source.pass(ENTRY);
+        self.given += 1;
+        self.place = self.place.next(self.group);
     }
 
     /// Reads the last digest and the end.

@@ -14,7 +14,7 @@ use std::alloc::{AllocError, Global};
 const PIECE: usize = 65_535;
 
 /// How many bytes an entry has.
-const ENTRY: usize = 17;
+pub const ENTRY: usize = 17;
 
 /// How many bytes a version has.
 const VERSION: usize = 4;
@@ -40,7 +40,7 @@ pub struct Source {
 }
 
 impl Source {
-    ghost use Rattle.std.specs.Prelude.{◌≡◌, ◌≤◌, ◌<◌, ◌+◌, ◌-◌, ◌^◌, List, ℕ, IsTrue, OnErr, OnOk, IfOk, Option, Some, length, ⊤};
+    ghost use Rattle.std.specs.Prelude.{◌≡◌, ◌≤◌, ◌<◌, ◌+◌, ◌-◌, ◌^◌, List, ℕ, IsTrue, OnErr, OnOk, IfOk, IfSome, Option, Some, length, ⊤};
     ghost use Rattle.sha2.specs.Sha256.{sha256};
     ghost use Rattle.byteorder.specs.Endian.{little_number};
     ghost use Rattle.acas_table_text.specs.Format.{format_of_version, part};
@@ -48,6 +48,7 @@ impl Source {
     ghost use Rattle.acas_table_text.specs.Faults.{end_fault, fault_at, fields_fault, more_fault, width_of, widths};
     ghost use Rattle.acas_outside.specs.Files.{Given};
     ghost use Rattle.acas_outside.specs.Bytes.{IsBytes};
+    ghost use Rattle.acas_table.specs.AtHand.{HasAtHand};
     ghost use Rattle.acas_table.specs.Source.{IsAt, IsAtFile, Moves, Checks, Fills, Finds, ReadsTable, Steps, bytes_taken};
 
     /// A source at the front of a file that is to have so many bytes, and takes no more than `limit` bytes of it.
@@ -200,8 +201,8 @@ impl Source {
         &self.buffer[self.from..self.from + count]
     }
 
-    // Passes over bytes that are at hand.
-    fn pass(&mut self, count: usize)
+    /// Passes over bytes that are at hand.
+    pub fn pass(&mut self, count: usize)
         requires there { count ≤ self.old.to - self.old.from }
         requires bytes { IsBytes (part self.old.buffer.items self.old.from count) }
         ensures at { (bytes : List ℕ) → IsAt self.old bytes → IsAt self.new bytes }
@@ -292,6 +293,16 @@ impl Source {
         let entry = decode_entry(self.at_hand(ENTRY));
         self.pass(ENTRY);
         Ok(entry)
+    }
+
+    /// The next entry of the file, where all its bytes are at hand.
+    pub fn peek(&self) -> Option<Entry>
+        ensures { IfSome result (HasAtHand self.now) }
+    {
+        if self.to - self.from < ENTRY {
+            return None;
+        }
+        Some(decode_entry(self.at_hand(ENTRY)))
     }
 
     /// Sees that no byte follows the expected ones.

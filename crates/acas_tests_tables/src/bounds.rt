@@ -1,7 +1,9 @@
 //! Entries that are held against the layer below, by its values and by its means. More of them are cases of `acas_cases`.
 use self::Wanted::{Allows, Needs, NotAllowed, Sound};
 use crate::models::{COSTLY, NOISY};
-use acas_bounds::{BoundFault, Plane, check_at, check_by_means, check_entry, fill_means};
+use acas_bounds::{
+    BoundFault, Plane, check_at, check_by_means, check_entry, fill_leasts, fill_means,
+};
 use acas_grid::state_present;
 use acas_tests_data::model_of;
 use acas_units::{Entry, Pair};
@@ -66,8 +68,10 @@ fn answer_of(
     let by_means = check_by_means(&model, n, state, &entry, &means);
     let plane = Plane::new(&model, state_present(model.grid(), state));
     let vertex = state % model.grid().vertices();
-    let at_vertex = check_at(&model, n, &plane, vertex, &entry, &means);
-    if by_values == by_means && by_means == at_vertex {
+    let mut leasts = vec![in alloc; 0i64; model.grid().vertices() as usize].ok()?;
+    fill_leasts(&model, &plane, &means, &mut leasts);
+    let by_leasts = check_at(&model, n, &plane, vertex, &entry, &means, Some(&leasts));
+    if by_values == by_means && by_means == by_leasts {
         Some(by_values)
     } else {
         None

@@ -39,13 +39,15 @@ pub fn trajectories_in_numbers()
 /// power of the number of vertices.
 pub fn trajectories_stand_once_in_a_sum()
     ensures once { (g : GridData) (f : Trajectory → ℤ) (path : Trajectory) → All (IsVertex g) path →
-        ((other : Trajectory) → length other ≡ length path → All (IsVertex g) other → other ≢ path → f other ≡ pos 0) →
+        ((other : Trajectory) → length other ≡ length path → All (IsVertex g) other → other ≢ path →
+        f other ≡ pos 0) →
         over_trajectories g (length path) f ≡ f path }
     ensures no_other { (g : GridData) (n : ℕ) (f : Trajectory → ℤ) →
         ((path : Trajectory) → length path ≡ n → All (IsVertex g) path → f path ≡ pos 0) →
         over_trajectories g n f ≡ pos 0 }
     ensures added { (g : GridData) (n : ℕ) (f h : Trajectory → ℤ) →
-        over_trajectories g n (λ path. f path +ℤ h path) ≡ over_trajectories g n f +ℤ over_trajectories g n h }
+        over_trajectories g n (λ path. f path +ℤ h path)
+        ≡ over_trajectories g n f +ℤ over_trajectories g n h }
     ensures count { (g : GridData) (n : ℕ) → over_trajectories g n (λ path. pos 1) ≡ pos (vertices g ^ n) }
 {}
 

@@ -1,11 +1,11 @@
 //! Lines that are built without taking memory.
-ghost use Rattle.std.specs.Prelude.{◌≡◌, ◌+◌, ◌-◌, ◌/◌, ◌^◌, ◌≤◌, [], ◌∷◌, ◌++◌, length, unsigned_abs, IfOk};
-ghost use Rattle.std.specs.Fmt.{signed_decimal};
-ghost use Rattle.acas_units.specs.Printed.{millionths_text, sign_text, six_digits};
+ghost use Rattle.std.specs.Prelude.{◌≡◌, ◌+◌, ◌/◌, ◌^◌, ◌<◌, ◌≤◌, [], ◌++◌, length, unsigned_abs, IfOk};
+ghost use Rattle.std.specs.Fmt.{decimal, signed_decimal};
+ghost use Rattle.acas_units.specs.Printed.{millionths_text};
 
 use crate::limits::LINE_BYTES;
 use crate::printed::last_six;
-use itoa::Buffer;
+use itoa::{Buffer, write_digits};
 use std::alloc::{AllocError, Global};
 use std::marker::Model;
 
@@ -13,18 +13,46 @@ use std::marker::Model;
 /// when it is made.
 #[derive(Drop)]
 pub struct Line {
-    text: Vec<u8>,
+    room: Vec<u8>,
+    filled: usize,
 }
 
 impl Model for Line {
-    ghost use Rattle.std.specs.Prelude.{List, ℕ, ◌≤◌, vec_len, vec_capacity};
+    ghost use Rattle.std.specs.Prelude.{List, ℕ, ◌≡◌, ◌≤◌, take, vec_len};
     ghost use Rattle.acas_units.specs.declared.limits.TheConstants.{LINE_BYTES};
 
     ghost Value = { List ℕ };
 
-    ghost view = { λ line. line.text.items };
+    ghost view = { λ line. take line.filled line.room.items };
 
-    ghost invariant = { λ line. (vec_len line.text ≤ LINE_BYTES) × (LINE_BYTES ≤ vec_capacity line.text) };
+    ghost invariant = { λ line. (line.filled ≤ LINE_BYTES) × (vec_len line.room ≡ LINE_BYTES) };
+}
+
+// How many decimal digits a number below 10,000 has.
+fn short_count(n: u64) -> usize
+    requires { n < 10_000 }
+    ensures { result ≡ length (decimal n) }
+{
+    if n >= 100 {
+        if n >= 1_000 { 4 } else { 3 }
+    } else if n >= 10 {
+        2
+    } else {
+        1
+    }
+}
+
+// How many decimal digits a number has.
+fn digit_count(n: u64) -> usize
+    ensures { result ≡ length (decimal n) }
+{
+    let mut left = n;
+    let mut count = 0;
+    while left >= 10_000 {
+        left /= 10_000;
+        count += 4;
+    }
+    count + short_count(left)
 }
 
 impl Line {
@@ -32,24 +60,51 @@ impl Line {
     pub fn make(alloc: Global) -> Result<Line, AllocError>
         ensures { IfOk result (λ line. line ≡ []) }
     {
-        let text = Vec::with_capacity(alloc, LINE_BYTES)?;
-        Ok(Line { text })
+        Ok(Line {
+            room: vec![in alloc; 0u8; LINE_BYTES]?,
+            filled: 0,
+        })
     }
 
     /// Makes the line empty.
     pub fn clear(&mut self)
         ensures { self.new ≡ [] }
     {
-        self.text.clear();
+        self.filled = 0;
     }
 
     /// Appends bytes.
+    #[inline]
     pub fn push(&mut self, bytes: &[u8])
         requires { length self.old + length bytes.now ≤ LINE_BYTES }
         ensures { self.new ≡ self.old ++ bytes.now }
     {
-        let taken = self.text.extend_from_slice(bytes);
-        prove!(taken.is_ok());
+        let end = self.filled + bytes.len();
+        self.room[self.filled..end].copy_from_slice(bytes);
+        self.filled = end;
+    }
+
+    // Appends the decimal text of a number of 64 bits.
+    fn digits(&mut self, value: u64)
+        requires { length self.old + length (decimal value) ≤ LINE_BYTES }
+        ensures { self.new ≡ self.old ++ decimal value }
+    {
+        let end = self.filled + digit_count(value);
+        write_digits(value, &mut self.room, end);
+        self.filled = end;
+    }
+
+    // Appends the decimal text of a number.
+    fn natural(&mut self, value: u128)
+        requires { length self.old + length (decimal value) ≤ LINE_BYTES }
+        ensures { self.new ≡ self.old ++ decimal value }
+    {
+        if value < 1 << 64 {
+            self.digits(value as u64);
+        } else {
+            let mut buffer = Buffer::new();
+            self.push(buffer.format(value).as_bytes());
+        }
     }
 
     /// Appends the decimal text of a whole number: a `-` where it is below 0, and its digits without leading zeros.
@@ -57,8 +112,10 @@ impl Line {
         requires { length self.old + length (signed_decimal value) ≤ LINE_BYTES }
         ensures { self.new ≡ self.old ++ signed_decimal value }
     {
-        let mut buffer = Buffer::new();
-        self.push(buffer.format(value).as_bytes());
+        if value < 0 {
+            self.push(b"-");
+        }
+        self.natural(value.unsigned_abs());
     }
 
     /// Appends the text of a number of millionths: a `-` where it is below 0, the whole units without leading zeros, a
@@ -67,12 +124,11 @@ impl Line {
         requires { length self.old + length (millionths_text value) ≤ LINE_BYTES }
         ensures { self.new ≡ self.old ++ millionths_text value }
     {
-        let mut buffer = Buffer::new();
         let magnitude = value.unsigned_abs();
         if value < 0 {
             self.push(b"-");
         }
-        self.push(buffer.format(magnitude / 1_000_000).as_bytes());
+        self.natural(magnitude / 1_000_000);
         self.push(b".");
         self.push(&last_six(magnitude));
     }
@@ -81,6 +137,6 @@ impl Line {
     pub fn bytes(&self) -> &[u8]
         ensures { result.now ≡ self.now }
     {
-        &self.text
+        &self.room[..self.filled]
     }
 }

@@ -26,3 +26,13 @@ num_fits z n e h = rw (← e) (whole128 z (rw e (omega arith)))
 
 pub den_fits : (z : ℤ) (d : ℕ) → z ≡ pos d → d ≤ 10000000000000 → to_z w128 (of_z w128 z) ≡ pos d
 den_fits z d e h = rw (← e) (whole128 z (rw e (omega arith)))
+
+-- ---- products and differences of parts that need not be in lowest terms
+
+pub product_wide : (a z : ℤ) (n m k : ℕ) → z ≡ pos n → unsigned_abs a ≤ m → n ≤ k → m ≤ 100000000000000000000000000000000000000 → k ≤ 100000000000000000000000000000000000000 → m * k ≤ 100000000000000000000000000000000000000 →
+    to_z w128 (of_z w128 (to_z w128 (of_z w128 a) *ℤ to_z w128 (of_z w128 z))) ≡ a *ℤ pos n
+product_wide a z n m k e h j hm hk r = rw e (product128 a (pos n) m k h j hm hk r)
+
+pub difference_wide : (a b : ℤ) → unsigned_abs a ≤ 30000000000000000000000000000000000000 → unsigned_abs b ≤ 1000000000000000000000000000000000 →
+    to_z w128 (of_z w128 (to_z w128 (of_z w128 a) -ℤ to_z w128 (of_z w128 b))) ≡ a -ℤ b
+difference_wide a b h k = omega (arith, ints)

@@ -1,17 +1,16 @@
 //! Where the flights of the search end.
 ghost use Rattle.std.specs.Prelude.{◌≡◌, ◌*◌, ◌^◌, ◌<◌, ◌≤◌, ◌↔◌, IsTrue, pos, ◌*ℤ◌, unsigned_abs};
-ghost use Rattle.acas_frac.specs.Fraction.{Fraction, IsFrac};
+ghost use Rattle.acas_frac.specs.Fraction.{Fraction};
 ghost use Rattle.acas_flight.specs.Values.{IsHeld};
 ghost use Rattle.acas_region_curves.specs.Limits.{IsRate, IsTime};
+ghost use Rattle.acas_region_curves.specs.Ratios.{IsShort};
 ghost use Rattle.acas_region_curves.specs.Sizes.{altitude_size, shared_parts};
 ghost use Rattle.acas_passes.specs.Value.{is_below, IsWithinHalf};
 ghost use Rattle.acas_witness_plans.specs.Plans.{CanBeFlown, IsIntruderEnd, clearance_of};
 
-use crate::numbers::{across, common, known, parts};
 use crate::plan::{Outcome, Plan};
-use crate::points::ratio;
 use acas_frac::Frac;
-use acas_region_curves::{RATE_PARTS, TIME_PARTS, held, rate_parts, time_parts};
+use acas_region_curves::{RATE_PARTS, Ratio, TIME_PARTS, held_ratio, rate_parts, time_parts};
 use acas_units::{GREATEST_HALF_HEIGHT, GREATEST_RATE, TICKS_PER_FOOT, WINDOW_SECONDS};
 
 // An altitude over a denominator.
@@ -36,17 +35,21 @@ fn flown(rate: i64, time: u64) -> i64
 }
 
 // Where an intruder of an altitude and a rate ends after the time.
-fn intruder_end(altitude: i64, intruder: &Frac, time: &Frac) -> Frac
+fn intruder_end(altitude: i64, intruder: &Frac, time: &Frac) -> Ratio
     requires altitude { unsigned_abs altitude ≤ altitude_size }
     requires intruder { IsRate intruder.now }
     requires time { IsTime time.now }
     ensures end { IsIntruderEnd altitude intruder.now time.now result }
-    ensures lowest { IsFrac result }
+    ensures some { 0 < Fraction.den result }
+    ensures short { IsShort result }
 {
     let (rate, rate_den) = rate_parts(intruder);
     let (num, den) = time_parts(time);
     let shared = rate_den * den;
-    ratio(over(altitude, shared) + flown(rate, num), shared)
+    Ratio::new(
+        i128::from(over(altitude, shared) + flown(rate, num)),
+        shared,
+    )
 }
 
 /// The plan as flown.
@@ -58,36 +61,55 @@ pub fn fly(plan: &Plan) -> Outcome
     ensures end { IsIntruderEnd plan.now.altitude plan.now.intruder plan.now.time result.intruder_end }
     ensures end_some { 0 < Fraction.den result.intruder_end }
 {
-    let climb = held(&plan.own, &plan.aim, &plan.pull, &plan.hold, &plan.time);
     Outcome {
         plan: *plan,
-        climb: known(climb),
+        climb: held_ratio(&plan.own, &plan.aim, &plan.pull, &plan.hold, &plan.time),
         intruder_end: intruder_end(plan.altitude, &plan.intruder, &plan.time),
     }
 }
 
-// The half height over a denominator.
-fn band_of(half: u64, den: i128) -> i128
-    requires half { half ≤ TICKS_PER_FOOT * GREATEST_HALF_HEIGHT }
-    requires den { unsigned_abs den ≤ 10 ^ 26 }
-    ensures value { result ≡ pos half *ℤ den }
-    ensures size { unsigned_abs result ≤ 10 ^ 32 }
+// The numerator of a climb, over the denominator of where an intruder ends as well.
+fn climb_over(num: i128, den: u64) -> i128
+    requires num { unsigned_abs num ≤ 2 * 10 ^ 30 }
+    requires den { den ≤ shared_parts }
+    ensures value { result ≡ num *ℤ pos den }
+    ensures size { unsigned_abs result ≤ 3 * 10 ^ 37 }
 {
-    i128::from(half) * den
+    num * i128::from(den)
 }
 
-// How far the climb is above where the intruder ends, and the half height, over a common denominator.
-fn clearance(climb: &Frac, end: &Frac, half: u64) -> (i128, i128)
-    requires { half ≤ TICKS_PER_FOOT * GREATEST_HALF_HEIGHT }
-    ensures value { result.0 ≡ Fraction.num (clearance_of climb.now end.now) }
-    ensures size { unsigned_abs result.0 ≤ 2 * 10 ^ 37 }
-    ensures band { result.1 ≡ pos (half * Fraction.den (clearance_of climb.now end.now)) }
-    ensures band_size { unsigned_abs result.1 ≤ 10 ^ 32 }
+// The numerator of where an intruder ends, over the denominator of a climb as well.
+fn end_over(num: i128, den: u64) -> i128
+    requires num { unsigned_abs num ≤ 10 ^ 15 }
+    requires den { den ≤ 10 ^ 18 }
+    ensures value { result ≡ num *ℤ pos den }
+    ensures size { unsigned_abs result ≤ 10 ^ 33 }
 {
-    let (a, b) = parts(climb);
-    let (c, d) = parts(end);
-    let value = across(a, d) - across(c, b);
-    (value, band_of(half, common(b, d)))
+    num * i128::from(den)
+}
+
+/// How far the climb is above where the intruder ends, in ticks: the numerator, and the denominator that the two have in common.
+pub fn clearance(outcome: &Outcome) -> (i128, u128)
+    ensures num { result.0 ≡ Fraction.num (clearance_of outcome.now.climb outcome.now.intruder_end) }
+    ensures num_size { unsigned_abs result.0 ≤ 4 * 10 ^ 37 }
+    ensures den { result.1 ≡ Fraction.den (clearance_of outcome.now.climb outcome.now.intruder_end) }
+    ensures den_size { result.1 ≤ 10 ^ 26 }
+{
+    let climb_den = outcome.climb.den();
+    let end_den = outcome.intruder_end.den();
+    let climb = climb_over(outcome.climb.num(), end_den);
+    let end = end_over(outcome.intruder_end.num(), climb_den);
+    (climb - end, u128::from(climb_den) * u128::from(end_den))
+}
+
+// The half height over a denominator.
+fn band_of(half: u64, den: u128) -> i128
+    requires half { half ≤ TICKS_PER_FOOT * GREATEST_HALF_HEIGHT }
+    requires den { den ≤ 10 ^ 26 }
+    ensures value { result ≡ pos (half * den) }
+    ensures size { unsigned_abs result ≤ 10 ^ 32 }
+{
+    (u128::from(half) * den) as i128
 }
 
 /// Whether the flight is below.
@@ -95,8 +117,8 @@ pub fn is_under(outcome: &Outcome, half: u64) -> bool
     requires { half ≤ TICKS_PER_FOOT * GREATEST_HALF_HEIGHT }
     ensures { result ≡ is_below half (clearance_of outcome.now.climb outcome.now.intruder_end) }
 {
-    let (value, band) = clearance(&outcome.climb, &outcome.intruder_end, half);
-    value < -band
+    let (value, den) = clearance(outcome);
+    value < -band_of(half, den)
 }
 
 /// Whether the flight ends in contact.
@@ -104,6 +126,7 @@ pub fn is_in_contact(outcome: &Outcome, half: u64) -> bool
     requires { half ≤ TICKS_PER_FOOT * GREATEST_HALF_HEIGHT }
     ensures { IsTrue result ↔ IsWithinHalf half (clearance_of outcome.now.climb outcome.now.intruder_end) }
 {
-    let (value, band) = clearance(&outcome.climb, &outcome.intruder_end, half);
+    let (value, den) = clearance(outcome);
+    let band = band_of(half, den);
     -band <= value && value <= band
 }

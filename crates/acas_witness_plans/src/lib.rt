@@ -6,7 +6,7 @@ mod numbers;
 mod plan;
 mod points;
 
-pub use flown::{fly, is_in_contact, is_under};
+pub use flown::{clearance, fly, is_in_contact, is_under};
 pub use numbers::{across, common, known, natural, parts};
 pub use plan::{Outcome, Plan};
 pub use points::{end_parts, hold_at, place, pull_at, rate_at, rate_steps, ratio, time_place};

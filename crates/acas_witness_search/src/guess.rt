@@ -6,17 +6,17 @@ ghost use Rattle.acas_witness_search.specs.Order.{rises};
 use crate::quantity::Quantity;
 use crate::survey::Survey;
 use acas_passes::RATE_STEPS;
-use acas_witness_plans::{Outcome, across, common, end_parts, parts};
+use acas_witness_plans::{Outcome, clearance, end_parts};
 
 /// The greatest way between two rates, in steps.
 const MOST_STEPS: u64 = 160_000;
 
-// By how many whole ticks a flight is above the lowest that is not below.
+// By how many whole ticks a flight is above the lowest that is not below. Digits are left off so that the divisor has 64 at most.
 fn ticks_above(flight: &Outcome, half: u64) -> u64 {
-    let (climb, climb_den) = parts(&flight.climb);
-    let (end, end_den) = parts(&flight.intruder_end);
-    let above = across(climb, end_den) - across(end, climb_den);
-    let ticks = above / common(climb_den, end_den);
+    let (above, den) = clearance(flight);
+    let digits = 64u32.saturating_sub(den.leading_zeros());
+    let divisor = u64::try_from(den >> digits).unwrap_or(1).max(1);
+    let ticks = (above >> digits) / i128::from(divisor);
     u64::try_from(ticks.saturating_add(i128::from(half))).unwrap_or(0)
 }
 

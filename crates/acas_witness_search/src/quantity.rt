@@ -88,7 +88,8 @@ impl Pass for SearchPass {
 
     ghost is_at = { λ s i f. IsPointOf s.survey (pass_of s.quantity) i f.plan × CanBeFlown f.plan };
 
-    ghost value_at = { λ s i. value (unit (search_of s.survey)) ((pass_of s.quantity (search_of s.survey)).point i) };
+    ghost value_at = { λ s i. value (unit (search_of s.survey))
+        ((pass_of s.quantity (search_of s.survey)).point i) };
 
     ghost last = { λ s. s.last };
 

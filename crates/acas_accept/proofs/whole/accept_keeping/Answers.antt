@@ -7,7 +7,7 @@ use Rattle.acas_table_text.specs.Format.{length_of}
 use Rattle.acas_table_text.specs.Shape.{shape_of}
 use Rattle.acas_table_text.specs.declared.shape.TableShape.{TableShape}
 use Rattle.acas_accept.specs.declared.refusal.AcceptFault.TheVariants.{Absent, Failed}
-use Rattle.acas_accept.proofs.Accepting.{fault_at_end, fault_in_layers, whole_given}
+use Rattle.acas_accept.proofs.Accepting.{fault_at_end, fault_in_layers, file_expected, whole_given}
 use Rattle.acas_accept.proofs.Frames.{reads_then}
 use Rattle.acas_accept.proofs.whole.accept_keeping.Goals as goal
 
@@ -47,6 +47,16 @@ returns-clause-all_taken g c =
       subst (λ (s : TableShape). g.F.Folder.taken c.finish.new.folder ≡ raised (g.F.Folder.taken c.args.folder.now) (length_of old.format s)) shape
           (omega (arith, c.in_ok-finish.ensures.all_taken.taken, c.in_ok-finish.ensures.all_taken.later, c.layers.ensures.taken.taken, c.layers.ensures.taken.later, c.in_ok-check.ensures.taken.taken)),
     )
+
+pub returns-clause-all_of_file : goal.returns-clause-all_of_file
+returns-clause-all_of_file g c =
+    let m = c.args.model.now in
+    let old = reader_state c.layers.new.self.reader in
+    let shape : old.shape ≡ shape_of c.args.model.now.grid = c.in_ok-layers.ensures.check.shape in
+    file_expected (λ n. g.F.Folder.taken c.finish.new.folder ≡ raised (g.F.Folder.taken c.args.folder.now) n) m c.args.digest.now _ c.args.name.now c.in_ok-check.check old.format
+    c.layers.ensures.format c.in_ok-check.ensures.given
+    (subst (λ (s : TableShape). g.F.Folder.taken c.finish.new.folder ≡ raised (g.F.Folder.taken c.args.folder.now) (length_of old.format s)) shape
+    (omega (arith, c.in_ok-finish.ensures.all_taken.taken, c.in_ok-finish.ensures.all_taken.later, c.layers.ensures.taken.taken, c.layers.ensures.taken.later, c.in_ok-check.ensures.taken.taken)))
 
 pub returns-in_err-finish-clause-frame : goal.returns-in_err-finish-clause-frame
 returns-in_err-finish-clause-frame g c =

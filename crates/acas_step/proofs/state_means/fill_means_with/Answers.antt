@@ -2,7 +2,7 @@ use Rattle.std.proofs.Common.{ap, arith}
 use Rattle.acas_spec.specs.Model.{GridData}
 use Rattle.acas_step.specs.Columns.{columns}
 use Rattle.acas_step.proofs.ColumnPlaces.{column_below, column_written}
-use Rattle.acas_step.proofs.TableMeans.{means_written}
+use Rattle.acas_step.proofs.TableMeans.{means_within, means_written}
 use Rattle.acas_step.proofs.state_means.fill_means_with.Goals as goal
 
 pub loop-column-preserved : goal.loop-column-preserved
@@ -16,5 +16,12 @@ pub returns-clause-means : goal.returns-clause-means
 returns-clause-means g c =
     let g = c.args.model.now.grid in
     means_written c.args.model.now c.args.below.now c.loop-column.means
+    (λ s here. c.loop-column.invariant.means s here
+    (omega (arith, column_below g s here, c.loop-column-test.false, c.column_count-column-end.ensures, ap (λ (g : GridData). columns g) c.grid.ensures.value)))
+
+pub returns-clause-size : goal.returns-clause-size
+returns-clause-size g c =
+    let g = c.args.model.now.grid in
+    means_within c.args.model.now c.args.below.now c.loop-column.means c.reach_of-reach.result c.grid.ensures.valid c.requires.below c.loop-column.invariant.count c.reach_of-reach.ensures
     (λ s here. c.loop-column.invariant.means s here
     (omega (arith, column_below g s here, c.loop-column-test.false, c.column_count-column-end.ensures, ap (λ (g : GridData). columns g) c.grid.ensures.value)))

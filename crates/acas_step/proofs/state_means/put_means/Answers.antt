@@ -14,10 +14,10 @@ loop-advisory-preserved c =
     let a = c.loop-advisory.advisory in
     let so_far = c.loop-advisory.invariant in
     let pair : Pair = pair_at c.args.vertex_means.now c.from.result in
-    let state : c.state_number-state.result ≡ state_number g a v = c.state_number-state.ensures.value ∙ ap (λ (g : GridData). state_number g a v) c.grid-grid.ensures.value in
-    let below : state_number g a v < states g = rw (← state, ← c.grid-grid.ensures.value) c.state_number-state.ensures.below in
+    let state : c.state_among-state.result ≡ state_number g a v = c.state_among-state.ensures.value ∙ ap (λ (g : GridData). state_number g a v) c.grid-grid.ensures.value in
+    let below : state_number g a v < states g = rw (← state, ← c.grid-grid.ensures.value) c.state_among-state.ensures.below in
     record {
-      count = length-set c.loop-advisory.means c.state_number-state.result pair ∙ so_far.count;
+      count = length-set c.loop-advisory.means c.state_among-state.result pair ∙ so_far.count;
       written = rw state (pairs_next g v a c.loop-advisory.means c.args.vertex_means.now pair c.requires.vertex (omega (arith, below, so_far.count)) (ap (pair_at c.args.vertex_means.now) c.from.ensures) so_far.written);
       others = λ s other. rw state (pairs_elsewhere g v a c.loop-advisory.means pair c.requires.vertex s other) ∙ so_far.others s other;
     }

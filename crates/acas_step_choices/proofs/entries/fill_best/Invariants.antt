@@ -4,7 +4,6 @@ use Rattle.acas_step_choices.proofs.entries.fill_best.Given as goal
 
 abbrev pub invariant-loop-present : goal.invariant-loop-present
 invariant-loop-present l = record {
-  long : length l.entries ≡ 16;
   best : AreBest l.model l.vertex_means l.present l.entries;
   counted : l.count ≡ l.initial.count + sum_by (λ choices. length choices) (take l.present l.model.choices);
 }

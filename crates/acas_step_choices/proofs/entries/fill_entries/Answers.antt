@@ -1,42 +1,39 @@
-use Rattle.std.proofs.Common.{ℕ, ◌+◌, ◌<◌, ◌≤◌, List, [], length, ap, ◌∙◌, arith}
-use Rattle.std.proofs.Math.Nat.{mul-le-mul_right}
-use Rattle.std.proofs.lemmas.List.{length-set}
-use Rattle.acas_spec.specs.Model.{GridData}
-use Rattle.acas_grid.specs.States.{vertex_at}
+use Rattle.std.proofs.Common.{◌≡◌, ℕ, ◌<◌, List, [], length, subst, arith}
+use Rattle.std.proofs.Math.Nat.{mul-le-mul_left}
+use Rattle.std.proofs.lemmas.List.Sums.{sum_by_more, sum_by_more_le}
 use Rattle.acas_units.specs.declared.pair.Entry.{Entry}
-use Rattle.acas_step_choices.specs.Best.{AreVertexEntries}
-use Rattle.acas_step.specs.Choices.{choice_count}
-use Rattle.acas_step.specs.Columns.{pairs_at, vertex_in}
-use Rattle.acas_step_choices.proofs.BestEntries.{entries_over, leave_room}
-use Rattle.acas_step.proofs.Written.{each_written}
+use Rattle.acas_step_choices.specs.Best.{AreColumnBest}
+use Rattle.acas_step_choices.proofs.BestEntries.{column_best_next, column_entries_over, column_leaves_room}
 use Rattle.acas_step_choices.proofs.entries.fill_entries.Goals as goal
 
-pub fill_best-requires-clause-means : goal.fill_best-requires-clause-means
-fill_best-requires-clause-means g c =
-    let m = c.args.model.now in
-    let i = c.loop-i.i in
-    let here : i < length m.grid.h = omega (arith, c.loop-i-test.true, c.len-i-end.ensures.value, ap (λ (g : GridData). length g.h) (c.grid.view_is ∙ c.grid-grid.ensures.value)) in
-    leave_room m c.args.below.now (vertex_at m.grid (vertex_in m.grid c.args.column i)) (pairs_at c.fill_column.new.means i) c.grid-grid.ensures.valid c.requires.below (c.fill_column.ensures.means.each i here) c.requires.small
+pub fill_present-requires-clause-means : goal.fill_present-requires-clause-means
+fill_present-requires-clause-means g c =
+    column_leaves_room c.args.model.now c.args.below.now c.args.column c.fill_column.new.means c.grid.ensures.valid c.requires.below c.fill_column.ensures.means c.requires.small
 
-pub fill_best-requires-clause-count : goal.fill_best-requires-clause-count
-fill_best-requires-clause-count g c =
+pub fill_present-requires-clause-count : goal.fill_present-requires-clause-count
+fill_present-requires-clause-count g c =
     let m = c.args.model.now in
-    let here : c.loop-i.i + 1 ≤ length m.grid.h = omega (arith, c.loop-i-test.true, c.len-i-end.ensures.value, ap (λ (g : GridData). length g.h) (c.grid.view_is ∙ c.grid-grid.ensures.value)) in
-    omega (arith, c.loop-i.invariant.counted, c.requires.count, mul-le-mul_right (choice_count m) here)
+    let present = c.loop-present.present in
+    let known : present < length m.choices = omega (arith, c.loop-present-test.true, c.advisory_count-present-end.ensures.value, c.grid.ensures.valid.choice_count) in
+    omega (arith, c.loop-present.invariant.counted, c.requires.count, mul-le-mul_left (length m.grid.h) (sum_by_more_le (λ choices. length choices) m.choices present [] known))
 
-pub loop-i-preserved : goal.loop-i-preserved
-loop-i-preserved g c =
+pub loop-present-preserved : goal.loop-present-preserved
+loop-present-preserved g c =
     let m = c.args.model.now in
-    let below = c.args.below.now in
-    let i = c.loop-i.i in
-    let so_far = c.loop-i.invariant in
-    let lists : List (List Entry) = c.loop-i.entries in
-    let entries : List Entry = c.fill_best.new.entries in
-    let here : i < length m.grid.h = omega (arith, c.loop-i-test.true, c.len-i-end.ensures.value, ap (λ (g : GridData). length g.h) (c.grid.view_is ∙ c.grid-grid.ensures.value)) in
-    let inside : i < length lists = omega (arith, here, so_far.long, c.grid-grid.ensures.valid.grid.altitudes.at_most) in
+    let present = c.loop-present.present in
+    let so_far = c.loop-present.invariant in
+    let filled = c.fill_present.ensures in
+    let known : present < length m.choices = omega (arith, c.loop-present-test.true, c.advisory_count-present-end.ensures.value, c.grid.ensures.valid.choice_count) in
     record {
-      long = length-set lists i entries ∙ so_far.long;
-      entries = each_written (λ (j : ℕ) (l : List Entry). AreVertexEntries m below (vertex_at m.grid (vertex_in m.grid c.args.column j)) l) lists i entries [] inside so_far.entries
-          (entries_over m below (vertex_at m.grid (vertex_in m.grid c.args.column i)) (pairs_at c.fill_column.new.means i) entries c.grid-grid.ensures.valid (c.fill_column.ensures.means.each i here) c.fill_best.ensures.best);
-      counted = omega (arith, so_far.counted, c.fill_best.ensures.count);
+      best = column_best_next m c.fill_column.new.means present c.loop-present.entries c.fill_present.new.entries so_far.best filled.others filled.best;
+      counted = rw (sum_by_more (λ choices. length choices) m.choices present [] known) (omega (arith, so_far.counted, filled.count));
     }
+
+pub returns-clause-entries : goal.returns-clause-entries
+returns-clause-entries g c =
+    let m = c.args.model.now in
+    let means = c.fill_column.new.means in
+    let lists : List (List Entry) = c.loop-present.entries in
+    let all : c.loop-present.present ≡ m.grid.advisories = omega (arith, c.loop-present-test.false, c.loop-present.auto.present-end, c.advisory_count-present-end.ensures.value) in
+    column_entries_over m c.args.below.now c.args.column means lists c.grid.ensures.valid c.fill_column.ensures.means
+    (subst (λ (count : ℕ). AreColumnBest m means count lists) all c.loop-present.invariant.best)

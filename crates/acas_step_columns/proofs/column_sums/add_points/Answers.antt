@@ -1,10 +1,9 @@
-use Rattle.std.proofs.Common.{◌≡◌, ℕ, ◌+◌, ◌*◌, ◌<◌, length, ap, subst, ◌∙◌, arith}
+use Rattle.std.proofs.Common.{◌≡◌, ℕ, ◌+◌, ◌*◌, ◌<◌, length, ap, ◌∙◌, arith}
 use Rattle.std.proofs.lemmas.List.{length-set}
 use Rattle.acas_spec.specs.Model.{GridData}
 use Rattle.acas_grid.specs.States.{vertex_at}
-use Rattle.acas_process.specs.Step.{moved}
 use Rattle.acas_step.specs.Columns.{vertex_in}
-use Rattle.acas_step_narrow.specs.Narrow.{AreRaisedSums, IsRaisedPoint, weights_below}
+use Rattle.acas_step_narrow.specs.Narrow.{AreRaisedSums, weights_below}
 use Rattle.acas_step_narrow.specs.Raised.{AreRaisedWithin, raised_in}
 use Rattle.acas_step_narrow.specs.declared.raised.Raised.{Raised}
 use Rattle.acas_step_stencils.proofs.ColumnCells.{rates_in_column}
@@ -17,8 +16,7 @@ point_in_column-requires-clause-rates c =
     let m = c.args.model.now in
     let g : GridData = m.grid in
     let here : c.loop-i.i < length g.h = omega (arith, c.loop-i-test.true, c.len-i-end.ensures.value, ap (λ (d : GridData). length d.h) (c.grid.view_is ∙ c.grid-grid.ensures.value)) in
-    let vertex : c.vertex_in_column-vertex.result ≡ vertex_in g c.args.column c.loop-i.i = c.vertex_in_column-vertex.ensures.value ∙ ap (λ (d : GridData). vertex_in d c.args.column c.loop-i.i) c.grid-grid.ensures.value in
-    rw vertex (rates_in_column m c.args.stencils.now.units c.args.rates.now c.args.column c.loop-i.i c.args.advisory c.args.sigma c.requires.column here c.requires.rates)
+    rates_in_column m c.args.stencils.now.units c.args.rates.now c.args.column c.loop-i.i c.args.advisory c.args.sigma c.requires.column here c.requires.rates
 
 pub with_point-next-requires-clause-upper : goal.with_point-next-requires-clause-upper
 with_point-next-requires-clause-upper c =
@@ -57,7 +55,6 @@ loop-i-preserved c =
     let short_lower : i < length c.loop-i.lowers = omega (arith, c.loop-i-test.true, c.len-i-end.ensures, so_far.long_lower) in
     let upper = c.with_point-next.ensures.upper ∙ ap (λ (p : Raised). p.upper + c.narrow_weight-weight.result * point.upper) same in
     let lower = c.with_point-next.ensures.lower ∙ ap (λ (p : Raised). p.lower + c.narrow_weight-weight.result * point.lower) same in
-    let vertex : c.vertex_in_column-vertex.result ≡ vertex_in g c.args.column i = c.vertex_in_column-vertex.ensures.value ∙ ap (λ (d : GridData). vertex_in d c.args.column i) c.grid-grid.ensures.value in
     record {
       long_upper = length-set c.loop-i.uppers i next.upper ∙ so_far.long_upper;
       long_lower = length-set c.loop-i.lowers i next.lower ∙ so_far.long_lower;
@@ -67,7 +64,7 @@ loop-i-preserved c =
       sums = λ below all high low blends before.
           both_written (λ (k : ℕ) (p : Raised). AreRaisedSums m below by (vertex_at g (vertex_in g c.args.column k)) c.args.advisory (q + 1) p) c.loop-i.uppers c.loop-i.lowers i next.upper next.lower short_upper short_lower (so_far.sums below all high low blends before)
           (sums_more m below by (vertex_at g (vertex_in g c.args.column i)) c.args.advisory q c.narrow_weight-weight.result old point next c.requires.sigma c.narrow_weight-weight.ensures (before.each i here)
-          (subst (λ (v : ℕ). IsRaisedPoint m below by c.args.advisory (moved m (vertex_at g v) c.args.advisory q) point) vertex (c.in-Some.ensures.point below all high low blends)) upper lower);
+          (c.in-Some.ensures.point below all high low blends) upper lower);
     }
 
 pub returns-clause-within : goal.returns-clause-within

@@ -6,6 +6,7 @@ use Rattle.acas_step_columns.proofs.column_sums.fill_blends.Given as goal
 
 abbrev pub invariant-loop-i : goal.invariant-loop-i
 invariant-loop-i l = record {
+  at : l.at ≡ l.first + vertex_in l.grid (column_of l.grid l.cell) l.i;
   long_upper : length l.uppers ≡ 129;
   long_lower : length l.lowers ≡ 129;
   upper : (i : ℕ) → i < l.i → get_or l.uppers i 0 ≡ along_v0 l.cell (length l.grid.v1) (raised_at l.by Upper l.below) (l.first + vertex_in l.grid (column_of l.grid l.cell) i);

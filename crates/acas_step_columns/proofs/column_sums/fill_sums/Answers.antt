@@ -23,9 +23,8 @@ fill_blends-requires-clause-room c =
 pub add_points-requires-clause-rates : goal.add_points-requires-clause-rates
 add_points-requires-clause-rates c =
     let m = c.args.model.now in
-    let lowest : c.vertex_in_column-lowest.result ≡ c.args.column = c.vertex_in_column-lowest.ensures.value ∙ ap (λ (d : GridData). vertex_in d c.args.column 0) c.grid-grid.ensures.value ∙ vertex_in-lowest m.grid c.args.column in
-    subst (λ (v : ℕ). HoldsRates m.grid c.args.stencils.now.units (moved m (vertex_at m.grid v) c.args.advisory c.loop-sigma.sigma) c.unit_cell-corner.result.cell) lowest
-    (unit_cell-HoldsRates m.grid c.args.stencils.now.units (moved m (vertex_at m.grid c.vertex_in_column-lowest.result) c.args.advisory c.loop-sigma.sigma) c.unit_cell-corner.result c.unit_cell-corner.ensures)
+    subst (λ (v : ℕ). HoldsRates m.grid c.args.stencils.now.units (moved m (vertex_at m.grid v) c.args.advisory c.loop-sigma.sigma) c.unit_cell-corner.result.cell) (vertex_in-lowest m.grid c.args.column)
+    (unit_cell-HoldsRates m.grid c.args.stencils.now.units (moved m (vertex_at m.grid (vertex_in m.grid c.args.column 0)) c.args.advisory c.loop-sigma.sigma) c.unit_cell-corner.result c.unit_cell-corner.ensures)
 
 pub add_points-requires-clause-sums : goal.add_points-requires-clause-sums
 add_points-requires-clause-sums c = record { each = λ i here. (c.loop-sigma.invariant.each i here).within }

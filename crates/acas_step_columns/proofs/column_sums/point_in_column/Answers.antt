@@ -3,6 +3,7 @@ use Rattle.acas_spec.specs.declared.place.Point.{Point}
 use Rattle.acas_frac.specs.Rounding.{down, up}
 use Rattle.acas_grid.specs.States.{vertex_at}
 use Rattle.acas_process.specs.Step.{moved}
+use Rattle.acas_step.specs.Columns.{vertex_in}
 use Rattle.acas_step.specs.Ends.{weight_of_cell}
 use Rattle.acas_step_narrow.specs.Raised.{raised_in}
 use Rattle.acas_step.specs.declared.layer.Side.TheVariants.{Upper, Lower}
@@ -68,7 +69,7 @@ returns-clause-point c = λ below count upper lower are.
     let rates = c.args.rates.now in
     let at = c.cell_at_rates-at in
     let t = at.result.cell in
-    let s : Point = moved m (vertex_at m.grid c.args.vertex) c.args.advisory c.args.sigma in
+    let s : Point = moved m (vertex_at m.grid (vertex_in m.grid c.args.column c.args.i)) c.args.advisory c.args.sigma in
     let low = raised_in c.args.blend_uppers.now c.args.blend_lowers.now t.h.cell in
     let high = raised_in c.args.blend_uppers.now c.args.blend_lowers.now (t.h.cell + 1) in
     let above = at.ensures.cell.known.fits.h.place in

@@ -48,3 +48,9 @@ returns-in-Sums-clause-bounded c = λ most side within.
     let m = c.args.model.now in
     means_bounded m c.args.below.now (vertex_at m.grid (vertex_in m.grid c.args.column c.args.i)) c.args.advisory c.means_of_sums.result most side
     c.grid-grid.ensures.valid c.requires.column.advisory c.requires.column.below (returns-in-Sums-clause-means c) within
+
+pub returns-in-Wide-clause-bounded : goal.returns-in-Wide-clause-bounded
+returns-in-Wide-clause-bounded c = λ most side within.
+    let m = c.args.model.now in
+    means_bounded m c.args.below.now (vertex_at m.grid (vertex_in m.grid c.args.column c.args.i)) c.args.advisory c.wide_means.result most side
+    c.grid-grid.ensures.valid c.requires.column.advisory c.requires.column.below c.wide_means.ensures within

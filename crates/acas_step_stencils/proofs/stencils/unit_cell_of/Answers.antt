@@ -35,12 +35,12 @@ returns c = λ x is.
     let v1 = c.ends_in-3 in
     let t : Cell = record { h = h.result; v0 = v0.result; v1 = v1.result } in
     let round : IsRoundIn g u x t = record {
-      h = ends_in-IsEndsIn g.h u.h y.i c.args.above.h x.h s.h h.result above.h is.h (h.ensures.cell ∙ above.i) h.ensures.lower h.ensures.upper;
-      v0 = ends_in-IsEndsIn g.v0 u.v0 y.j c.args.above.v0 x.v0 s.v0 v0.result above.v0 is.v0 (v0.ensures.cell ∙ above.j) v0.ensures.lower v0.ensures.upper;
-      v1 = ends_in-IsEndsIn g.v1 u.v1 y.k c.args.above.v1 x.v1 s.v1 v1.result above.v1 is.v1 (v1.ensures.cell ∙ above.k) v1.ensures.lower v1.ensures.upper;
+      h = ends_in-IsEndsIn g.h u.h y.i c.args.above.h x.h s.h h.result above.h is.h (h.ensures.cell ∙ c.from.ensures ∙ above.i) h.ensures.lower h.ensures.upper;
+      v0 = ends_in-IsEndsIn g.v0 u.v0 y.j c.args.above.v0 x.v0 s.v0 v0.result above.v0 is.v0 (v0.ensures.cell ∙ c.from-2.ensures ∙ above.j) v0.ensures.lower v0.ensures.upper;
+      v1 = ends_in-IsEndsIn g.v1 u.v1 y.k c.args.above.v1 x.v1 s.v1 v1.result above.v1 is.v1 (v1.ensures.cell ∙ c.from-3.ensures ∙ above.k) v1.ensures.lower v1.ensures.upper;
     } in
     record {
       round = round;
-      known = known_cell g u x s.base c.args.above t c.requires.grid c.requires.units above round h.ensures.cell v0.ensures.cell v1.ensures.cell
+      known = known_cell g u x s.base c.args.above t c.requires.grid c.requires.units above round (h.ensures.cell ∙ c.from.ensures) (v0.ensures.cell ∙ c.from-2.ensures) (v1.ensures.cell ∙ c.from-3.ensures)
           (omega (arith, h.ensures.lower, h.ensures.upper)) (omega (arith, v0.ensures.lower, v0.ensures.upper)) (omega (arith, v1.ensures.lower, v1.ensures.upper));
     }

@@ -10,13 +10,13 @@ use Rattle.acas_sweep.proofs.Over.{elsewhere_next, written_next}
 use Rattle.acas_sweep.proofs.plane.put_vertex.Goals as goal
 
 pub put-requires-clause-in_range : goal.put-requires-clause-in_range
-put-requires-clause-in_range c = rw (c.loop-present.invariant.filled.state_count, ← c.grid-in-loop-present.ensures.value) c.state_number-state.ensures.below
+put-requires-clause-in_range c = rw (c.loop-present.invariant.filled.state_count, ← c.grid-grid.ensures.value) c.state_among-state.ensures.below
 
 pub put-requires-clause-free : goal.put-requires-clause-free
 put-requires-clause-free c =
     let m = c.args.model.now in
-    let state : c.state_number-state.result ≡ state_number m.grid c.loop-present.present c.args.vertex = c.state_number-state.ensures.value ∙ ap (λ (g : GridData). state_number g c.loop-present.present c.args.vertex) c.grid-in-loop-present.ensures.value in
-    let end : c.behind-model.inside.advisories ≡ m.grid.advisories = ap (λ (g : GridData). g.advisories) (c.behind-model.view_is ∙ c.grid.ensures.value) in
+    let state : c.state_among-state.result ≡ state_number m.grid c.loop-present.present c.args.vertex = c.state_among-state.ensures.value ∙ ap (λ (g : GridData). state_number g c.loop-present.present c.args.vertex) c.grid-grid.ensures.value in
+    let end : c.grid.inside.advisories ≡ m.grid.advisories = ap (λ (g : GridData). g.advisories) (c.grid.view_is ∙ c.grid-grid.ensures.value) in
     rw state (next_free m.grid c.args.vertex c.loop-present.present c.loop-present.block c.requires.vertex (omega (arith, end)) c.loop-present.invariant.filled)
 
 pub loop-present-preserved : goal.loop-present-preserved
@@ -26,13 +26,13 @@ loop-present-preserved c =
     let present = c.loop-present.present in
     let so_far = c.loop-present.invariant in
     let e : Entry = entry_at c.args.entries.now present in
-    let state : c.state_number-state.result ≡ state_number m.grid present v = c.state_number-state.ensures.value ∙ ap (λ (g : GridData). state_number g present v) c.grid-in-loop-present.ensures.value in
-    let below : state_number m.grid present v < states m.grid = rw (← state, ← c.grid-in-loop-present.ensures.value) c.state_number-state.ensures.below in
-    let end : c.behind-model.inside.advisories ≡ m.grid.advisories = ap (λ (g : GridData). g.advisories) (c.behind-model.view_is ∙ c.grid.ensures.value) in
+    let state : c.state_among-state.result ≡ state_number m.grid present v = c.state_among-state.ensures.value ∙ ap (λ (g : GridData). state_number g present v) c.grid-grid.ensures.value in
+    let below : state_number m.grid present v < states m.grid = rw (← state, ← c.grid-grid.ensures.value) c.state_among-state.ensures.below in
+    let end : c.grid.inside.advisories ≡ m.grid.advisories = ap (λ (g : GridData). g.advisories) (c.grid.view_is ∙ c.grid-grid.ensures.value) in
     let pairs = pairs_in c.loop-present.block.work in
-    let put : c.put.new.self ≡ with_pair c.loop-present.block c.state_number-state.result e.pair = c.put.ensures ∙ ap (λ (k : ℕ). with_pair c.loop-present.block c.state_number-state.result (entry_at c.args.entries.now k).pair) c.from.ensures in
+    let put : c.put.new.self ≡ with_pair c.loop-present.block c.state_among-state.result e.pair = c.put.ensures ∙ ap (λ (k : ℕ). with_pair c.loop-present.block c.state_among-state.result (entry_at c.args.entries.now k).pair) c.from.ensures in
     let shown : pairs_in c.put.new.self.work ≡ set pairs (state_number m.grid present v) e.pair =
-    ap (λ (b : Plane). pairs_in b.work) put ∙ pairs_in-set c.loop-present.block.work c.state_number-state.result e.pair ∙ ap (λ (i : ℕ). set pairs i e.pair) state in
+    ap (λ (b : Plane). pairs_in b.work) put ∙ pairs_in-set c.loop-present.block.work c.state_among-state.result e.pair ∙ ap (λ (i : ℕ). set pairs i e.pair) state in
     let long : state_number m.grid present v < length pairs = omega (arith, below, length-pairs_in c.loop-present.block.work, so_far.filled.place_count) in
     record {
       written = rw (shown, state, c.from.ensures) (written_next m.grid c.args.entries.now v present pairs c.loop-present.advice c.requires.vertex long (omega arith) so_far.written);

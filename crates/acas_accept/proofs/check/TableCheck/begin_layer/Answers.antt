@@ -1,12 +1,13 @@
-use Rattle.std.proofs.Common.{◌≡◌, ℕ, List, length, drop, refl, subst, sym, ◌∙◌, arith}
+use Rattle.std.proofs.Common.{◌≡◌, ℕ, List, length, drop, refl, ap, subst, sym, ◌∙◌, arith}
 use Rattle.std.proofs.lemmas.List.{take_at}
 use Rattle.std.specs.Prelude.{Vec}
 use Rattle.std.specs.declared.alloc.Global.{Global}
 use Rattle.std.specs.Vec.{with_items}
 use Rattle.acas_units.specs.declared.pair.Pair.{Pair}
 use Rattle.acas_spec.specs.Table.{Table}
-use Rattle.acas_step.specs.Layer.{AreValuesOf}
+use Rattle.acas_step.specs.Layer.{AreValuesOf, AreWithin}
 use Rattle.acas_step.specs.Means.{AreMeansOf}
+use Rattle.acas_step.specs.declared.layer.Side.TheVariants.{Lower}
 use Rattle.acas_accept.specs.declared.check.TableCheck.{TableCheck}
 use Rattle.acas_accept.proofs.Steps.{in_layer_first}
 use Rattle.acas_accept.proofs.check.TableCheck.begin_layer.Goals as goal
@@ -18,10 +19,27 @@ pub returns-then-n-gt0-clause-given : goal.returns-then-n-gt0-clause-given
 returns-then-n-gt0-clause-given g c = λ digest bytes before.
     let m = c.args.model.now in
     let new : TableCheck =
-    record { reader = c.args.self.now.reader; pairs = c.args.self.now.pairs; advice = c.args.self.now.advice; means = with_items c.args.self.now.means c.fill_means_with.new.means } in
-    let items : (with_items c.args.self.now.means c.fill_means_with.new.means).items ≡ c.fill_means_with.new.means =
-    items-with c.args.self.now.means c.fill_means_with.new.means (c.fill_means_with.ensures.count ∙ sym c.requires.check.means) in
-    let means : (t : Table) (k : ℕ) → AreValuesOf c.args.model.now t k c.args.self.now.pairs.items → AreMeansOf c.args.model.now t k c.fill_means_with.new.means =
-    subst (λ (pairs : List Pair). (t : Table) (k : ℕ) → AreValuesOf c.args.model.now t k pairs → AreMeansOf c.args.model.now t k c.fill_means_with.new.means) c.deref.ensures.value c.fill_means_with.ensures.means in
+    record { reader = c.args.self.now.reader; pairs = c.args.self.now.pairs; advice = c.args.self.now.advice; means = with_items c.args.self.now.means c.fill_means_with-size.new.means; leasts = c.forget.new.self } in
+    let items : (with_items c.args.self.now.means c.fill_means_with-size.new.means).items ≡ c.fill_means_with-size.new.means =
+    items-with c.args.self.now.means c.fill_means_with-size.new.means (c.fill_means_with-size.ensures.count ∙ sym c.requires.check.means) in
+    let means : (t : Table) (k : ℕ) → AreValuesOf c.args.model.now t k c.args.self.now.pairs.items → AreMeansOf c.args.model.now t k c.fill_means_with-size.new.means =
+    subst (λ (pairs : List Pair). (t : Table) (k : ℕ) → AreValuesOf c.args.model.now t k pairs → AreMeansOf c.args.model.now t k c.fill_means_with-size.new.means) c.deref.ensures.value c.fill_means_with-size.ensures.means in
     in_layer_first m digest c.args.self.now new c.args.n bytes refl
     (subst (λ (pairs : List Pair). (t : Table) (k : ℕ) → AreValuesOf c.args.model.now t k c.args.self.now.pairs.items → AreMeansOf c.args.model.now t k pairs) (sym items) means) before
+
+pub returns-then-n-gt0-clause-check : goal.returns-then-n-gt0-clause-check
+returns-then-n-gt0-clause-check g c =
+    let check = c.requires.check in
+    let items = items-with c.args.self.now.means c.fill_means_with-size.new.means (c.fill_means_with-size.ensures.count ∙ sym check.means) in
+    record {
+      valid = check.valid;
+      shape = check.shape;
+      given = check.given;
+      no_fault = check.no_fault;
+      not_done = check.not_done;
+      pairs = check.pairs;
+      advice = check.advice;
+      means = ap length items ∙ c.fill_means_with-size.ensures.count;
+      leasts = c.forget.ensures c.args.model.now c.args.self.now.means.items _ check.leasts (subst (AreWithin c.fill_means_with-size.result Lower) (sym items) (c.fill_means_with-size.ensures.size Lower));
+      allowed = check.allowed;
+    }

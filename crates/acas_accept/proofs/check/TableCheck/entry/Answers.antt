@@ -29,7 +29,7 @@ returns-in-Ok-check_at-clause-check g c =
     let m = c.args.model.now in
     let on : IsOn c.args.self.now.reader c.entry.new.self = record { shape = c.in-Ok.ensures.leaves.shape; given = c.in-Ok.ensures.count; no_fault = c.in-Ok.ensures.leaves.fault; not_done = c.in-Ok.ensures.done } in
     let keeps : Keeps c.args.self.now c.entry.new.self c.keep.new.self c.args.state c.in-Ok.entry =
-    record { reader = c.keep.ensures.reader; means = c.keep.ensures.means; pairs = c.keep.ensures.pairs; advice = c.keep.ensures.advice } in
+    record { reader = c.keep.ensures.reader; means = c.keep.ensures.means; leasts = c.keep.ensures.leasts; pairs = c.keep.ensures.pairs; advice = c.keep.ensures.advice } in
     check_next m c.args.self.now c.entry.new.self c.keep.new.self c.args.n c.args.state c.in-Ok.entry c.requires.check c.requires.n c.requires.state on keeps
     (λ some. allowed_at m c.args.plane.now.present c.args.vertex c.args.state c.in-Ok.entry.advice c.requires.vertex c.requires.place (c.in-Ok-check_at.ensures.allowed (omega arith)))
 
@@ -41,7 +41,7 @@ returns-in-Ok-check_at-clause-given g c = λ digest.
     subst (λ (means : List Pair). Says c.args.model.now means c.in-Ok.entry c.args.n c.args.state None) c.deref.ensures.value
     (says_at m c.deref.result.now c.in-Ok.entry c.args.n c.args.plane.now.present c.args.vertex c.args.state None c.requires.vertex c.requires.place c.in-Ok-check_at.ensures.value) in
     let keeps : Keeps c.args.self.now c.entry.new.self c.keep.new.self c.args.state c.in-Ok.entry =
-    record { reader = c.keep.ensures.reader; means = c.keep.ensures.means; pairs = c.keep.ensures.pairs; advice = c.keep.ensures.advice } in
+    record { reader = c.keep.ensures.reader; means = c.keep.ensures.means; leasts = c.keep.ensures.leasts; pairs = c.keep.ensures.pairs; advice = c.keep.ensures.advice } in
     told_map _ c.args.name.now
     (λ bytes. (HasRead digest c.args.self.now.reader bytes → GivesEntry digest (reader_state c.args.self.now.reader) bytes (Ok c.in-Ok.entry)) × (HasRead digest c.args.self.now.reader bytes → HasRead digest c.entry.new.self bytes)) _
     (λ bytes both within.

@@ -1,11 +1,12 @@
-use Rattle.std.proofs.Common.{◌≡◌, ℕ, ◌+◌, ◌*◌, ◌∙◌, ap, sym, subst, arith}
+use Rattle.std.proofs.Common.{◌≡◌, ℕ, ◌+◌, ◌*◌, ◌∙◌, refl, ap, sym, subst, arith}
 use Rattle.std.proofs.lemmas.Result.{err_from_is_err_and}
 use Rattle.acas_spec.specs.Model.{vertices}
 use Rattle.acas_grid.specs.Grid.{state_number}
 use Rattle.acas_table.specs.Reader.{Told}
 use Rattle.acas_accept.specs.Checking.{IsCheckOf, IsInLayer}
+use Rattle.acas_accept.specs.declared.check.TableCheck.{TableCheck}
 use Rattle.acas_accept.proofs.Planes.{next_plane, next_vertex, numbered, state_below}
-use Rattle.acas_table.proofs.Told.{told_at, told_then}
+use Rattle.acas_table.proofs.Told.{told_all, told_at, told_then}
 use Rattle.acas_accept.proofs.check.TableCheck.plane.Goals as goal
 
 pub entry-requires-clause-state : goal.entry-requires-clause-state
@@ -13,6 +14,33 @@ entry-requires-clause-state g c =
     let m = c.args.model.now in
     state_below m.grid c.args.present c.loop-vertex.vertex (c.from.result * c.vertices-vertices.result + c.loop-vertex.vertex) c.requires.present (omega (arith, c.vertices-vertices.ensures.value, ap vertices c.grid.ensures.value))
     (numbered m.grid c.args.present c.loop-vertex.vertex c.from.result c.vertices-vertices.result c.from.ensures (c.vertices-vertices.ensures.value ∙ ap vertices c.grid.ensures.value))
+
+pub quick_entry-requires-clause-state : goal.quick_entry-requires-clause-state
+quick_entry-requires-clause-state g c =
+    let m = c.args.model.now in
+    state_below m.grid c.args.present c.loop-vertex.vertex (c.from.result * c.vertices-vertices.result + c.loop-vertex.vertex) c.requires.present (omega (arith, c.vertices-vertices.ensures.value, ap vertices c.grid.ensures.value))
+    (numbered m.grid c.args.present c.loop-vertex.vertex c.from.result c.vertices-vertices.result c.from.ensures (c.vertices-vertices.ensures.value ∙ ap vertices c.grid.ensures.value))
+
+pub loop-vertex-preserved-then-quick_entry : goal.loop-vertex-preserved-then-quick_entry
+loop-vertex-preserved-then-quick_entry g c =
+    let m = c.args.model.now in
+    let state : ℕ = c.from.result * c.vertices-vertices.result + c.loop-vertex.vertex in
+    let first : ℕ = state_number c.args.model.now.grid c.args.present 0 in
+    let number = numbered m.grid c.args.present c.loop-vertex.vertex c.from.result c.vertices-vertices.result c.from.ensures (c.vertices-vertices.ensures.value ∙ ap vertices c.grid.ensures.value) in
+    let next : state + 1 ≡ state_number c.args.model.now.grid c.args.present (c.loop-vertex.vertex + 1) = ap (λ (s : ℕ). s + 1) number ∙ next_vertex m.grid c.args.present c.loop-vertex.vertex in
+    record {
+      check = subst (λ (s : ℕ). IsCheckOf c.args.model.now c.quick_entry.new.self c.args.n s) next (c.if-quick_entry.ensures.check refl);
+      given = λ digest.
+          subst (λ (s : ℕ). Told (g.F.Folder.holds c.args.folder.now) c.args.name.now (λ bytes. IsInLayer c.args.model.now digest c.args.self.now c.args.n first bytes → IsInLayer c.args.model.now digest c.quick_entry.new.self c.args.n s bytes)) next
+          (told_then _ c.args.name.now (λ bytes. IsInLayer c.args.model.now digest c.args.self.now c.args.n first bytes) (λ bytes. IsInLayer c.args.model.now digest c.loop-vertex.self c.args.n state bytes) _
+          (subst (λ (s : ℕ). Told (g.F.Folder.holds c.args.folder.now) c.args.name.now (λ bytes. IsInLayer c.args.model.now digest c.args.self.now c.args.n first bytes → IsInLayer c.args.model.now digest c.loop-vertex.self c.args.n s bytes)) (sym number) (c.loop-vertex.invariant.given digest))
+          (told_all _ c.args.name.now _ (λ bytes within. c.if-quick_entry.ensures.given refl digest bytes within)));
+      found = λ yes. rw (c.quick_entry.ensures.means, c.quick_entry.ensures.leasts) (c.loop-vertex.invariant.found yes);
+      shape = c.quick_entry.ensures.shape ∙ c.loop-vertex.invariant.shape;
+      format = c.quick_entry.ensures.format ∙ c.loop-vertex.invariant.format;
+      taken = rw c.quick_entry.ensures.taken c.loop-vertex.invariant.taken;
+      frame = c.loop-vertex.invariant.frame;
+    }
 
 pub returns-in_err-entry-clause-given : goal.returns-in_err-entry-clause-given
 returns-in_err-entry-clause-given g c =
@@ -22,8 +50,9 @@ returns-in_err-entry-clause-given g c =
     let first : ℕ = state_number c.args.model.now.grid c.args.present 0 in
     let number = numbered m.grid c.args.present c.loop-vertex.vertex c.from.result c.vertices-vertices.result c.from.ensures (c.vertices-vertices.ensures.value ∙ ap vertices c.grid.ensures.value) in
     rw (p.1, p.2) (λ digest.
-    told_then _ c.args.name.now (λ bytes. IsInLayer c.args.model.now digest c.args.self.now c.args.n first bytes) (λ bytes. IsInLayer c.args.model.now digest c.loop-vertex.self c.args.n state bytes) _
-    (subst (λ (s : ℕ). Told (g.F.Folder.holds c.args.folder.now) c.args.name.now (λ bytes. IsInLayer c.args.model.now digest c.args.self.now c.args.n first bytes → IsInLayer c.args.model.now digest c.loop-vertex.self c.args.n s bytes)) (sym number) (c.loop-vertex.invariant.given digest))
+    told_then _ c.args.name.now (λ bytes. IsInLayer c.args.model.now digest c.args.self.now c.args.n first bytes) (λ bytes. IsInLayer c.args.model.now digest c.quick_entry.new.self c.args.n state bytes) _
+    (subst (λ (t : TableCheck). Told (g.F.Folder.holds c.args.folder.now) c.args.name.now (λ bytes. IsInLayer c.args.model.now digest c.args.self.now c.args.n first bytes → IsInLayer c.args.model.now digest t c.args.n state bytes)) (sym (c.if-quick_entry.ensures.none refl))
+    (subst (λ (s : ℕ). Told (g.F.Folder.holds c.args.folder.now) c.args.name.now (λ bytes. IsInLayer c.args.model.now digest c.args.self.now c.args.n first bytes → IsInLayer c.args.model.now digest c.loop-vertex.self c.args.n s bytes)) (sym number) (c.loop-vertex.invariant.given digest)))
     (told_at _ _ c.args.name.now _ c.loop-vertex.invariant.frame.holds (c.in_err-entry.ensures.given digest)))
 
 pub loop-vertex-preserved : goal.loop-vertex-preserved
@@ -37,11 +66,13 @@ loop-vertex-preserved g c =
       check = subst (λ (s : ℕ). IsCheckOf c.args.model.now c.entry.new.self c.args.n s) next c.in_ok-entry.ensures.check;
       given = λ digest.
           subst (λ (s : ℕ). Told (g.F.Folder.holds c.args.folder.now) c.args.name.now (λ bytes. IsInLayer c.args.model.now digest c.args.self.now c.args.n first bytes → IsInLayer c.args.model.now digest c.entry.new.self c.args.n s bytes)) next
-          (told_then _ c.args.name.now (λ bytes. IsInLayer c.args.model.now digest c.args.self.now c.args.n first bytes) (λ bytes. IsInLayer c.args.model.now digest c.loop-vertex.self c.args.n state bytes) _
-          (subst (λ (s : ℕ). Told (g.F.Folder.holds c.args.folder.now) c.args.name.now (λ bytes. IsInLayer c.args.model.now digest c.args.self.now c.args.n first bytes → IsInLayer c.args.model.now digest c.loop-vertex.self c.args.n s bytes)) (sym number) (c.loop-vertex.invariant.given digest))
+          (told_then _ c.args.name.now (λ bytes. IsInLayer c.args.model.now digest c.args.self.now c.args.n first bytes) (λ bytes. IsInLayer c.args.model.now digest c.quick_entry.new.self c.args.n state bytes) _
+          (subst (λ (t : TableCheck). Told (g.F.Folder.holds c.args.folder.now) c.args.name.now (λ bytes. IsInLayer c.args.model.now digest c.args.self.now c.args.n first bytes → IsInLayer c.args.model.now digest t c.args.n state bytes)) (sym (c.if-quick_entry.ensures.none refl))
+          (subst (λ (s : ℕ). Told (g.F.Folder.holds c.args.folder.now) c.args.name.now (λ bytes. IsInLayer c.args.model.now digest c.args.self.now c.args.n first bytes → IsInLayer c.args.model.now digest c.loop-vertex.self c.args.n s bytes)) (sym number) (c.loop-vertex.invariant.given digest)))
           (told_at _ _ c.args.name.now _ c.loop-vertex.invariant.frame.holds (c.in_ok-entry.ensures.given digest)));
-      shape = c.entry.ensures.shape ∙ c.loop-vertex.invariant.shape;
-      format = c.entry.ensures.format ∙ c.loop-vertex.invariant.format;
+      found = λ yes. rw (c.entry.ensures.means, c.entry.ensures.leasts, c.quick_entry.ensures.means, c.quick_entry.ensures.leasts) (c.loop-vertex.invariant.found yes);
+      shape = c.entry.ensures.shape ∙ c.quick_entry.ensures.shape ∙ c.loop-vertex.invariant.shape;
+      format = c.entry.ensures.format ∙ c.quick_entry.ensures.format ∙ c.loop-vertex.invariant.format;
       taken = grind arith;
       frame = grind arith;
     }

@@ -6,4 +6,5 @@ returns-clause-ready c = record {
   lists = c.decide.ensures.lists.lists;
   safe = λ i j k advice cell known there. ((c.decide.ensures.lists.exact i j k advice cell known).certified.0 there).1;
   endangered = λ i j k advice cell known there. ((c.decide.ensures.lists.exact i j k advice cell known).reported.0 there).1;
+  tabled = c.decide.ensures.lists.tabled;
 }

@@ -1,31 +1,40 @@
-use Rattle.std.proofs.Common.{◌≡◌, ℕ, ◌+◌, ◌*◌, ◌<◌, List, length, get_or, ap, sym, subst, ◌∙◌, arith}
+use Rattle.std.proofs.Common.{◌≡◌, ℕ, ◌<◌, to_z, of_z, w32, List, length, get_or, ap, subst, ◌∙◌, arith}
+use Rattle.std.proofs.lemmas.Int.{ints}
 use Rattle.acas_spec.specs.Model.{GridData, vertices}
-use Rattle.acas_spec.specs.declared.parts.SigmaPoint.{SigmaPoint}
-use Rattle.acas_spec.specs.declared.place.Point.{Point}
-use Rattle.acas_grid.specs.Grid.{state_number}
-use Rattle.acas_grid.specs.States.{vertex_at}
-use Rattle.acas_process.specs.Step.{moved}
-use Rattle.acas_step_stencils.specs.Stencils.{IsStencil, stencil_count}
-use Rattle.acas_step_stencils.specs.declared.stencils.Stencil.{Stencil}
-use Rattle.acas_step_stencils.proofs.StencilLaws.{number-below, point_of-number, stencil_count-some}
+use Rattle.acas_step.specs.Columns.{vertex_in}
+use Rattle.acas_step_stencils.specs.Units.{IsLedTo}
+use Rattle.acas_step_stencils.proofs.ColumnHeights.{column-IsStencil, first_height}
 use Rattle.acas_step_stencils.proofs.stencils.Stencils.stencil.Goals as goal
 
-pub index-requires : goal.index-requires
-index-requires c =
+pub place_by_search-at-requires-clause-some : goal.place_by_search-at-requires-clause-some
+place_by_search-at-requires-clause-some c =
+    omega (arith, ap (λ (hs : List ℕ). length hs) c.deref.ensures.value, c.requires.stencil.stencils.heights.count, c.grid-grid.ensures.valid.grid.altitudes.at_least)
+
+pub place_by_search-at-requires-clause-short : goal.place_by_search-at-requires-clause-short
+place_by_search-at-requires-clause-short c =
+    omega (arith, ap (λ (hs : List ℕ). length hs) c.deref.ensures.value, c.requires.stencil.stencils.heights.count, c.grid-grid.ensures.valid.grid.altitudes.at_most)
+
+pub place_by_search-at-requires-clause-first : goal.place_by_search-at-requires-clause-first
+place_by_search-at-requires-clause-first c =
     let m = c.args.model.now in
-    let state : c.state_number-state.result ≡ c.args.advisory * vertices m.grid + c.args.vertex = c.state_number-state.ensures.value ∙ ap (λ (g : GridData). state_number g c.args.advisory c.args.vertex) c.grid.ensures.value in
-    let below = number-below m c.args.advisory c.args.vertex c.args.sigma c.requires.advisory c.requires.vertex c.requires.sigma in
-    omega (arith, below, c.requires.stencils.count, stencil_count-some m c.requires.horizon, ap (λ (s : ℕ). s * length m.sigmas) state, ap (λ (points : List SigmaPoint). c.state_number-state.result * length points) c.points.ensures)
+    let all = c.args.self.now in
+    let are = c.requires.stencil.stencils in
+    ap (λ (hs : List ℕ). get_or hs 0 0) c.deref.ensures.value ∙ first_height m.grid.h all.units.h all.heights.items are.units.h (omega (arith, c.requires.place)) are.heights
 
 pub returns : goal.returns
 returns c =
     let m = c.args.model.now in
-    let n : ℕ = (c.args.advisory * vertices m.grid + c.args.vertex) * length m.sigmas + c.args.sigma in
-    let state : c.state_number-state.result ≡ c.args.advisory * vertices m.grid + c.args.vertex = c.state_number-state.ensures.value ∙ ap (λ (g : GridData). state_number g c.args.advisory c.args.vertex) c.grid.ensures.value in
-    let number : c.state_number-state.result * length c.points.result.now + c.args.sigma ≡ n =
-    ap (λ (points : List SigmaPoint). c.state_number-state.result * length points + c.args.sigma) c.points.ensures ∙ ap (λ (s : ℕ). s * length m.sigmas + c.args.sigma) state in
-    let below : n < stencil_count m = omega (arith, number-below m c.args.advisory c.args.vertex c.args.sigma c.requires.advisory c.requires.vertex c.requires.sigma, stencil_count-some m c.requires.horizon) in
-    subst (λ (s : Stencil). IsStencil m.grid c.args.self.now.units (moved m (vertex_at m.grid c.args.vertex) c.args.advisory c.args.sigma) s) (sym c.index.ensures)
-    (subst (λ (k : ℕ). IsStencil m.grid c.args.self.now.units (moved m (vertex_at m.grid c.args.vertex) c.args.advisory c.args.sigma) (get_or c.args.self.now.stencils.items k c.index.result.now)) (sym number)
-    (subst (λ (x : Point). IsStencil m.grid c.args.self.now.units x (get_or c.args.self.now.stencils.items n c.index.result.now)) (point_of-number m c.args.advisory c.args.vertex c.args.sigma c.requires.vertex c.requires.sigma)
-    (c.requires.stencils.stencils.each n c.index.result.now below)))
+    let all = c.args.self.now in
+    let hs : List ℕ = all.heights.items in
+    let are = c.requires.stencil.stencils in
+    let s = c.in_column-led.result in
+    let x : ℕ = c.place_by_search-at.ensures.0 in
+    let at = c.place_by_search-at.result in
+    let fits : to_z w32 (of_z w32 s.climb) ≡ s.climb = omega (arith, ints, c.in_column-led.ensures.small) in
+    let led : IsLedTo hs c.args.i s.climb x at =
+    subst (λ (list : List ℕ). IsLedTo list c.args.i s.climb x at) c.deref.ensures.value (rw (fits) at c.place_by_search-at.ensures.1) in
+    let stencil = c.stencil_of in
+    let base = stencil.ensures.base ∙ ap (λ (g : GridData). vertex_in g s.column at.place) c.grid-grid.ensures.value in
+    let below : stencil.result.base < vertices m.grid = omega (arith, stencil.ensures.below, ap vertices c.grid-grid.ensures.value) in
+    column-IsStencil m all.units hs c.args.column c.args.i c.args.advisory c.args.sigma s x at stencil.result c.grid-grid.ensures.valid.grid are.units are.heights c.requires.stencil.column c.requires.place
+    c.in_column-led.ensures led below base stencil.ensures.h stencil.ensures.v0 stencil.ensures.v1

@@ -1,0 +1,45 @@
+use Rattle.std.proofs.Common.{◌<◌, ◌∙◌, ℕ, List, None, refl, sym, ap, subst}
+use Rattle.acas_spec.specs.Model.{entries}
+use Rattle.acas_units.specs.declared.pair.Pair.{Pair}
+use Rattle.acas_table.specs.Reader.{ReaderState}
+use Rattle.acas_table_text.specs.Shape.{entry_count}
+use Rattle.acas_table_text.specs.declared.shape.TableShape.{TableShape}
+use Rattle.acas_accept.specs.GivenTable.{entry_place}
+use Rattle.acas_accept.proofs.Places.{entry_place-below}
+use Rattle.acas_accept.proofs.Planes.{allowed_at, says_at}
+use Rattle.acas_accept.proofs.Steps.{IsOn, Keeps, Says, check_next, in_layer_next}
+use Rattle.acas_accept.proofs.check.TableCheck.quick_entry.Goals as goal
+
+pub pass-requires-clause-more : goal.pass-requires-clause-more
+pass-requires-clause-more c =
+    let m = c.args.model.now in
+    let within : entry_place c.args.model.now.grid c.args.n c.args.state < entries c.args.model.now.grid = entry_place-below m.grid c.args.n c.args.state c.requires.n c.requires.state in
+    subst (λ (s : TableShape). c.args.self.now.reader.given < entry_count s) (sym c.requires.check.shape) (subst (λ (k : ℕ). k < entries c.args.model.now.grid) (sym c.requires.check.given) within)
+
+pub returns-clause-check : goal.returns-clause-check
+returns-clause-check c = λ yes.
+    let m = c.args.model.now in
+    let state = c.pass.ensures.state in
+    let on : IsOn c.args.self.now.reader c.pass.new.self =
+    record {
+      shape = ap (λ (s : ReaderState). s.shape) state;
+      given = ap (λ (s : ReaderState). s.given) state;
+      no_fault = ap (λ (s : ReaderState). s.fault) state ∙ c.requires.check.no_fault;
+      not_done = ap (λ (s : ReaderState). s.done) state ∙ c.requires.check.not_done;
+    } in
+    let keeps : Keeps c.args.self.now c.pass.new.self c.keep.new.self c.args.state c.in-Some.entry =
+    record { reader = c.keep.ensures.reader; means = c.keep.ensures.means; leasts = c.keep.ensures.leasts; pairs = c.keep.ensures.pairs; advice = c.keep.ensures.advice } in
+    check_next m c.args.self.now c.pass.new.self c.keep.new.self c.args.n c.args.state c.in-Some.entry c.requires.check c.requires.n c.requires.state on keeps
+    (λ some. allowed_at m c.args.plane.now.present c.args.vertex c.args.state c.in-Some.entry.advice c.requires.vertex c.requires.place (c.if-not-is_seen_sound.ensures.allowed refl))
+
+pub returns-clause-given : goal.returns-clause-given
+returns-clause-given c = λ yes digest bytes within.
+    let m = c.args.model.now in
+    let old = c.args.self.now in
+    let says : Says c.args.model.now c.args.self.now.means.items c.in-Some.entry c.args.n c.args.state None =
+    subst (λ (means : List Pair). Says c.args.model.now means c.in-Some.entry c.args.n c.args.state None) c.deref.ensures.value
+    (says_at m c.deref.result.now c.in-Some.entry c.args.n c.args.plane.now.present c.args.vertex c.args.state None c.requires.vertex c.requires.place (c.if-not-is_seen_sound.ensures.value refl)) in
+    let keeps : Keeps c.args.self.now c.pass.new.self c.keep.new.self c.args.state c.in-Some.entry =
+    record { reader = c.keep.ensures.reader; means = c.keep.ensures.means; leasts = c.keep.ensures.leasts; pairs = c.keep.ensures.pairs; advice = c.keep.ensures.advice } in
+    in_layer_next m digest old c.pass.new.self c.keep.new.self c.args.n c.args.state bytes c.in-Some.entry c.requires.check c.requires.n c.requires.state within
+    (c.pass.ensures.given c.in-Some.entry c.in-Some.ensures digest bytes within.accepted.stands) (c.pass.ensures.stands digest bytes within.accepted.stands) says keeps

@@ -1,0 +1,26 @@
+use Rattle.std.proofs.Common.{◌||◌, ◌∙◌, ap, arith}
+use Rattle.acas_audit_blocks.specs.Audits.{certified_at}
+use Rattle.acas_cells.specs.Sets.{holds}
+use Rattle.acas_cells.specs.declared.set.AdviceSet.{AdviceSet}
+use Rattle.acas_report.proofs.sources.ByBlocksRulings.advised.Goals as goal
+
+pub certified-requires-clause-place : goal.certified-requires-clause-place
+certified-requires-clause-place c = record {
+  altitude = omega (arith, c.requires.ready.cells.altitudes, c.requires.cell.i);
+  own = omega (arith, c.requires.ready.cells.own_rates, c.requires.cell.j);
+  intruder = omega (arith, c.requires.ready.cells.intruder_rates, c.requires.cell.k);
+}
+
+pub reported-requires-clause-place : goal.reported-requires-clause-place
+reported-requires-clause-place c = record {
+  altitude = omega (arith, c.requires.ready.cells.altitudes, c.requires.cell.i);
+  own = omega (arith, c.requires.ready.cells.own_rates, c.requires.cell.j);
+  intruder = omega (arith, c.requires.ready.cells.intruder_rates, c.requires.cell.k);
+}
+
+pub returns : goal.returns
+returns c = λ a.
+    c.union.ensures.more a
+    ∙ ap (λ (s : AdviceSet). holds s a || holds c.reported.result a) c.certified.ensures
+    ∙ ap (λ (s : AdviceSet). holds (certified_at c.args.self.now.0 c.args.i c.args.j c.args.k) a || holds s a) c.reported.ensures
+    ∙ c.requires.ready.tabled c.args.i c.args.j c.args.k a c.requires.cell

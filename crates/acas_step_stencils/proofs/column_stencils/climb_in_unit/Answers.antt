@@ -1,0 +1,7 @@
+use Rattle.std.proofs.Common.{ℕ, subst, arith}
+use Rattle.std.specs.Int.{◌∣◌}
+use Rattle.std.proofs.lemmas.Int.{ints}
+use Rattle.acas_step_stencils.proofs.column_stencils.climb_in_unit.Goals as goal
+
+pub in_unit-steps-requires-clause-divides : goal.in_unit-steps-requires-clause-divides
+in_unit-steps-requires-clause-divides c = subst (λ (n : ℕ). c.args.unit ∣ n) (omega (arith, ints, c.unsigned_abs.ensures.value)) c.requires.divides
