@@ -3,7 +3,8 @@ use Rattle.std.specs.Prelude.{◌≡◌, ℕ, ◌<◌, ◌^◌, List, length, If
 use Rattle.acas_spec.specs.Model.{ModelData, vertices}
 use Rattle.acas_units.specs.declared.pair.Pair.{Pair}
 use Rattle.acas_step.specs.Layer.{AreWithin}
-use Rattle.acas_step.specs.declared.layer.Side.TheVariants.{Lower}
+use Rattle.acas_step.specs.declared.layer.Side.{Side}
+use Rattle.acas_step.specs.declared.layer.Side.TheVariants.{Upper}
 use Rattle.acas_bounds.specs.Leasts.{AreLeasts}
 use Rattle.acas_accept.specs.declared.leasts.Leasts.{Leasts}
 
@@ -17,4 +18,10 @@ pub record AreLeastsOf (m : ModelData) (means : List Pair) (l : Leasts) (p : ℕ
 pub record HaveLeasts (m : ModelData) (means : List Pair) (l : Leasts) : Type 0 where
   pub count : length l.values.items ≡ vertices m.grid
   pub found : IfSome l.of (AreLeastsOf m means l)
-  pub narrow : IsTrue l.are_narrow → AreWithin (2 ^ 62) Lower means
+  pub near : IsTrue l.are_near → (side : Side) → AreWithin (2 ^ 62) side means
+
+-- with n seconds to go there is a layer below, its upper means are near to 0, and the values are those where p is present
+pub record AreFound (m : ModelData) (n p : ℕ) (means : List Pair) (l : Leasts) : Type 0 where
+  pub some : 0 < n
+  pub near : AreWithin (2 ^ 62) Upper means
+  pub values : AreLeasts m means p l.values.items

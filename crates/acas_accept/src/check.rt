@@ -10,17 +10,16 @@ ghost use Rattle.acas_table_text.specs.Shape.{entry_count, shape_of};
 ghost use Rattle.acas_table.specs.Source.{Takes};
 ghost use Rattle.acas_table_text.specs.Format.{expected_length, length_of};
 ghost use Rattle.acas_table_text.specs.declared.format.Format.TheVariants.{Layered};
-ghost use Rattle.acas_bounds.specs.Leasts.{AreLeasts};
 ghost use Rattle.acas_bounds.specs.Planes.{IsPlane};
 ghost use Rattle.acas_accept.specs.Checking.{Begins, HasAccepted, HasNoRefusal, IsAnswer, IsBeforeLayer, IsCheckOf, IsInLayer};
 ghost use Rattle.acas_accept.specs.Faults.{IsAnswerable, answered};
-ghost use Rattle.acas_accept.specs.Leasts.{HaveLeasts};
+ghost use Rattle.acas_accept.specs.Leasts.{AreFound, HaveLeasts};
 
 use crate::keeping::KeepsLayers;
 use crate::leasts::Leasts;
 use crate::refusal::AcceptFault;
 use acas_base::Model;
-use acas_bounds::{Plane, check_at, is_seen_sound};
+use acas_bounds::{Plane, check_at, is_sound_at};
 use acas_outside::Folder;
 use acas_step::{LayerMeans, fill_means_with};
 use acas_table::{TableFault, TableReader, TableRefusal};
@@ -133,14 +132,14 @@ impl TableCheck {
         self.advice[state as usize] = entry.advice;
     }
 
-    // Finds the least lower values of a plane with n seconds to go, where that is quickly done or serves a plane beside it too. It gives
+    // Finds the least lower values of a plane with n seconds to go, where there is a layer below whose means are near to 0. It gives
     // whether they are found.
     fn find_leasts(&mut self, model: &Model, n: u32, plane: &Plane) -> bool
         requires plane { IsPlane model.now plane.now }
         requires means { length self.old.means.items ≡ states model.now.grid }
         requires leasts { HaveLeasts model.now self.old.means.items self.old.leasts }
         ensures found { IsTrue result
-            → AreLeasts model.now self.new.means.items plane.now.present self.new.leasts.values.items }
+            → AreFound model.now n plane.now.present self.new.means.items self.new.leasts }
         ensures check { (state : ℕ) → IsCheckOf model.now self.old n state
             → IsCheckOf model.now self.new n state }
         ensures given { (digest : List ℕ) (state : ℕ) (bytes : List ℕ) →
@@ -151,15 +150,14 @@ impl TableCheck {
         self.leasts.find(model, n, plane, &self.means)
     }
 
-    // Reads and checks the entry with n seconds to go of the state at a vertex under a plane's present advisory, by the plane's least
-    // lower values where they are found. It is called for the entries that the quick look leaves.
+    // Reads and checks the entry with n seconds to go of the state at a vertex where an advisory is present. It is called for the entries
+    // that are not quickly taken.
     #[inline(never)]
     fn entry<F: Folder>(
         &mut self,
         model: &Model,
         n: u32,
-        plane: &Plane,
-        found: bool,
+        present: u8,
         vertex: u32,
         state: u32,
         folder: &mut F,
@@ -167,12 +165,10 @@ impl TableCheck {
     ) -> Result<(), AcceptFault>
         requires served { IsTrue (F.serves folder.old name.now) }
         requires n { n ≤ model.now.grid.horizon }
-        requires plane { IsPlane model.now plane.now }
-        requires found { IsTrue found
-            → AreLeasts model.now self.old.means.items plane.now.present self.old.leasts.values.items }
+        requires present { present < model.now.grid.advisories }
         requires vertex { vertex < vertices model.now.grid }
         requires state { state < states model.now.grid }
-        requires place { state ≡ state_number model.now.grid plane.now.present vertex }
+        requires place { state ≡ state_number model.now.grid present vertex }
         requires check { IsCheckOf model.now self.old n state }
         ensures given { (digest : List ℕ) → Told (F.holds folder.old) name.now (λ bytes.
             IsInLayer model.now digest self.old n state bytes → MatchResult result
@@ -193,8 +189,7 @@ impl TableCheck {
             Ok(entry) => entry,
             Err(fault) => return Err(refused(fault)),
         };
-        let leasts = self.leasts.where_found(found);
-        match check_at(model, n, plane, vertex, &entry, &self.means, leasts) {
+        match check_at(model, n, present, vertex, &entry, &self.means) {
             Ok(()) => {
                 self.keep(state, &entry);
                 Ok(())
@@ -207,8 +202,8 @@ impl TableCheck {
         }
     }
 
-    // Takes and keeps the entry with n seconds to go of the state at a vertex under a plane's present advisory, where it is at hand and
-    // is seen at a quick look to be sound. Otherwise it changes nothing.
+    // Takes and keeps the entry with n seconds to go of the state at a vertex under a plane's present advisory, where the plane's least
+    // lower values are found, and the entry is at hand and sound. Otherwise it changes nothing.
     fn quick_entry(
         &mut self,
         model: &Model,
@@ -221,7 +216,7 @@ impl TableCheck {
         requires n { n ≤ model.now.grid.horizon }
         requires plane { IsPlane model.now plane.now }
         requires found { IsTrue found
-            → AreLeasts model.now self.old.means.items plane.now.present self.old.leasts.values.items }
+            → AreFound model.now n plane.now.present self.old.means.items self.old.leasts }
         requires vertex { vertex < vertices model.now.grid }
         requires state { state < states model.now.grid }
         requires place { state ≡ state_number model.now.grid plane.now.present vertex }
@@ -237,11 +232,14 @@ impl TableCheck {
         ensures taken { (reader_state self.new.reader).taken ≡ (reader_state self.old.reader).taken }
         ensures none { result ≡ false → self.new ≡ self.old }
     {
+        if !found {
+            return false;
+        }
         let Some(entry) = self.reader.peek() else {
             return false;
         };
-        let leasts = self.leasts.where_found(found);
-        if !is_seen_sound(model, n, plane, vertex, &entry, &self.means, leasts) {
+        let leasts = self.leasts.values();
+        if !is_sound_at(model, plane, vertex, &entry, &self.means, leasts) {
             return false;
         }
         self.reader.pass();
@@ -285,7 +283,7 @@ impl TableCheck {
             if self.quick_entry(model, n, &plane, found, vertex, state) {
                 continue;
             }
-            self.entry(model, n, &plane, found, vertex, state, folder, name)?;
+            self.entry(model, n, present, vertex, state, folder, name)?;
         }
         Ok(())
     }

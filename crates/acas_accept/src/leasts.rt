@@ -1,34 +1,25 @@
 //! The least lower values of the choices in a layer, found once for planes with the same choices.
-ghost use Rattle.std.specs.Prelude.{◌≡◌, ◌<◌, List, length, IfOk, IfSome, IsTrue};
+ghost use Rattle.std.specs.Prelude.{◌≡◌, ◌<◌, List, length, IfOk, IsTrue};
 ghost use Rattle.acas_spec.specs.Model.{ModelData, states};
 ghost use Rattle.acas_units.specs.declared.pair.Pair.{Pair as PairData};
 ghost use Rattle.acas_step.specs.Layer.{AreWithin};
-ghost use Rattle.acas_step.specs.declared.layer.Side.TheVariants.{Lower};
+ghost use Rattle.acas_step.specs.declared.layer.Side.{Side};
 ghost use Rattle.acas_bounds.specs.Leasts.{AreLeasts};
 ghost use Rattle.acas_bounds.specs.Planes.{IsPlane};
-ghost use Rattle.acas_accept.specs.Leasts.{HaveLeasts};
+ghost use Rattle.acas_accept.specs.Leasts.{AreFound, HaveLeasts};
 
 use acas_base::Model;
-use acas_bounds::{Plane, fill_leasts, fill_narrow_leasts, have_same_choices};
+use acas_bounds::{Plane, fill_leasts, have_same_choices};
 use acas_units::Pair;
 use std::alloc::{AllocError, Global};
 
 /// The least lower value of the choices at each vertex, and the present advisory whose choices they are; and whether the means of the
-/// layer below are so near to 0 that the values are quickly found.
+/// layer below are so near to 0 that they are found at all.
 #[derive(Drop)]
 pub(crate) struct Leasts {
     values: Vec<i64>,
     of: Option<u8>,
-    are_narrow: bool,
-}
-
-// Whether a plane beside that of a present advisory has the same choices. What is answered of an entry does not depend on it.
-fn is_shared(model: &Model, present: u8) -> bool
-    requires { present < model.now.grid.advisories }
-{
-    let advisories = model.grid().advisories;
-    (present > 0 && have_same_choices(model, present - 1, present))
-        || (u32::from(present) + 1 < advisories && have_same_choices(model, present, present + 1))
+    are_near: bool,
 }
 
 impl Leasts {
@@ -40,17 +31,17 @@ impl Leasts {
         Ok(Leasts {
             values: vec![in alloc; 0i64; vertices]?,
             of: None,
-            are_narrow: false,
+            are_near: false,
         })
     }
 
     /// Has none found, and from now on means of which none exceeds a size, up or down.
     pub(crate) fn forget(&mut self, size: u64)
-        ensures { (m : ModelData) (means other : List PairData) →
-            HaveLeasts m means self.old → AreWithin size Lower other → HaveLeasts m other self.new }
+        ensures { (m : ModelData) (means other : List PairData) → HaveLeasts m means self.old
+            → ((side : Side) → AreWithin size side other) → HaveLeasts m other self.new }
     {
         self.of = None;
-        self.are_narrow = size <= 1 << 62;
+        self.are_near = size <= 1 << 62;
     }
 
     // Whether they are those of the choices of a present advisory.
@@ -65,48 +56,29 @@ impl Leasts {
         }
     }
 
-    // Finds those of a plane by the means of the layer below.
-    fn fill(&mut self, model: &Model, plane: &Plane, means: &[Pair])
-        requires plane { IsPlane model.now plane.now }
-        requires means { length means.now ≡ states model.now.grid }
-        requires have { HaveLeasts model.now means.now self.old }
-        ensures have { HaveLeasts model.now means.now self.new }
-        ensures found { AreLeasts model.now means.now plane.now.present self.new.values.items }
-    {
-        if self.are_narrow {
-            fill_narrow_leasts(model, plane, means, &mut self.values);
-        } else {
-            fill_leasts(model, plane, means, &mut self.values);
-        }
-        self.of = Some(plane.present);
-    }
-
-    /// Finds those of a plane with n seconds to go, by the means of the layer below, where they are quickly found or a plane beside it has
-    /// the same choices. It gives whether they are found.
+    /// Finds those of a plane with n seconds to go, by the means of the layer below, where there is one whose means are near to 0. It
+    /// gives whether they are found.
     pub(crate) fn find(&mut self, model: &Model, n: u32, plane: &Plane, means: &[Pair]) -> bool
         requires plane { IsPlane model.now plane.now }
         requires means { length means.now ≡ states model.now.grid }
         requires have { HaveLeasts model.now means.now self.old }
         ensures have { HaveLeasts model.now means.now self.new }
-        ensures found { IsTrue result
-            → AreLeasts model.now means.now plane.now.present self.new.values.items }
+        ensures found { IsTrue result → AreFound model.now n plane.now.present means.now self.new }
     {
-        if n == 0 {
-            return false;
-        }
-        if !self.are_narrow && !is_shared(model, plane.present) {
+        if n == 0 || !self.are_near {
             return false;
         }
         if !self.are_of(model, plane.present, means) {
-            self.fill(model, plane, means);
+            fill_leasts(model, plane, means, &mut self.values);
+            self.of = Some(plane.present);
         }
         true
     }
 
-    /// The values, where they are found.
-    pub(crate) fn where_found(&self, found: bool) -> Option<&[i64]>
-        ensures { IfSome result (λ values. IsTrue found × (values.now ≡ self.now.values.items)) }
+    /// The values, by the numbers of the vertices.
+    pub(crate) fn values(&self) -> &[i64]
+        ensures { result.now ≡ self.now.values.items }
     {
-        if found { Some(&self.values) } else { None }
+        &self.values
     }
 }

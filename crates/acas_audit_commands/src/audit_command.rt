@@ -9,15 +9,17 @@ ghost use Rattle.acas_audit_commands.specs.Decisions.{CountsAudit};
 use acas_audit_blocks::Decisions;
 use acas_command::{Cause, read_model_file};
 use acas_outside::{Folder, Sink};
+use acas_print::PrintFault;
 use acas_report::write_blocks;
-use acas_report_lines::{ReportFault, Which};
+use acas_report_lines::Which;
+use acas_step::LayerMeans;
 use acas_table_file::read_table_file;
 use std::alloc::Global;
 
 /// Rules on each advisory cell of a table, once the whole table is accepted, and prints the report. It answers how many are reported.
 /// It keeps the table's advices, one byte each, and reads the table once. Whole blocks of cells are decided first, and it counts these
 /// decisions: where the whole report is out, the count rose by their whole number. A count of at most 2^63 leaves room for them.
-pub fn audit<F: Folder, O: Sink>(
+pub fn audit<M: LayerMeans, F: Folder, O: Sink>(
     alloc: Global,
     model: &str,
     table: &str,
@@ -38,10 +40,10 @@ pub fn audit<F: Folder, O: Sink>(
     ensures rising { count.old ≤ count.new }
 {
     let found = read_model_file(alloc, model, folder)?;
-    let advices = read_table_file(alloc, &found, table, folder)?;
+    let advices = read_table_file::<M, F>(alloc, &found, table, folder)?;
     match write_blocks(alloc, &found.model, &advices, out, which, count) {
         Ok(counts) => Ok(counts.reported),
-        Err(ReportFault::Sink) => Err(Cause::Output),
-        Err(ReportFault::Memory) => Err(Cause::Memory),
+        Err(PrintFault::Sink) => Err(Cause::Output),
+        Err(PrintFault::Memory) => Err(Cause::Memory),
     }
 }

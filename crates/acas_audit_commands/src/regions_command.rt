@@ -8,8 +8,8 @@ ghost use Rattle.acas_audit_commands.specs.Calls.{CallsForRegions};
 use crate::boxes_file::read_boxes_file;
 use acas_command::{Cause, read_model_file};
 use acas_outside::{Folder, Sink};
+use acas_print::PrintFault;
 use acas_report::write_regions;
-use acas_report_lines::ReportFault;
 use std::alloc::Global;
 
 /// Rules on each box of a file, and prints the report. It answers how many are reported.
@@ -31,7 +31,7 @@ pub fn regions<F: Folder, O: Sink>(
     let said = read_boxes_file(alloc, &found.model, boxes, folder)?;
     match write_regions(alloc, &found.model, &said, out) {
         Ok(counts) => Ok(counts.reported),
-        Err(ReportFault::Sink) => Err(Cause::Output),
-        Err(ReportFault::Memory) => Err(Cause::Memory),
+        Err(PrintFault::Sink) => Err(Cause::Output),
+        Err(PrintFault::Memory) => Err(Cause::Memory),
     }
 }

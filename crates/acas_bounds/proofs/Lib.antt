@@ -3,6 +3,6 @@ pub mod Sound
 pub mod First
 pub mod Faults
 pub mod Planes
-pub mod Narrow
+pub mod NoFault
 pub mod SharedChoices
-pub mod NarrowLeasts
+pub mod LeastValues

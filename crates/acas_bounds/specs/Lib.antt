@@ -3,5 +3,4 @@ pub mod First
 pub mod Checks
 pub mod Means
 pub mod Planes
-pub mod Narrow
 pub mod Leasts

@@ -1,5 +1,5 @@
 -- What the inner functions say: the means of the layer below, formed before or now, and an entry's fault by them.
-use Rattle.std.specs.Prelude.{ℕ, zero, suc, ℤ, List, Option, Some, None, Result, Ok, Err, if◌then◌else◌}
+use Rattle.std.specs.Prelude.{◌≡◌, ◌≤ℤ◌, true, ℕ, zero, suc, ℤ, List, Option, Some, None, Result, Ok, Err, if◌then◌else◌}
 use Rattle.acas_spec.specs.Model.{ModelData, choices_at}
 use Rattle.acas_spec.specs.declared.place.Vertex.{Vertex}
 use Rattle.acas_frac.specs.Rounding.{down, up}
@@ -58,6 +58,11 @@ choice_fault m upper lower p e =
     if is_allowed m p e.advice
     then values_fault e.pair.upper needed e.pair.lower allowed
     else Some AdviceNotAllowed
+
+-- the advice of an entry is allowed where p is present, and its upper value is at least that of the advice
+pub record IsUpperMet (m : ModelData) (upper : ℕ → ℤ) (p : ℕ) (e : Entry) : Type 0 where
+  pub allowed : is_allowed m p e.advice ≡ true
+  pub enough : value_by_mean m p upper e.advice ≤ℤ e.pair.upper
 
 -- what an entry fails with n seconds to go
 abbrev pub fault_by_means : ModelData → (ℕ → ℤ) → (ℕ → ℤ) → ℕ → ℕ → Vertex → Entry → Option BoundFault

@@ -1,5 +1,5 @@
 //! The check of one entry.
-ghost use Rattle.std.specs.Prelude.{◌≡◌, ◌%◌, ◌<◌, ◌+ℤ◌, None, IfSome, IsTrue, OnOk, length};
+ghost use Rattle.std.specs.Prelude.{◌≡◌, ◌↔◌, ◌%◌, ◌<◌, ◌^◌, ◌+ℤ◌, ℕ, None, IsTrue, OnOk, length};
 ghost use Rattle.acas_spec.specs.Limits.{IsModel};
 ghost use Rattle.acas_spec.specs.Model.{choices_at, states, vertices};
 ghost use Rattle.acas_spec.specs.Table.{Table};
@@ -9,17 +9,18 @@ ghost use Rattle.acas_process.specs.Compiled.{least};
 ghost use Rattle.acas_process.specs.Cost.{MayChoose};
 ghost use Rattle.acas_step.specs.Choices.{value_by_mean};
 ghost use Rattle.acas_step.specs.Entries.{IsEntryOf, IsStateEntry};
-ghost use Rattle.acas_step.specs.Layer.{AreValuesOf};
+ghost use Rattle.acas_step.specs.Layer.{AreValuesOf, AreWithin};
 ghost use Rattle.acas_step.specs.Means.{AreMeansOf};
+ghost use Rattle.acas_step.specs.declared.layer.Side.TheVariants.{Upper};
 ghost use Rattle.acas_bounds.specs.Checks.{MayAdvise, OfBelow, AnswersFault, state_fault};
 ghost use Rattle.acas_bounds.specs.Leasts.{AreLeasts};
-ghost use Rattle.acas_bounds.specs.Means.{answer_of, choice_fault, ending_fault, fault_by_means, formed_lower, formed_upper, lower_below, pairs_below, upper_below};
+ghost use Rattle.acas_bounds.specs.Means.{answer_of, choice_fault, ending_fault, fault_by_means, lower_below, pairs_below, upper_below};
 ghost use Rattle.acas_bounds.specs.Planes.{IsPlane};
 ghost use Rattle.acas_bounds.specs.Sound.{bound_fault, values_fault};
 
 use crate::below::{Below, upper_mean};
 use crate::choices::{cost_if_allowed, least_lower};
-use crate::passing::passes;
+use crate::near::passes;
 use crate::plane::Plane;
 use acas_base::Model;
 use acas_spec::BoundFault;
@@ -154,58 +155,6 @@ fn check(
     }
 }
 
-// Whether an entry is seen at a quick look to have no fault by means that were formed.
-fn is_seen_good(
-    model: &Model,
-    n: u32,
-    plane: &Plane,
-    vertex: u32,
-    entry: &Entry,
-    means: &[Pair],
-    leasts: Option<&[i64]>,
-) -> bool
-    requires plane { IsPlane model.now plane.now }
-    requires vertex { vertex < vertices model.now.grid }
-    requires means { 0 < n → length means.now ≡ states model.now.grid }
-    requires leasts { IfSome leasts (λ leasts.
-        0 < n → AreLeasts model.now means.now plane.now.present leasts.now) }
-    ensures some { IsTrue result → 0 < n }
-    ensures good { let x = numbers.vertex_at model.now.grid vertex in
-        let upper = formed_upper model.now means.now x in
-        let lower = formed_lower model.now means.now x in
-        IsTrue result → fault_by_means model.now upper lower n plane.now.present x entry.now ≡ None }
-{
-    n > 0 && passes(model, plane, vertex, entry, means, leasts)
-}
-
-// The same by means that were formed. Most entries pass at the first look, and the entry is copied for the others, so that it need
-// not lie in memory.
-fn check_formed(
-    model: &Model,
-    n: u32,
-    plane: &Plane,
-    vertex: u32,
-    entry: &Entry,
-    means: &[Pair],
-    leasts: Option<&[i64]>,
-) -> Result<(), BoundFault>
-    requires plane { IsPlane model.now plane.now }
-    requires vertex { vertex < vertices model.now.grid }
-    requires means { 0 < n → length means.now ≡ states model.now.grid }
-    requires leasts { IfSome leasts (λ leasts.
-        0 < n → AreLeasts model.now means.now plane.now.present leasts.now) }
-    ensures { let x = numbers.vertex_at model.now.grid vertex in
-        let upper = formed_upper model.now means.now x in
-        let lower = formed_lower model.now means.now x in
-        result ≡ answer_of (fault_by_means model.now upper lower n plane.now.present x entry.now) }
-{
-    if is_seen_good(model, n, plane, vertex, entry, means, leasts) {
-        return Ok(());
-    }
-    let entry = *entry;
-    check(model, n, plane.present, vertex, &entry, Below::Means(means))
-}
-
 /// Whether the entry of a state with n seconds to go is sound by the layer below, and the first part that it fails if not. The
 /// pairs of the layer below stand in the order of the states' numbers; with no second to go none is looked at.
 pub fn check_entry(
@@ -246,57 +195,56 @@ pub fn check_by_means(
     ensures allowed { OnOk result (MayAdvise model.now n state entry.now.advice) }
 {
     let (present, vertex) = parts(model, state);
-    let plane = Plane::new(model, present);
-    check_at(model, n, &plane, vertex, entry, means, None)
+    check_at(model, n, present, vertex, entry, means)
 }
 
-/// The same of the state at a vertex under the present advisory of a plane, quicker where the least lower values of its choices are
-/// given, as `fill_leasts` writes them for it or for a plane with the same choices.
+/// The same of the state at a vertex where an advisory is present.
 pub fn check_at(
     model: &Model,
     n: u32,
-    plane: &Plane,
+    present: u8,
     vertex: u32,
     entry: &Entry,
     means: &[Pair],
-    leasts: Option<&[i64]>,
 ) -> Result<(), BoundFault>
-    requires plane { IsPlane model.now plane.now }
+    requires present { present < model.now.grid.advisories }
     requires vertex { vertex < vertices model.now.grid }
     requires means { 0 < n → length means.now ≡ states model.now.grid }
-    requires leasts { IfSome leasts (λ leasts.
-        0 < n → AreLeasts model.now means.now plane.now.present leasts.now) }
 
     // Whatever table the entry and the means below it are of, its fault there is reported.
     ensures value { let x = numbers.vertex_at model.now.grid vertex in
-        (t : Table) → IsEntryOf t n plane.now.present x entry.now
+        (t : Table) → IsEntryOf t n present x entry.now
         → OfBelow (λ k. AreMeansOf model.now t k means.now) n
-        → AnswersFault result (bound_fault model.now t n plane.now.present x) }
-    ensures allowed { OnOk result (0 < n → MayChoose model.now plane.now.present entry.now.advice) }
+        → AnswersFault result (bound_fault model.now t n present x) }
+    ensures allowed { OnOk result (0 < n → MayChoose model.now present entry.now.advice) }
 {
-    check_formed(model, n, plane, vertex, entry, means, leasts)
+    let _ = model.grid();
+    check(model, n, present, vertex, entry, Below::Means(means))
 }
 
-/// Whether the same entry is seen at a quick look to be sound. Most are; of the others it says nothing.
-pub fn is_seen_sound(
+/// Whether the entry at a vertex under the present advisory of a plane, with a second to go, is sound. It is quickly answered: the means
+/// of the layer below are no farther from 0 than 2^62, and the least lower values of the choices are given, as `fill_leasts` writes them
+/// for the plane or for one with the same choices.
+pub fn is_sound_at(
     model: &Model,
-    n: u32,
     plane: &Plane,
     vertex: u32,
     entry: &Entry,
     means: &[Pair],
-    leasts: Option<&[i64]>,
+    leasts: &[i64],
 ) -> bool
     requires plane { IsPlane model.now plane.now }
     requires vertex { vertex < vertices model.now.grid }
-    requires means { 0 < n → length means.now ≡ states model.now.grid }
-    requires leasts { IfSome leasts (λ leasts.
-        0 < n → AreLeasts model.now means.now plane.now.present leasts.now) }
-    ensures value { let x = numbers.vertex_at model.now.grid vertex in IsTrue result
-        → (t : Table) → IsEntryOf t n plane.now.present x entry.now
+    requires means { length means.now ≡ states model.now.grid }
+    requires narrow { AreWithin (2 ^ 62) Upper means.now }
+    requires leasts { AreLeasts model.now means.now plane.now.present leasts.now }
+
+    // Whatever table the entry and the means below it are of, it has no fault there, or one.
+    ensures value { let x = numbers.vertex_at model.now.grid vertex in
+        (t : Table) (n : ℕ) → 0 < n → IsEntryOf t n plane.now.present x entry.now
         → OfBelow (λ k. AreMeansOf model.now t k means.now) n
-        → bound_fault model.now t n plane.now.present x ≡ None }
+        → (IsTrue result ↔ (bound_fault model.now t n plane.now.present x ≡ None)) }
     ensures allowed { IsTrue result → MayChoose model.now plane.now.present entry.now.advice }
 {
-    is_seen_good(model, n, plane, vertex, entry, means, leasts)
+    passes(model, plane, vertex, entry, means, leasts)
 }

@@ -1,5 +1,5 @@
-//! What is the same for all entries under one present advisory, made once for the quick look at each.
-ghost use Rattle.std.specs.Prelude.{◌≡◌, ◌<◌, ◌≤◌, length, IfSome, IsTrue};
+//! What is the same for all entries under one present advisory, made once for the quick answer to each.
+ghost use Rattle.std.specs.Prelude.{◌≡◌, ◌<◌, ◌≤◌, ℕ, length, None, IfSome, IsTrue};
 ghost use Rattle.acas_spec.specs.Model.{choices_at};
 ghost use Rattle.acas_process.specs.Cost.{IsKnownChoice};
 ghost use Rattle.acas_bounds.specs.Planes.{IsAtPlace, IsPlane, IsPlaneChoice};
@@ -73,8 +73,8 @@ impl Plane {
         }
     }
 
-    /// Whether an advisory is at the place of its own number, where it stands in a list of all advisories in order.
-    pub(crate) fn is_own(&self, advisory: u8) -> bool
+    // Whether an advisory is at the place of its own number, where it stands in a list of all advisories in order.
+    fn is_own(&self, advisory: u8) -> bool
         requires { self.now.count ≤ 16 }
         ensures { IsTrue result → IsAtPlace self.now advisory advisory }
     {
@@ -82,11 +82,12 @@ impl Plane {
         own < self.count && self.choices[own].advisory == advisory
     }
 
-    /// The place of an advisory in the list, where it is at one.
+    // The place of an advisory in the list, where it is at one.
     #[inline(never)]
-    pub(crate) fn place_of(&self, advisory: u8) -> Option<usize>
+    fn scanned_place(&self, advisory: u8) -> Option<usize>
         requires { self.now.count ≤ 16 }
-        ensures { IfSome result (IsAtPlace self.now advisory) }
+        ensures some { IfSome result (IsAtPlace self.now advisory) }
+        ensures none { result ≡ None → (place : ℕ) → ¬ (IsAtPlace self.now advisory place) }
     {
         for place in 0..self.count {
             if self.choices[place].advisory == advisory {
@@ -94,5 +95,17 @@ impl Plane {
             }
         }
         None
+    }
+
+    /// The place of an advisory in the list, where it is at one. It looks first at the place of the advisory's own number.
+    pub(crate) fn place_of(&self, advisory: u8) -> Option<usize>
+        requires { self.now.count ≤ 16 }
+        ensures some { IfSome result (IsAtPlace self.now advisory) }
+        ensures none { result ≡ None → (place : ℕ) → ¬ (IsAtPlace self.now advisory place) }
+    {
+        if self.is_own(advisory) {
+            return Some(usize::from(advisory));
+        }
+        self.scanned_place(advisory)
     }
 }

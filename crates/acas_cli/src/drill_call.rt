@@ -8,6 +8,7 @@ ghost use Rattle.acas_drill.specs.Worth.{DrillIsWorth};
 
 use acas_command::{Status, cause_of_report};
 use acas_outside::Sink;
+use acas_step_columns::StencilMeans;
 use acas_units::GREATEST_DRILL_NUMBER;
 use std::alloc::Global;
 
@@ -28,7 +29,7 @@ pub fn drill<O: Sink>(alloc: Global, number: u32, out: &mut O) -> Status
     ensures code { result.code ≡ code_of result.cause }
     ensures output { O.faults out.old ≤ O.faults out.new }
 {
-    let cause = cause_of_report(acas_drill::drill(alloc, number, out));
+    let cause = cause_of_report(acas_drill::drill::<StencilMeans, O>(alloc, number, out));
     Status {
         code: cause.code(),
         cause,

@@ -23,6 +23,7 @@ use acas_manoeuvre_commands::manoeuvre;
 use acas_outside::{Folder, Sink};
 use acas_risk_commands::risk;
 use acas_safeable_commands::safeable;
+use acas_step_columns::StencilMeans;
 use acas_table_commands::{check, compile, migrate, values};
 use acas_units::Line;
 use std::alloc::Global;
@@ -142,17 +143,25 @@ fn answer<F: Folder, O: Sink>(
         decisions,
     } = work;
     match command {
-        Command::Values { model } => cause_of(values(alloc, model, folder, out, backups, turned)),
-        Command::Compile { model, table } => cause_of(compile(
+        Command::Values { model } => cause_of(values::<StencilMeans, F, O>(
+            alloc, model, folder, out, backups, turned,
+        )),
+        Command::Compile { model, table } => cause_of(compile::<StencilMeans, F, O>(
             alloc, model, table, folder, out, backups, turned,
         )),
-        Command::Check { model, table } => cause_of(check(alloc, model, table, folder, out)),
-        Command::Risk { model, table } => cause_of(risk(alloc, model, table, folder, out)),
+        Command::Check { model, table } => cause_of(check::<StencilMeans, F, O>(
+            alloc, model, table, folder, out,
+        )),
+        Command::Risk { model, table } => cause_of(risk::<StencilMeans, F, O>(
+            alloc, model, table, folder, out,
+        )),
         Command::Audit {
             model,
             table,
             which,
-        } => cause_of_report(audit(alloc, model, table, *which, folder, out, decisions)),
+        } => cause_of_report(audit::<StencilMeans, F, O>(
+            alloc, model, table, *which, folder, out, decisions,
+        )),
         Command::Regions { model, boxes } => cause_of_report(regions(
             alloc, model, boxes, folder, out,
         )),
@@ -165,19 +174,19 @@ fn answer<F: Folder, O: Sink>(
             let may = manoeuvre_of(*accel, *rate);
             cause_of_report(manoeuvre(alloc, model, boxes, &may, folder, out))
         }
-        Command::Safeable { model, table } => cause_of_report(safeable(
+        Command::Safeable { model, table } => cause_of_report(safeable::<StencilMeans, F, O>(
             alloc, model, table, folder, out,
         )),
         Command::Replay {
             model,
             table,
             encounter,
-        } => cause_of(replay(alloc, model, table, encounter, folder, out)),
+        } => cause_of(replay::<StencilMeans, F, O>(alloc, model, table, encounter, folder, out)),
         Command::Migrate {
             model,
             table,
             target,
-        } => cause_of(migrate(alloc, model, table, target, folder, out)),
+        } => cause_of(migrate::<StencilMeans, F, O>(alloc, model, table, target, folder, out)),
         Command::Drill { number } => drill(alloc, *number, out).cause,
     }
 }

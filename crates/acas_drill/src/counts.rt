@@ -5,8 +5,9 @@ ghost use Rattle.acas_drill.specs.Calls.{AreCountsOf};
 
 use acas_base::{Advices, Model};
 use acas_outside::{Failed, Sink};
+use acas_print::PrintFault;
 use acas_report::write_report;
-use acas_report_lines::{Counts, ReportFault, Which};
+use acas_report_lines::{Counts, Which};
 use std::alloc::{AllocError, Global};
 
 /// A sink that takes everything and tells nothing. It never fails.
@@ -36,7 +37,7 @@ pub(crate) fn audit_counts(
 {
     match write_report(alloc, model, advices, &mut Nowhere, Which::Reported) {
         Ok(counts) => Ok(counts),
-        Err(ReportFault::Memory) => Err(AllocError),
-        Err(ReportFault::Sink) => unreachable!(),
+        Err(PrintFault::Memory) => Err(AllocError),
+        Err(PrintFault::Sink) => unreachable!(),
     }
 }

@@ -13,6 +13,7 @@ use crate::table::drill_table;
 use acas_command::{Cause, ModelFile};
 use acas_drill_model::drill_model;
 use acas_outside::{Sink, emit};
+use acas_step::LayerMeans;
 use acas_units::{GREATEST_DRILL_NUMBER, Line};
 use itoa::Buffer;
 use sha2::{Digest, Sha256};
@@ -22,7 +23,7 @@ use std::alloc::{AllocError, Global};
 /// it, and prints three lines: how large the table is, that it is accepted, and the counts. It answers how many cells
 /// are reported. It takes all its memory before the first byte goes out, and fails only for want of it or where the
 /// output fails.
-pub fn drill<O: Sink>(alloc: Global, number: u32, out: &mut O) -> Result<u64, Cause>
+pub fn drill<M: LayerMeans, O: Sink>(alloc: Global, number: u32, out: &mut O) -> Result<u64, Cause>
     requires { number ≤ GREATEST_DRILL_NUMBER }
     // Whatever is told of a folder beside the output, it stays so.
     ensures answers { (folder : Outside) → Answers (CallsForDrill number) (report_ended result)
@@ -31,7 +32,7 @@ pub fn drill<O: Sink>(alloc: Global, number: u32, out: &mut O) -> Result<u64, Ca
     ensures output { O.faults out.old ≤ O.faults out.new }
 {
     let mut line = Line::make(alloc)?;
-    let reported = make_lines(alloc, number, &mut line)?;
+    let reported = make_lines::<M>(alloc, number, &mut line)?;
     match emit(out, line.bytes()) {
         Ok(()) => Ok(reported),
         Err(_) => Err(Cause::Output),
@@ -39,13 +40,13 @@ pub fn drill<O: Sink>(alloc: Global, number: u32, out: &mut O) -> Result<u64, Ca
 }
 
 // Makes the lines of a drill, and answers how many cells are reported.
-fn make_lines(alloc: Global, number: u32, line: &mut Line) -> Result<u64, AllocError>
+fn make_lines<M: LayerMeans>(alloc: Global, number: u32, line: &mut Line) -> Result<u64, AllocError>
     requires empty { line.old ≡ [] }
     requires number { number ≤ GREATEST_DRILL_NUMBER }
     ensures { IfOk result (λ reported. IsDrillText number reported line.new) }
 {
     let found = drilled(alloc, number)?;
-    let table = drill_table(alloc, &found)?;
+    let table = drill_table::<M>(alloc, &found)?;
     let counts = audit_counts(alloc, &found.model, &table.advices)?;
     write_lines(line, number, found.model.grid(), table.bytes, &counts);
     Ok(counts.reported)

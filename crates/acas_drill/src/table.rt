@@ -17,7 +17,6 @@ use acas_outside::MemoryFolder;
 use acas_plane::Turned;
 use acas_step::LayerMeans;
 use acas_step_choices::Backups;
-use acas_step_columns::StencilMeans;
 use acas_sweep::SweepRoom;
 use acas_table::TableWriter;
 use acas_table_rows::store_swept;
@@ -35,14 +34,17 @@ pub(crate) struct DrillTable {
 
 /// Compiles a model into a folder in memory, and accepts the table from there. The folder fails only where it finds no
 /// memory.
-pub(crate) fn drill_table(alloc: Global, found: &ModelFile) -> Result<DrillTable, AllocError>
+pub(crate) fn drill_table<M: LayerMeans>(
+    alloc: Global,
+    found: &ModelFile,
+) -> Result<DrillTable, AllocError>
     requires { length found.now.digest ≡ 32 }
     ensures bytes { IfOk result (λ table. table.bytes ≡ length_of Layered (shape_of found.now.model.grid)) }
     ensures fits { IfOk result (λ table. AreAdvicesOf found.now.model table.advices) }
     ensures tabled { IfOk result (λ table.
         AreTabled found.now.model (compiled found.now.model) table.advices) }
 {
-    let means = StencilMeans::make(alloc, &found.model)?;
+    let means = M::make(alloc, &found.model)?;
     let mut room = SweepRoom::make(alloc, &found.model)?;
     let writer = TableWriter::new(alloc, &found.model, &found.digest)?;
     let mut folder = new_folder(alloc)?;
@@ -61,7 +63,7 @@ pub(crate) fn drill_table(alloc: Global, found: &ModelFile) -> Result<DrillTable
     ) else {
         return Err(AllocError);
     };
-    let advices = accepted_advices(alloc, found, &mut folder)?;
+    let advices = accepted_advices::<M>(alloc, found, &mut folder)?;
     Ok(DrillTable { bytes, advices })
 }
 
@@ -72,7 +74,7 @@ fn new_folder(alloc: Global) -> Result<MemoryFolder, AllocError> {
 }
 
 // The advices of the compiled table of a model, which the folder holds.
-fn accepted_advices(
+fn accepted_advices<M: LayerMeans>(
     alloc: Global,
     found: &ModelFile,
     folder: &mut MemoryFolder,
@@ -85,7 +87,7 @@ fn accepted_advices(
 {
     // Opens the model's limits: the compiled table of such a model is accepted.
     let _ = found.model.grid();
-    match accept::<StencilMeans, MemoryFolder>(alloc, &found.model, &found.digest, folder, TABLE) {
+    match accept::<M, MemoryFolder>(alloc, &found.model, &found.digest, folder, TABLE) {
         Ok(advices) => Ok(advices),
         // No read of such a folder is listed to fail.
         Err(AcceptFault::Failed | AcceptFault::Memory) => Err(AllocError),

@@ -8,13 +8,14 @@ ghost use Rattle.acas_encounter_commands.specs.Calls.{CallsForReplay};
 use crate::encounter_file::read_encounter_file;
 use acas_command::{Cause, read_model_file};
 use acas_outside::{Folder, Sink};
-use acas_replay::ReplayFault;
+use acas_print::PrintFault;
+use acas_step::LayerMeans;
 use acas_table_file::read_table_file;
 use std::alloc::Global;
 
 /// Flies an encounter under the advice of a table, once the whole table is accepted, and prints what is issued in each second and
 /// whether the second is in contact.
-pub fn replay<F: Folder, O: Sink>(
+pub fn replay<M: LayerMeans, F: Folder, O: Sink>(
     alloc: Global,
     model: &str,
     table: &str,
@@ -31,11 +32,11 @@ pub fn replay<F: Folder, O: Sink>(
     ensures output { O.faults out.old ≤ O.faults out.new }
 {
     let found = read_model_file(alloc, model, folder)?;
-    let advices = read_table_file(alloc, &found, table, folder)?;
+    let advices = read_table_file::<M, F>(alloc, &found, table, folder)?;
     let flown = read_encounter_file(alloc, &found.model, encounter, folder)?;
     match acas_replay::replay(alloc, &found.model, &advices, &flown, out) {
         Ok(_) => Ok(()),
-        Err(ReplayFault::Sink) => Err(Cause::Output),
-        Err(ReplayFault::Memory) => Err(Cause::Memory),
+        Err(PrintFault::Sink) => Err(Cause::Output),
+        Err(PrintFault::Memory) => Err(Cause::Memory),
     }
 }

@@ -12,7 +12,8 @@ use acas_base::Model;
 use acas_manoeuvre::Manoeuvre;
 use acas_meetings::MeetVerdict;
 use acas_outside::Sink;
-use acas_report_lines::{MeetCounts, MeetFault, MeetRulings, write_meetings_by};
+use acas_print::PrintFault;
+use acas_report_lines::{MeetCounts, MeetRulings, write_meetings_by};
 use acas_rulings::{AuditBox, Boxes};
 use std::alloc::Global;
 
@@ -34,17 +35,17 @@ pub fn write_meetings<S: Sink>(
     boxes: &Boxes,
     may: &Manoeuvre,
     sink: &mut S,
-) -> Result<MeetCounts, MeetFault>
+) -> Result<MeetCounts, PrintFault>
     requires fits { AreBoxesOf model.now boxes.now }
     requires rates { (place : ℕ) → place < length boxes.now →
         RatesFit (may_of may.now) (box_at boxes.now place).states.intruder }
     ensures report { IfOk result (λ counts. (text : List ℕ)
         × IsMeetingsReport model.now (may_of may.now) boxes.now counts text
         × Appends (S.written sink.old) (S.written sink.new) text) }
-    ensures part { IsErrOf result MeetFault.Sink →
+    ensures part { IsErrOf result PrintFault.Sink →
         IsMeetingsBegun model.now (may_of may.now) boxes.now (S.written sink.old) (S.written sink.new) }
-    ensures memory { IsErrOf result MeetFault.Memory → S.written sink.new ≡ S.written sink.old }
-    ensures frame { Emits S.Sink sink.old sink.new (IsErrOf result MeetFault.Sink) }
+    ensures memory { IsErrOf result PrintFault.Memory → S.written sink.new ≡ S.written sink.old }
+    ensures frame { Emits S.Sink sink.old sink.new (IsErrOf result PrintFault.Sink) }
 {
     write_meetings_by(alloc, model, boxes, may, &BoxByBox, sink)
 }

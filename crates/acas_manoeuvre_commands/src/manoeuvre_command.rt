@@ -11,7 +11,7 @@ use acas_command::{Cause, read_model_file};
 use acas_intruder::write_meetings;
 use acas_manoeuvre::Manoeuvre;
 use acas_outside::{Folder, Sink};
-use acas_report_lines::MeetFault;
+use acas_print::PrintFault;
 use std::alloc::Global;
 
 /// Rules on each box of a file, against an intruder that may change its rate, and prints the report. It answers how many are reported.
@@ -34,7 +34,7 @@ pub fn manoeuvre<F: Folder, O: Sink>(
     let said = read_boxes_file(alloc, &found.model, may, boxes, folder)?;
     match write_meetings(alloc, &found.model, &said, may, out) {
         Ok(counts) => Ok(counts.reported),
-        Err(MeetFault::Sink) => Err(Cause::Output),
-        Err(MeetFault::Memory) => Err(Cause::Memory),
+        Err(PrintFault::Sink) => Err(Cause::Output),
+        Err(PrintFault::Memory) => Err(Cause::Memory),
     }
 }

@@ -12,5 +12,5 @@ mod state;
 pub use laws::{
     contact_is_that_of_flights, issued_advices_are_audited, replays_are_one, seconds_join,
 };
-pub use replaying::{ReplayFault, replay};
+pub use replaying::replay;
 pub use state::EncounterState;

@@ -13,53 +13,9 @@ use crate::progress::{Progress, Replayed};
 use acas_base::{Advices, Model};
 use acas_encounter::Encounter;
 use acas_outside::{Failed, Sink};
-use acas_print::PrintBuffer;
+use acas_print::{Pen, PrintFault};
 use acas_units::{LINE_BYTES, Line};
 use std::alloc::{AllocError, Global};
-use thiserror::Error;
-
-/// Why a replay was not written whole.
-#[derive(Clone, Copy, Debug, PartialEq, Eq, Error)]
-pub enum ReplayFault {
-    /// The sink failed.
-    #[error("the sink failed")]
-    Sink = 1,
-    /// There was no memory for the line and the buffer.
-    #[error("out of memory")]
-    Memory = 2,
-}
-
-/// A line to build in, and the bytes that wait to be written. Its memory is taken when it is made.
-#[derive(Drop)]
-struct Pen {
-    line: Line,
-    buffer: PrintBuffer,
-}
-
-impl Pen {
-    /// A pen that has written nothing.
-    fn make(alloc: Global) -> Result<Pen, AllocError>
-        ensures { IfOk result (λ pen. pen.buffer ≡ []) }
-    {
-        let line = Line::make(alloc)?;
-        let buffer = PrintBuffer::make(alloc)?;
-        Ok(Pen { line, buffer })
-    }
-
-    /// Prints the line, and writes out all that waits.
-    fn end<S: Sink>(&mut self, sink: &mut S) -> Result<(), Failed>
-        requires { length self.old.line ≤ LINE_BYTES }
-        ensures ok { OnOk result
-            (Appends (S.written sink.old) (S.written sink.new) (self.old.buffer ++ self.old.line)) }
-        ensures err { OnErr result
-            (AppendsPart (S.written sink.old) (S.written sink.new) (self.old.buffer ++ self.old.line)) }
-        ensures frame { Emits S.Sink sink.old sink.new (IsErr result) }
-    {
-        self.buffer.print(sink, self.line.bytes())?;
-        self.buffer.flush(sink)?;
-        Ok(())
-    }
-}
 
 /// Replays an encounter under the advice of a table of a model, and answers how many of its seconds are in contact: a line for each
 /// second, and then the counts. The advisory at the start is one of the model's. It takes all its memory before the first byte goes out.
@@ -69,23 +25,23 @@ pub fn replay<S: Sink>(
     advices: &Advices,
     encounter: &Encounter,
     sink: &mut S,
-) -> Result<u32, ReplayFault>
+) -> Result<u32, PrintFault>
     requires advices { AreAdvicesOf model.now advices.now }
     requires encounter { IsEncounterOf model.now encounter.now }
     ensures replay { IfOk result (λ count. (text : List ℕ)
         × IsReplay model.now advices.now encounter.now count text
         × Appends (S.written sink.old) (S.written sink.new) text) }
-    ensures part { IsErrOf result ReplayFault.Sink → (count : ℕ) × (text : List ℕ)
+    ensures part { IsErrOf result PrintFault.Sink → (count : ℕ) × (text : List ℕ)
         × IsReplay model.now advices.now encounter.now count text
         × AppendsPart (S.written sink.old) (S.written sink.new) text }
-    ensures memory { IsErrOf result ReplayFault.Memory → S.written sink.new ≡ S.written sink.old }
-    ensures frame { Emits S.Sink sink.old sink.new (IsErrOf result ReplayFault.Sink) }
+    ensures memory { IsErrOf result PrintFault.Memory → S.written sink.new ≡ S.written sink.old }
+    ensures frame { Emits S.Sink sink.old sink.new (IsErrOf result PrintFault.Sink) }
 {
     // Opens the limits of the model and of the encounter.
     let _ = model.grid();
     let _ = encounter.seconds();
     let Ok(mut pen) = Pen::make(alloc) else {
-        return Err(ReplayFault::Memory);
+        return Err(PrintFault::Memory);
     };
     let replayed = Replayed {
         model,
@@ -94,7 +50,7 @@ pub fn replay<S: Sink>(
     };
     match write_whole(&replayed, sink, &mut pen) {
         Ok(contacts) => Ok(contacts),
-        Err(_) => Err(ReplayFault::Sink),
+        Err(_) => Err(PrintFault::Sink),
     }
 }
 

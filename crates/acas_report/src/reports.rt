@@ -12,7 +12,8 @@ use crate::sources::{ByBlocks, OneByOne};
 use acas_audit_blocks::{BlockAudit, Decisions};
 use acas_base::{Advices, Model};
 use acas_outside::Sink;
-use acas_report_lines::{Counts, ReportFault, Which, write_regions_by, write_report_by};
+use acas_print::PrintFault;
+use acas_report_lines::{Counts, Which, write_regions_by, write_report_by};
 use acas_rulings::Boxes;
 use std::alloc::Global;
 
@@ -23,15 +24,15 @@ pub fn write_report<S: Sink>(
     advices: &Advices,
     sink: &mut S,
     which: Which,
-) -> Result<Counts, ReportFault>
+) -> Result<Counts, PrintFault>
     requires { AreAdvicesOf model.now advices.now }
     ensures report { IfOk result (λ counts. (text : List ℕ)
         × IsReport model.now advices.now which counts text
         × Appends (S.written sink.old) (S.written sink.new) text) }
-    ensures part { IsErrOf result ReportFault.Sink →
+    ensures part { IsErrOf result PrintFault.Sink →
         IsReportBegun model.now advices.now which (S.written sink.old) (S.written sink.new) }
-    ensures memory { IsErrOf result ReportFault.Memory → S.written sink.new ≡ S.written sink.old }
-    ensures frame { Emits S.Sink sink.old sink.new (IsErrOf result ReportFault.Sink) }
+    ensures memory { IsErrOf result PrintFault.Memory → S.written sink.new ≡ S.written sink.old }
+    ensures frame { Emits S.Sink sink.old sink.new (IsErrOf result PrintFault.Sink) }
 {
     let mut count = Decisions::new();
     write_report_by(
@@ -55,23 +56,23 @@ pub fn write_blocks<S: Sink>(
     sink: &mut S,
     which: Which,
     count: &mut Decisions,
-) -> Result<Counts, ReportFault>
+) -> Result<Counts, PrintFault>
     requires advices { AreAdvicesOf model.now advices.now }
     requires room { count.old ≤ 2 ^ 63 }
     ensures report { IfOk result (λ counts. (text : List ℕ)
         × IsReport model.now advices.now which counts text
         × Appends (S.written sink.old) (S.written sink.new) text) }
-    ensures part { IsErrOf result ReportFault.Sink →
+    ensures part { IsErrOf result PrintFault.Sink →
         IsReportBegun model.now advices.now which (S.written sink.old) (S.written sink.new) }
-    ensures memory { IsErrOf result ReportFault.Memory → S.written sink.new ≡ S.written sink.old }
-    ensures frame { Emits S.Sink sink.old sink.new (IsErrOf result ReportFault.Sink) }
-    ensures unmoved { IsErrOf result ReportFault.Memory → count.new ≡ count.old }
+    ensures memory { IsErrOf result PrintFault.Memory → S.written sink.new ≡ S.written sink.old }
+    ensures frame { Emits S.Sink sink.old sink.new (IsErrOf result PrintFault.Sink) }
+    ensures unmoved { IsErrOf result PrintFault.Memory → count.new ≡ count.old }
     ensures decisions { IfOk result (λ counts. (number : ℕ)
         × AreAuditsDecisions model.now advices.now number × (count.new ≡ count.old + number)) }
     ensures rising { count.old ≤ count.new }
 {
     let Ok(audit) = BlockAudit::make(alloc, model) else {
-        return Err(ReportFault::Memory);
+        return Err(PrintFault::Memory);
     };
     let mut blocks = ByBlocks(audit);
     write_report_by(alloc, model, advices, &mut blocks, sink, which, count)
@@ -84,15 +85,15 @@ pub fn write_regions<S: Sink>(
     model: &Model,
     boxes: &Boxes,
     sink: &mut S,
-) -> Result<Counts, ReportFault>
+) -> Result<Counts, PrintFault>
     requires { AreBoxesOf model.now boxes.now }
     ensures report { IfOk result (λ counts. (text : List ℕ)
         × IsRegionsReport model.now boxes.now counts text
         × Appends (S.written sink.old) (S.written sink.new) text) }
-    ensures part { IsErrOf result ReportFault.Sink →
+    ensures part { IsErrOf result PrintFault.Sink →
         IsRegionsReportBegun model.now boxes.now (S.written sink.old) (S.written sink.new) }
-    ensures memory { IsErrOf result ReportFault.Memory → S.written sink.new ≡ S.written sink.old }
-    ensures frame { Emits S.Sink sink.old sink.new (IsErrOf result ReportFault.Sink) }
+    ensures memory { IsErrOf result PrintFault.Memory → S.written sink.new ≡ S.written sink.old }
+    ensures frame { Emits S.Sink sink.old sink.new (IsErrOf result PrintFault.Sink) }
 {
     write_regions_by(alloc, model, boxes, &OneByOne, sink)
 }

@@ -8,12 +8,13 @@ ghost use Rattle.acas_report_lines.specs.Plan.{Broke, Room, Wrote, box_plan, pro
 ghost use Rattle.acas_report_lines.specs.Regions.{IsSaidAt, boxes_text, places};
 ghost use Rattle.acas_report_lines.specs.Report.{IsBegun, IsReportOn};
 
-use crate::counts::{Counts, ReportFault};
+use crate::counts::Counts;
 use crate::lines::{write_box_counts, write_box_line};
 use crate::pen::Pen;
 use crate::said::Said;
 use acas_base::Model;
 use acas_outside::{Failed, Sink};
+use acas_print::PrintFault;
 use acas_rulings::{AuditBox, Boxes};
 use std::alloc::Global;
 
@@ -42,25 +43,25 @@ pub(crate) fn write_boxes_by<R: BoxSource, S: Sink>(
     boxes: &Boxes,
     rulings: &R,
     sink: &mut S,
-) -> Result<Counts, ReportFault>
+) -> Result<Counts, PrintFault>
     requires { (place : ℕ) → place < length boxes.now
         → R.takes rulings.now model.now (box_at boxes.now place) }
     ensures report { IfOk result (λ counts. (text : List ℕ)
         × IsReportOn (IsSaidAt (R.rules rulings.now model.now) boxes.now) R.Ruling.certified (places boxes.now) 0
         (boxes_text R.Ruling.certified R.Ruling.text) counts text
         × Appends (S.written sink.old) (S.written sink.new) text) }
-    ensures part { IsErrOf result ReportFault.Sink →
+    ensures part { IsErrOf result PrintFault.Sink →
         IsBegun (IsSaidAt (R.rules rulings.now model.now) boxes.now) (places boxes.now)
         (boxes_text R.Ruling.certified R.Ruling.text) (S.written sink.old) (S.written sink.new) }
-    ensures memory { IsErrOf result ReportFault.Memory → S.written sink.new ≡ S.written sink.old }
-    ensures frame { Emits S.Sink sink.old sink.new (IsErrOf result ReportFault.Sink) }
+    ensures memory { IsErrOf result PrintFault.Memory → S.written sink.new ≡ S.written sink.old }
+    ensures frame { Emits S.Sink sink.old sink.new (IsErrOf result PrintFault.Sink) }
 {
     let Ok(mut pen) = Pen::make(alloc) else {
-        return Err(ReportFault::Memory);
+        return Err(PrintFault::Memory);
     };
     match write_whole(model, boxes, rulings, sink, &mut pen) {
         Ok(()) => Ok(pen.counts),
-        Err(_) => Err(ReportFault::Sink),
+        Err(_) => Err(PrintFault::Sink),
     }
 }
 

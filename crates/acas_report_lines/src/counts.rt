@@ -3,8 +3,6 @@ ghost use Rattle.std.specs.Prelude.{◌≡◌, ◌+◌, ◌<◌, ◌^◌, if◌t
 ghost use Rattle.acas_report_lines.specs.Plan.{total};
 ghost use Rattle.acas_report_lines.specs.Report.{is_left_out};
 
-use thiserror::Error;
-
 /// How many lines there are of each kind, those that are left out included, and how many clear cells.
 #[derive(Clone, Copy, Debug, PartialEq, Eq)]
 pub struct Counts {
@@ -20,17 +18,6 @@ pub enum Which {
     All,
     /// Each line but the certified ones.
     Reported,
-}
-
-/// Why a report was not written whole.
-#[derive(Clone, Copy, Debug, PartialEq, Eq, Error)]
-pub enum ReportFault {
-    /// The sink failed.
-    #[error("the sink failed")]
-    Sink = 1,
-    /// There was no memory for the line and the buffer.
-    #[error("out of memory")]
-    Memory = 2,
 }
 
 /// Whether the line of a ruling is left out, that is certified or is not.

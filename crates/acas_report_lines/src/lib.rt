@@ -17,11 +17,11 @@ mod rulings;
 mod said;
 mod witness_fields;
 
-pub use counts::{Counts, ReportFault, Which};
+pub use counts::{Counts, Which};
 pub use fields::line_frac;
 pub use laws::{begun_meetings_reports_go_on, begun_regions_reports_go_on, begun_reports_go_on};
 pub use lines::line_counts;
-pub use meet_counts::{MeetCounts, MeetFault};
+pub use meet_counts::MeetCounts;
 pub use meetings::write_meetings_by;
 pub use regions::write_regions_by;
 pub use report::write_report_by;

@@ -9,13 +9,13 @@ ghost use Rattle.acas_meetings.specs.Verdicts.{IsMeetVerdict};
 ghost use Rattle.acas_report_lines.specs.Meetings.{IsMeetingsBegun, IsMeetingsReport};
 
 use crate::boxes::{BoxSource, write_boxes_by};
-use crate::counts::ReportFault;
-use crate::meet_counts::{MeetCounts, MeetFault};
+use crate::meet_counts::MeetCounts;
 use crate::rulings::MeetRulings;
 use acas_base::Model;
 use acas_manoeuvre::Manoeuvre;
 use acas_meetings::MeetVerdict;
 use acas_outside::Sink;
+use acas_print::PrintFault;
 use acas_rulings::{AuditBox, Boxes};
 use std::alloc::Global;
 
@@ -47,24 +47,21 @@ pub fn write_meetings_by<R: MeetRulings, S: Sink>(
     may: &Manoeuvre,
     rulings: &R,
     sink: &mut S,
-) -> Result<MeetCounts, MeetFault>
+) -> Result<MeetCounts, PrintFault>
     requires fits { AreBoxesOf model.now boxes.now }
     requires rates { (place : ℕ) → place < length boxes.now →
         RatesFit (may_of may.now) (box_at boxes.now place).states.intruder }
     ensures report { IfOk result (λ counts. (text : List ℕ)
         × IsMeetingsReport model.now (may_of may.now) boxes.now counts text
         × Appends (S.written sink.old) (S.written sink.new) text) }
-    ensures part { IsErrOf result MeetFault.Sink →
+    ensures part { IsErrOf result PrintFault.Sink →
         IsMeetingsBegun model.now (may_of may.now) boxes.now (S.written sink.old) (S.written sink.new) }
-    ensures memory { IsErrOf result MeetFault.Memory → S.written sink.new ≡ S.written sink.old }
-    ensures frame { Emits S.Sink sink.old sink.new (IsErrOf result MeetFault.Sink) }
+    ensures memory { IsErrOf result PrintFault.Memory → S.written sink.new ≡ S.written sink.old }
+    ensures frame { Emits S.Sink sink.old sink.new (IsErrOf result PrintFault.Sink) }
 {
-    match write_boxes_by(alloc, model, boxes, &Manoeuvring { rulings, may }, sink) {
-        Ok(counts) => Ok(MeetCounts {
-            certified: counts.certified,
-            reported: counts.reported,
-        }),
-        Err(ReportFault::Sink) => Err(MeetFault::Sink),
-        Err(ReportFault::Memory) => Err(MeetFault::Memory),
-    }
+    let counts = write_boxes_by(alloc, model, boxes, &Manoeuvring { rulings, may }, sink)?;
+    Ok(MeetCounts {
+        certified: counts.certified,
+        reported: counts.reported,
+    })
 }

@@ -7,10 +7,11 @@ ghost use Rattle.acas_rulings.specs.Rulings.{IsRulingOfBox};
 ghost use Rattle.acas_report_lines.specs.Regions.{IsRegionsReport, IsRegionsReportBegun};
 
 use crate::boxes::{BoxSource, write_boxes_by};
-use crate::counts::{Counts, ReportFault};
+use crate::counts::Counts;
 use crate::rulings::BoxRulings;
 use acas_base::Model;
 use acas_outside::Sink;
+use acas_print::PrintFault;
 use acas_rulings::{AuditBox, Boxes, Ruling};
 use std::alloc::Global;
 
@@ -40,15 +41,15 @@ pub fn write_regions_by<R: BoxRulings, S: Sink>(
     boxes: &Boxes,
     rulings: &R,
     sink: &mut S,
-) -> Result<Counts, ReportFault>
+) -> Result<Counts, PrintFault>
     requires { AreBoxesOf model.now boxes.now }
     ensures report { IfOk result (λ counts. (text : List ℕ)
         × IsRegionsReport model.now boxes.now counts text
         × Appends (S.written sink.old) (S.written sink.new) text) }
-    ensures part { IsErrOf result ReportFault.Sink →
+    ensures part { IsErrOf result PrintFault.Sink →
         IsRegionsReportBegun model.now boxes.now (S.written sink.old) (S.written sink.new) }
-    ensures memory { IsErrOf result ReportFault.Memory → S.written sink.new ≡ S.written sink.old }
-    ensures frame { Emits S.Sink sink.old sink.new (IsErrOf result ReportFault.Sink) }
+    ensures memory { IsErrOf result PrintFault.Memory → S.written sink.new ≡ S.written sink.old }
+    ensures frame { Emits S.Sink sink.old sink.new (IsErrOf result PrintFault.Sink) }
 {
     write_boxes_by(alloc, model, boxes, &Held { rulings }, sink)
 }

@@ -8,13 +8,14 @@ ghost use Rattle.acas_report_lines.specs.Report.{IsReport, IsReportBegun};
 
 use crate::audit::Audit;
 use crate::cells::write_cells;
-use crate::counts::{Counts, ReportFault, Which};
+use crate::counts::{Counts, Which};
 use crate::lines::write_counts;
 use crate::pen::Pen;
 use crate::rulings::Rulings;
 use acas_base::{Advices, Model};
 use acas_count::Counter;
 use acas_outside::{Failed, Sink};
+use acas_print::PrintFault;
 use std::alloc::Global;
 
 /// Writes the report of an audit, with rulings from a source of them, and answers its counts. It takes all its memory before the
@@ -27,24 +28,24 @@ pub fn write_report_by<R: Rulings, S: Sink>(
     sink: &mut S,
     which: Which,
     count: &mut Counter<R::Decision>,
-) -> Result<Counts, ReportFault>
+) -> Result<Counts, PrintFault>
     requires advices { AreAdvicesOf model.now advices.now }
     requires fits { R.fits rulings.old model.now }
     requires room { count.old ≤ 2 ^ 63 }
     ensures report { IfOk result (λ counts. (text : List ℕ)
         × IsReport model.now advices.now which counts text
         × Appends (S.written sink.old) (S.written sink.new) text) }
-    ensures part { IsErrOf result ReportFault.Sink →
+    ensures part { IsErrOf result PrintFault.Sink →
         IsReportBegun model.now advices.now which (S.written sink.old) (S.written sink.new) }
-    ensures memory { IsErrOf result ReportFault.Memory → S.written sink.new ≡ S.written sink.old }
-    ensures frame { Emits S.Sink sink.old sink.new (IsErrOf result ReportFault.Sink) }
-    ensures unmoved { IsErrOf result ReportFault.Memory → count.new ≡ count.old }
+    ensures memory { IsErrOf result PrintFault.Memory → S.written sink.new ≡ S.written sink.old }
+    ensures frame { Emits S.Sink sink.old sink.new (IsErrOf result PrintFault.Sink) }
+    ensures unmoved { IsErrOf result PrintFault.Memory → count.new ≡ count.old }
     ensures decisions { IfOk result (λ counts. (number : ℕ)
         × ArePrepared R.takes model.now advices.now number × (count.new ≡ count.old + number)) }
     ensures rising { count.old ≤ count.new }
 {
     let Ok(mut pen) = Pen::make(alloc) else {
-        return Err(ReportFault::Memory);
+        return Err(PrintFault::Memory);
     };
     let audit = Audit {
         model,
@@ -53,7 +54,7 @@ pub fn write_report_by<R: Rulings, S: Sink>(
     };
     match write_whole(&audit, rulings, sink, &mut pen, count) {
         Ok(()) => Ok(pen.counts),
-        Err(_) => Err(ReportFault::Sink),
+        Err(_) => Err(PrintFault::Sink),
     }
 }
 

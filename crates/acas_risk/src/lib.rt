@@ -13,4 +13,4 @@ mod valuation;
 
 pub use chances::{chance, policy_cost};
 pub use plan::Plan;
-pub use risk_report::{RiskFault, write_risk};
+pub use risk_report::write_risk;

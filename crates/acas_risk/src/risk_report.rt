@@ -13,84 +13,41 @@ use crate::risk_lines::{write_risk_line, write_states_line};
 use crate::risk_values::{RiskValues, risk_values};
 use acas_base::{Advices, Model};
 use acas_outside::{Failed, Sink};
-use acas_print::PrintBuffer;
+use acas_print::{Pen, PrintFault};
+use acas_step::LayerMeans;
 use acas_units::{LINE_BYTES, Line};
 use std::alloc::{AllocError, Global};
-use thiserror::Error;
-
-/// Why a report of risks was not written whole.
-#[derive(Clone, Copy, Debug, PartialEq, Eq, Error)]
-pub enum RiskFault {
-    /// The sink failed.
-    #[error("the sink failed")]
-    Sink = 1,
-    /// There was no memory for the values, the line and the buffer.
-    #[error("out of memory")]
-    Memory = 2,
-}
-
-/// A line to build in, and the bytes that wait to be written. Its memory is taken when it is made.
-#[derive(Drop)]
-struct Pen {
-    line: Line,
-    buffer: PrintBuffer,
-}
-
-impl Pen {
-    /// A pen that has written nothing.
-    fn make(alloc: Global) -> Result<Pen, AllocError>
-        ensures { IfOk result (λ pen. pen.buffer ≡ []) }
-    {
-        let line = Line::make(alloc)?;
-        let buffer = PrintBuffer::make(alloc)?;
-        Ok(Pen { line, buffer })
-    }
-
-    /// Prints the line, and writes out all that waits.
-    fn end<S: Sink>(&mut self, sink: &mut S) -> Result<(), Failed>
-        requires { length self.old.line ≤ LINE_BYTES }
-        ensures ok { OnOk result
-            (Appends (S.written sink.old) (S.written sink.new) (self.old.buffer ++ self.old.line)) }
-        ensures err { OnErr result
-            (AppendsPart (S.written sink.old) (S.written sink.new) (self.old.buffer ++ self.old.line)) }
-        ensures frame { Emits S.Sink sink.old sink.new (IsErr result) }
-    {
-        self.buffer.print(sink, self.line.bytes())?;
-        self.buffer.flush(sink)?;
-        Ok(())
-    }
-}
 
 /// Writes for each state at the horizon, in order, bounds of the chance of contact under a table's policy and under the policy that is
 /// always clear of conflict, and of what the table's policy costs; and then how many states there are, which it answers. It takes all its
 /// memory before the first byte goes out.
-pub fn write_risk<S: Sink>(
+pub fn write_risk<M: LayerMeans, S: Sink>(
     alloc: Global,
     model: &Model,
     advices: &Advices,
     sink: &mut S,
-) -> Result<u32, RiskFault>
+) -> Result<u32, PrintFault>
     requires { AreAdvicesOf model.now advices.now }
     ensures states { IfOk result (λ count. count ≡ states model.now.grid) }
     ensures text { OnOk result (Appends (S.written sink.old) (S.written sink.new)
         (risk_text model.now (advised model.now advices.now))) }
     ensures bounds { OnOk result (AreRisks model.now (advised model.now advices.now)
         (risk_row model.now (advised model.now advices.now))) }
-    ensures part { IsErrOf result RiskFault.Sink → AppendsPart (S.written sink.old) (S.written sink.new)
+    ensures part { IsErrOf result PrintFault.Sink → AppendsPart (S.written sink.old) (S.written sink.new)
         (risk_text model.now (advised model.now advices.now)) }
-    ensures memory { IsErrOf result RiskFault.Memory → S.written sink.new ≡ S.written sink.old }
-    ensures frame { Emits S.Sink sink.old sink.new (IsErrOf result RiskFault.Sink) }
+    ensures memory { IsErrOf result PrintFault.Memory → S.written sink.new ≡ S.written sink.old }
+    ensures frame { Emits S.Sink sink.old sink.new (IsErrOf result PrintFault.Sink) }
 {
     let states = model.grid().states();
     let Ok(mut pen) = Pen::make(alloc) else {
-        return Err(RiskFault::Memory);
+        return Err(PrintFault::Memory);
     };
-    let Ok(values) = risk_values(alloc, model, advices) else {
-        return Err(RiskFault::Memory);
+    let Ok(values) = risk_values::<M>(alloc, model, advices) else {
+        return Err(PrintFault::Memory);
     };
     match print_risks(model, &values, &mut pen, sink) {
         Ok(()) => Ok(states),
-        Err(_) => Err(RiskFault::Sink),
+        Err(_) => Err(PrintFault::Sink),
     }
 }
 

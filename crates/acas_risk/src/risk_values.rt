@@ -10,7 +10,6 @@ use crate::plan::Plan;
 use crate::valuation::plan_values;
 use acas_base::{Advices, Model};
 use acas_step::LayerMeans;
-use acas_step_columns::StencilMeans;
 use acas_units::Pair;
 use std::alloc::{AllocError, Global};
 
@@ -24,7 +23,7 @@ pub(crate) struct RiskValues {
 }
 
 /// The values of a table's policy. It fails only for want of memory.
-pub(crate) fn risk_values(
+pub(crate) fn risk_values<M: LayerMeans>(
     alloc: Global,
     model: &Model,
     advices: &Advices,
@@ -35,7 +34,7 @@ pub(crate) fn risk_values(
     // What the table advises are advisories of the model.
     ensures known { OnOk result (SaysAdvisories model.now (advised model.now advices.now)) }
 {
-    let means = StencilMeans::make(alloc, model)?;
+    let means = M::make(alloc, model)?;
     let risk = plan_values(
         alloc,
         model,

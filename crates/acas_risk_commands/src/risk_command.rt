@@ -9,13 +9,15 @@ ghost use Rattle.acas_risk_commands.specs.Calls.{CallsForRisk};
 
 use acas_command::{Cause, read_model_file};
 use acas_outside::{Folder, Sink};
-use acas_risk::{RiskFault, write_risk};
+use acas_print::PrintFault;
+use acas_risk::write_risk;
+use acas_step::LayerMeans;
 use acas_table_file::read_table_file;
 use std::alloc::Global;
 
 /// Checks a table of a model, and prints for each state at the horizon bounds of the chance of contact under the table's policy and under
 /// the policy that is always clear of conflict, and of what the table's policy costs.
-pub fn risk<F: Folder, O: Sink>(
+pub fn risk<M: LayerMeans, F: Folder, O: Sink>(
     alloc: Global,
     model: &str,
     table: &str,
@@ -33,10 +35,10 @@ pub fn risk<F: Folder, O: Sink>(
     ensures output { O.faults out.old ≤ O.faults out.new }
 {
     let found = read_model_file(alloc, model, folder)?;
-    let advices = read_table_file(alloc, &found, table, folder)?;
-    match write_risk(alloc, &found.model, &advices, out) {
+    let advices = read_table_file::<M, F>(alloc, &found, table, folder)?;
+    match write_risk::<M, O>(alloc, &found.model, &advices, out) {
         Ok(_) => Ok(()),
-        Err(RiskFault::Sink) => Err(Cause::Output),
-        Err(RiskFault::Memory) => Err(Cause::Memory),
+        Err(PrintFault::Sink) => Err(Cause::Output),
+        Err(PrintFault::Memory) => Err(Cause::Memory),
     }
 }

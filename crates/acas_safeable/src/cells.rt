@@ -18,10 +18,10 @@ use crate::counts::SafeCounts;
 use crate::finding::standing;
 use crate::lines::write_cell_line;
 use crate::outlook::ClearCell;
-use crate::pen::Pen;
 use acas_base::{Advices, Model};
 use acas_cells::advices_at;
 use acas_outside::{Failed, Sink};
+use acas_print::Pen;
 
 /// Writes the lines of all cells, and answers how many there are of each kind.
 pub(crate) fn write_cells<S: Sink>(

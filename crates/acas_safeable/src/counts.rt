@@ -3,7 +3,6 @@ ghost use Rattle.std.specs.Prelude.{◌≡◌, ◌+◌, ◌<◌, ◌^◌};
 ghost use Rattle.acas_safeable.specs.Walk.{counted_near, counted_outlook, no_counts, total};
 
 use crate::outlook::Outlook;
-use thiserror::Error;
 
 /// How many clear cells there are of each kind: those that some advisory is shown to keep safe, those of which none is shown, and those
 /// in which contact may come within the second.
@@ -53,15 +52,4 @@ impl SafeCounts {
             ..*self
         }
     }
-}
-
-/// Why a report was not written whole.
-#[derive(Clone, Copy, Debug, PartialEq, Eq, Error)]
-pub enum SafeFault {
-    /// The sink failed.
-    #[error("the sink failed")]
-    Sink = 1,
-    /// There was no memory for the line and the buffer.
-    #[error("out of memory")]
-    Memory = 2,
 }

@@ -9,11 +9,10 @@ mod finding;
 mod laws;
 mod lines;
 mod outlook;
-mod pen;
 mod reaching;
 mod report;
 
-pub use counts::{SafeCounts, SafeFault};
+pub use counts::SafeCounts;
 pub use finding::standing;
 pub use laws::{
     cells_follow_cells, certified_cells_keep_safe, outlooks_are_one, reached_areas_hold,

@@ -9,11 +9,11 @@ ghost use Rattle.acas_safeable.specs.SafeableText.{IsSafeableBegun, IsSafeableRe
 ghost use Rattle.acas_safeable.specs.declared.outlook.Outlook.{Outlook};
 
 use crate::cells::write_cells;
-use crate::counts::{SafeCounts, SafeFault};
+use crate::counts::SafeCounts;
 use crate::lines::write_counts;
-use crate::pen::Pen;
 use acas_base::{Advices, Model};
 use acas_outside::{Failed, Sink};
+use acas_print::{Pen, PrintFault};
 use std::alloc::Global;
 
 /// Writes a line for each cell in which a table advises nothing and contact cannot come within the second, in order, with the advisory
@@ -24,24 +24,24 @@ pub fn write_safeable<S: Sink>(
     model: &Model,
     advices: &Advices,
     sink: &mut S,
-) -> Result<SafeCounts, SafeFault>
+) -> Result<SafeCounts, PrintFault>
     requires { AreAdvicesOf model.now advices.now }
     ensures report { IfOk result (λ counts. (text : List ℕ)
         × IsSafeableReport model.now advices.now counts text
         × Appends (S.written sink.old) (S.written sink.new) text) }
-    ensures part { IsErrOf result SafeFault.Sink →
+    ensures part { IsErrOf result PrintFault.Sink →
         IsSafeableBegun model.now advices.now (S.written sink.old) (S.written sink.new) }
-    ensures memory { IsErrOf result SafeFault.Memory → S.written sink.new ≡ S.written sink.old }
-    ensures frame { Emits S.Sink sink.old sink.new (IsErrOf result SafeFault.Sink) }
+    ensures memory { IsErrOf result PrintFault.Memory → S.written sink.new ≡ S.written sink.old }
+    ensures frame { Emits S.Sink sink.old sink.new (IsErrOf result PrintFault.Sink) }
 {
     // Opens the model's limits: each of its cells has an outlook.
     let _ = model.grid();
     let Ok(mut pen) = Pen::make(alloc) else {
-        return Err(SafeFault::Memory);
+        return Err(PrintFault::Memory);
     };
     match write_whole(model, advices, sink, &mut pen) {
         Ok(counts) => Ok(counts),
-        Err(_) => Err(SafeFault::Sink),
+        Err(_) => Err(PrintFault::Sink),
     }
 }
 

@@ -7,13 +7,15 @@ ghost use Rattle.acas_safeable_commands.specs.Calls.{CallsForSafeable};
 
 use acas_command::{Cause, read_model_file};
 use acas_outside::{Folder, Sink};
-use acas_safeable::{SafeFault, write_safeable};
+use acas_print::PrintFault;
+use acas_safeable::write_safeable;
+use acas_step::LayerMeans;
 use acas_table_file::read_table_file;
 use std::alloc::Global;
 
 /// Prints for each clear cell of a table, once the whole table is accepted, the advisory that keeps it safe where it is given a second
 /// later, or that none is shown. It answers how many cells are open. It keeps the table's advices, one byte each, and reads the table once.
-pub fn safeable<F: Folder, O: Sink>(
+pub fn safeable<M: LayerMeans, F: Folder, O: Sink>(
     alloc: Global,
     model: &str,
     table: &str,
@@ -28,10 +30,10 @@ pub fn safeable<F: Folder, O: Sink>(
     ensures output { O.faults out.old ≤ O.faults out.new }
 {
     let found = read_model_file(alloc, model, folder)?;
-    let advices = read_table_file(alloc, &found, table, folder)?;
+    let advices = read_table_file::<M, F>(alloc, &found, table, folder)?;
     match write_safeable(alloc, &found.model, &advices, out) {
         Ok(counts) => Ok(counts.unshown),
-        Err(SafeFault::Sink) => Err(Cause::Output),
-        Err(SafeFault::Memory) => Err(Cause::Memory),
+        Err(PrintFault::Sink) => Err(Cause::Output),
+        Err(PrintFault::Memory) => Err(Cause::Memory),
     }
 }

@@ -2,4 +2,3 @@ pub mod UnitSums
 pub mod SourceMeans
 pub mod SharedMeans
 pub mod ColumnPoints
-pub mod CornerSums

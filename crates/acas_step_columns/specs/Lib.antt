@@ -1,2 +1,1 @@
 pub mod ColumnSums
-pub mod WideSums

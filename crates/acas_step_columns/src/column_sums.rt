@@ -1,62 +1,29 @@
 //! The sums of a column in 64 bits: those of both sides over the points to which a second leads from each of its vertices under an
 //! advisory, where no cell is too wide. A sigma point leads from all of them to the same rates, so that the values of the layer below
 //! are blended there once for each altitude.
-ghost use Rattle.std.specs.Prelude.{◌≡◌, ℕ, ◌+◌, ◌*◌, ◌^◌, ◌<◌, ◌≤◌, true, List, length, IfSome};
+ghost use Rattle.std.specs.Prelude.{◌≡◌, ◌+◌, ◌*◌, ◌^◌, ◌<◌, true, List, length, IfSome};
 ghost use Rattle.acas_spec.specs.Model.{states, total_weight, vertices};
 ghost use Rattle.acas_grid.specs.States as numbers;
 ghost use Rattle.acas_process.specs.Step as process;
 ghost use Rattle.acas_step.specs.Columns.{columns, vertex_in};
-ghost use Rattle.acas_step_columns.specs.ColumnSums.{AreBlends, AreBlendsWithin, AreColumnSums, AreSumsWithin, HasColumn};
-ghost use Rattle.acas_step_stencils.specs.Units.{HoldsRates};
-ghost use Rattle.acas_step.specs.Ends.{FitsGrid};
+ghost use Rattle.acas_step_columns.specs.ColumnSums.{HasColumn};
+ghost use Rattle.acas_step_stencils.specs.Cells.{HoldsRates};
 ghost use Rattle.acas_step.specs.Layer.{AreWithin};
+ghost use Rattle.acas_step_narrow.specs.ColumnBlends.{AreBlends, AreBlendsWithin, AreColumnSums, AreSumsWithin};
 ghost use Rattle.acas_step_narrow.specs.Narrow.{IsRaisedPoint};
-ghost use Rattle.acas_step_narrow.specs.Raised.{AreRaisedWithin, HasRoom, raised_in};
+ghost use Rattle.acas_step_narrow.specs.Raised.{AreRaisedWithin};
 ghost use Rattle.acas_step_stencils.specs.Stencils.{AreStencilsOf, HaveStencil, IsRise};
 ghost use Rattle.acas_step.specs.declared.layer.Side.TheVariants.{Upper, Lower};
 ghost use Rattle.acas_units.specs.declared.pair.Pair.{Pair};
 
 use acas_base::Model;
-use acas_grid::Grid;
-use acas_step::{Cell, Reach, column_count, column_of_cell, first_state, sigma_count};
+use acas_step::{Cell, Reach, first_state, sigma_count};
 use acas_step_narrow::{
-    Raised, SideColumn, along_h, along_rates, narrow_weight, quotient_down, quotient_up,
-    rate_weights, with_point,
+    Raised, SideColumn, along_h, clear_sums, fill_blends, narrow_weight, quotient_down,
+    quotient_up, with_point,
 };
 use acas_step_stencils::{Rise, Stencils};
 use acas_units::Pair;
-
-// Writes the values of a layer, blended on both rates of a cell, for each place of the altitudes, where those of an advisory begin
-// at `first`. It stands by itself, so that its loop has the registers.
-#[inline(never)]
-fn fill_blends(
-    grid: &Grid,
-    cell: &Cell,
-    first: usize,
-    by: u64,
-    below: &[Pair],
-    uppers: &mut SideColumn,
-    lowers: &mut SideColumn,
-)
-    requires fits { FitsGrid grid.now cell.now }
-    requires first { first + vertices grid.now ≤ length below.now }
-    requires upper { AreWithin by Upper below.now }
-    requires lower { AreWithin by Lower below.now }
-    requires room { HasRoom (2 * by) cell.now }
-    ensures blends { AreBlends grid.now cell.now first by below.now uppers.new lowers.new }
-    ensures within { AreBlendsWithin grid.now cell.now by uppers.new lowers.new }
-{
-    let row = grid.v1.len() as usize;
-    let columns = column_count(grid) as usize;
-    let weights = rate_weights(cell, by);
-    let mut at = first + column_of_cell(grid, cell) as usize;
-    for i in 0..grid.h.len() {
-        let blend = along_rates(below, at, row, &weights);
-        uppers[i as usize] = blend.upper;
-        lowers[i as usize] = blend.lower;
-        at += columns;
-    }
-}
 
 // Both sides at the point to which a sigma point leads from the vertex of a column at a place of the altitudes, where its cell is not
 // too wide: by the rise of the column, and by the blends at the rates of a cell that holds the rates of the point.
@@ -164,17 +131,6 @@ fn add_points(
         }
     }
     true
-}
-
-// Writes the sums over no point.
-fn clear_sums(model: &Model, uppers: &mut SideColumn, lowers: &mut SideColumn)
-    ensures { (i : ℕ) → i < length model.now.grid.h
-        → raised_in uppers.new lowers.new i ≡ record { upper = 0; lower = 0 } }
-{
-    for i in 0..model.grid().h.len() as usize {
-        uppers[i] = 0;
-        lowers[i] = 0;
-    }
 }
 
 /// Writes the sums over all points to which a second leads from the vertices of a column under an advisory, and says whether no cell

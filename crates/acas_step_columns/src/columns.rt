@@ -10,14 +10,14 @@ ghost use Rattle.acas_step_stencils.specs.Stencils.{AreStencilsOf};
 ghost use Rattle.acas_step.specs.declared.layer.Side.{Side};
 
 use crate::column_sums::fill_sums;
-use crate::wide_means::{WIDE_SIZE, wide_means};
+use crate::wide_means::wide_means;
 use acas_base::Model;
 use acas_frac::{Down, Up};
 use acas_step::{
     Changes, ColumnMeans, Reach, Side, VertexMeans, advisory_count, changes_from, first_twin,
     mean_by, own_rate_at, vertex_in_column,
 };
-use acas_step_narrow::{Raised, SideColumn, means_of_sums};
+use acas_step_narrow::{Raised, SideColumn, WIDE_SIZE, means_of_sums};
 use acas_step_stencils::Stencils;
 use acas_units::{GREATEST_ADVISORIES, GREATEST_VERTICES, Pair};
 

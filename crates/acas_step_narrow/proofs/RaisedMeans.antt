@@ -1,9 +1,12 @@
 -- One more point in the sums of raised values, and their means.
-use Rattle.std.proofs.Common.{◌≡◌, ℕ, suc, ◌+◌, ◌*◌, ◌^◌, ◌<◌, ◌≤◌, ℤ, pos, ◌+ℤ◌, ◌*ℤ◌, List, length, mul-le-mul_left, ap, ◌∙◌, arith}
+use Rattle.std.proofs.Common.{◌≡◌, ℕ, suc, ◌+◌, ◌*◌, ◌^◌, ◌<◌, ◌≤◌, ℤ, pos, ◌+ℤ◌, ◌*ℤ◌, List, length, mul-le-mul_left, ap, sym, ◌∙◌, arith}
 use Rattle.std.proofs.lemmas.Int.{ints}
+use Rattle.std.proofs.lemmas.List.{take_all}
 use Rattle.std.proofs.lemmas.List.Sums.{sum_by_more, sum_by_more_le}
+use Rattle.std.specs.List.{sum_by}
 use Rattle.acas_spec.specs.Limits.{IsModel}
 use Rattle.acas_spec.specs.Model.{GridData, ModelData, total_weight, vertices, weight_of}
+use Rattle.acas_spec.specs.declared.parts.SigmaPoint.{SigmaPoint}
 use Rattle.acas_spec.specs.declared.place.Point.{Point}
 use Rattle.acas_spec.specs.declared.place.Vertex.{Vertex}
 use Rattle.acas_frac.specs.Rounding.{IsRounding, down, up}
@@ -16,7 +19,8 @@ use Rattle.acas_process.proofs.MeanLaws.{grid_product_pos}
 use Rattle.acas_process.specs.Sums.{sum_below}
 use Rattle.acas_step.specs.Ends.{IsRound, weight_of_cell}
 use Rattle.acas_step.specs.Layer.{layer_values, value_at}
-use Rattle.acas_step_narrow.specs.Narrow.{AreRaisedSums, IsRaisedPoint, sum_over, weights_below}
+use Rattle.acas_step.specs.Means.{AreMeansAt}
+use Rattle.acas_step_narrow.specs.Narrow.{AreRaisedSums, IsRaisedPoint, point_sum, sum_over, weights_below}
 use Rattle.acas_step_narrow.specs.Raised.{AreRaisedWithin}
 use Rattle.acas_step.specs.declared.cell.Cell.{Cell}
 use Rattle.acas_step.specs.declared.layer.Side.{Side}
@@ -85,3 +89,19 @@ interpolated_is round way m s t a side below valid is =
     quotient_is round way (grid_product g) (pos (weight_of_cell t)) (sum_over g t (a * vertices g) side below)
     (over_vertices g (λ y. pos (share g s y) *ℤ v (vertex_number g y)))
     (grid_product_pos g valid.grid) (omega (arith, ints, weight_of_cell-pos g s t valid.grid is)) (ends_interpolate g s t v valid.grid is)
+
+pub whole_weight : (m : ModelData) → weights_below m (length m.sigmas) ≡ total_weight m
+whole_weight m = ap (λ (sigmas : List SigmaPoint). sum_by weight_of sigmas) (take_all (length m.sigmas) m.sigmas (omega arith))
+
+-- the sums over all points, by the whole weight, are the means
+pub means_of_all : (m : ModelData) (below : List Pair) (by total : ℕ) (x : Vertex) (a : ℕ) (sums : Raised) (pair : Pair) → total ≡ total_weight m → AreRaisedSums m below by x a (length m.sigmas) sums
+    → ((z : ℤ) → pos sums.upper ≡ z +ℤ pos (by * total) → pair.upper ≡ up z (pos total)) → ((z : ℤ) → pos sums.lower ≡ z +ℤ pos (by * total) → pair.lower ≡ down z (pos total))
+    → AreMeansAt m below x a pair
+means_of_all m below by total x a sums pair whole are above under =
+    let weight : weights_below m (length m.sigmas) ≡ total = whole_weight m ∙ sym whole in
+    let higher : ℤ = point_sum up m (layer_values Upper m.grid below) x a (length m.sigmas) in
+    let lower : ℤ = point_sum down m (layer_values Lower m.grid below) x a (length m.sigmas) in
+    record {
+      upper = above higher (are.upper ∙ ap (λ (w : ℕ). higher +ℤ pos (by * w)) weight) ∙ ap (λ (w : ℕ). up higher (pos w)) whole;
+      lower = under lower (are.lower ∙ ap (λ (w : ℕ). lower +ℤ pos (by * w)) weight) ∙ ap (λ (w : ℕ). down lower (pos w)) whole;
+    }

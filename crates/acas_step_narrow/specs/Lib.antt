@@ -1,2 +1,4 @@
+pub mod ColumnBlends
 pub mod Narrow
 pub mod Raised
+pub mod WideSums

@@ -54,8 +54,8 @@ pub fn with_point(sums: Raised, weight: u64, point: Raised) -> Raised
     }
 }
 
-// A raised number as it was.
-fn lowered(raised: u64, by: u64) -> i64
+/// A raised number, of at most twice the size by which it is raised, as it was.
+pub fn lowered(raised: u64, by: u64) -> i64
     requires within { raised ≤ 2 * by }
     requires room { 2 * by < 2 ^ 63 }
     ensures { result ≡ pos raised -ℤ pos by }

@@ -17,8 +17,8 @@ pub struct Raised {
     pub lower: u64,
 }
 
-// A value, raised.
-fn raise(value: i64, by: u64) -> u64
+/// A value, raised by a size that it does not exceed.
+pub(crate) fn raise(value: i64, by: u64) -> u64
     requires within { unsigned_abs value ≤ by }
     requires room { 2 * by < 2 ^ 63 }
     ensures value { result ≡ raised by value }

@@ -1,31 +1,18 @@
 -- Over heights with a gap of one size, the cells above the vertices of a column have the same gaps.
-use Rattle.std.proofs.Common.{◌≡◌, ℕ, ◌+◌, ◌*◌, ◌<◌, ◌≤◌, ℤ, List, length, get_or, refl, ap, sym, subst, ◌∙◌, arith}
+use Rattle.std.proofs.Common.{◌≡◌, ℕ, ◌+◌, ◌*◌, ◌<◌, ◌≤◌, List, length, refl, ap, sym, subst, ◌∙◌, arith}
 use Rattle.std.proofs.Math.Nat.{le_of_mul-le-mul_left}
-use Rattle.std.proofs.lemmas.Int.{ints}
-use Rattle.acas_spec.specs.Axis.{IsAxis}
 use Rattle.acas_spec.specs.Limits.{IsGrid}
 use Rattle.acas_spec.specs.Model.{GridData}
 use Rattle.acas_spec.specs.declared.place.Vertex.{Vertex}
 use Rattle.acas_grid.specs.States.{vertex_at}
-use Rattle.acas_process.specs.Axis.{gap}
-use Rattle.acas_process.proofs.AxisLaws.{next_above}
 use Rattle.acas_step.specs.Columns.{columns, vertex_in}
-use Rattle.acas_step_stencils.specs.Units.{AreHeights, AreUnits, IsEvenGap, IsVertexCell}
-use Rattle.acas_step_stencils.specs.declared.units.Units.{Units}
+use Rattle.acas_grid_units.specs.Heights.{AreHeights, IsEvenGap}
+use Rattle.acas_grid_units.specs.Units.{AreUnits}
+use Rattle.acas_step_stencils.specs.Cells.{IsVertexCell}
+use Rattle.acas_grid_units.specs.declared.units.Units.{Units}
 use Rattle.acas_step_stencils.specs.declared.vertex_cells.VertexCell.{VertexCell}
-use Rattle.acas_step_stencils.proofs.ColumnHeights.{height}
+use Rattle.acas_grid_units.proofs.EvenHeights.{even-gap}
 use Rattle.acas_step_stencils.proofs.ColumnVertices.{vertex_at-column, vertex_at-vertex_in}
-
--- the gap of the heights is that of the altitudes, in a unit
-even-gap : (axis : List ℤ) (unit even place : ℕ) (heights : List ℕ) → IsAxis axis → AreHeights axis unit heights → 0 < even → IsEvenGap heights even →
-    place + 1 < length axis → unit * even ≡ gap axis place
-even-gap axis unit even place heights rising are some same here =
-    let below : place < length axis = omega (arith, here) in
-    let low = height axis unit heights place rising are below in
-    let high = height axis unit heights (place + 1) rising are here in
-    let from : unit * get_or heights place 0 ≡ unit * (place * even) = ap (λ (n : ℕ). unit * n) (same.each some place (omega (arith, below, are.count))) in
-    let to : unit * get_or heights (place + 1) 0 ≡ unit * ((place + 1) * even) = ap (λ (n : ℕ). unit * n) (same.each some (place + 1) (omega (arith, here, are.count))) in
-    omega (arith, ints, low, high, from, to, next_above axis place rising here)
 
 -- two numbers are the same if so many times each of them is
 factor-same : (n a b : ℕ) → 0 < n → n * a ≡ n * b → a ≡ b

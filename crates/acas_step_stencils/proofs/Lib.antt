@@ -2,6 +2,5 @@ pub mod UnitLaws
 pub mod StencilLaws
 pub mod ColumnVertices
 pub mod ColumnHeights
-pub mod EvenHeights
 pub mod EvenCells
 pub mod ColumnCells

@@ -16,19 +16,12 @@ use Rattle.acas_process.specs.Axis.{distance, gap}
 use Rattle.acas_process.proofs.AxisLaws.{distance-add}
 use Rattle.acas_step.specs.Columns.{column_of, columns}
 use Rattle.acas_step.specs.Ends.{FitsGrid, IsEnds, IsRound}
-use Rattle.acas_step_stencils.specs.Stencils.{IsAbove, IsColumnStencil, IsStencilNumbered, IsStencilOf, stencil_count}
+use Rattle.acas_grid_units.specs.Units.{IsAbove}
+use Rattle.acas_step_stencils.specs.Stencils.{IsColumnStencil, IsStencilNumbered, IsStencilOf, stencil_count}
 use Rattle.acas_step.specs.declared.cell.Cell.{Cell}
 use Rattle.acas_step.specs.declared.cell.Ends.{Ends}
+use Rattle.acas_grid_units.specs.declared.units.Units.{Units}
 use Rattle.acas_step_stencils.specs.declared.column_stencils.ColumnStencil.{ColumnStencil}
-use Rattle.acas_step_stencils.specs.declared.units.Units.{Units}
-
--- the same of an axis and a place that are written in another way
-pub above-same : {axis axis' : List ℤ} {place place' : ℕ} (unit : ℕ) (x : ℤ) (offset : ℕ) → axis ≡ axis' → place ≡ place' → IsAbove axis unit x place offset → IsAbove axis' unit x place' offset
-above-same {axis} {axis'} {place} {place'} unit x offset p q is = subst (λ (a : List ℤ). IsAbove a unit x place' offset) p (subst (λ (k : ℕ). IsAbove axis unit x k offset) q is)
-
--- an offset is at most the gap of its cell
-pub offset-le : (axis : List ℤ) (unit : ℕ) (x : ℤ) (place offset : ℕ) → IsAbove axis unit x place offset → unit * offset ≤ gap axis place
-offset-le axis unit x place offset is = omega (arith, is.above, distance-add (place_value axis place) x (place_value axis (place + 1)) is.cell.lower is.cell.upper)
 
 -- what is left of the gap is the distance to the upper end
 pub above-IsEnds : (axis : List ℤ) (unit : ℕ) (x : ℤ) (e : Ends) (offset : ℕ) → IsAbove axis unit x e.cell offset → e.upper ≡ unit * offset → e.lower + e.upper ≡ gap axis e.cell → IsEnds axis x e

@@ -1,50 +1,33 @@
--- Units of the axes, and what is counted in them.
-use Rattle.std.proofs.Common.{◌≡◌, ℕ, ◌+◌, ◌*◌, ◌<◌, ◌≤◌, ℤ, unsigned_abs, List, length, get_or, mul-le-mul_right, refl, ap, sym, subst, ◌∙◌, arith}
-use Rattle.std.specs.Int.{◌∣◌}
+-- What is counted in units of the axes: gaps, stencils and cells.
+use Rattle.std.proofs.Common.{◌≡◌, ℕ, ◌+◌, ◌*◌, ◌<◌, ◌≤◌, ℤ, List, length, get_or, mul-le-mul_right, refl, ap, sym, subst, ◌∙◌, arith}
 use Rattle.std.proofs.lemmas.Int.{ints}
 use Rattle.std.proofs.lemmas.List.{get_or_default}
 use Rattle.std.proofs.lemmas.Nat.Gcd.{dvd_trans}
-use Rattle.std.proofs.Math.Nat.{le_of_mul-le-mul_left}
 use borrow.Author.Count.{below_more}
-use Rattle.acas_spec.specs.Axis.{IsAxis, IsWithin, place_value}
+use Rattle.acas_spec.specs.Axis.{place_value}
 use Rattle.acas_spec.specs.Limits.{IsGrid}
 use Rattle.acas_spec.specs.Model.{GridData}
 use Rattle.acas_spec.specs.declared.place.Point.{Point}
 use Rattle.acas_spec.specs.declared.place.Vertex.{Vertex}
-use Rattle.acas_spec.proofs.Bounds.{unsigned_abs-within}
 use Rattle.acas_grid.specs.Grid.{vertex_number}
 use Rattle.acas_grid.specs.States.{vertex_at}
 use Rattle.acas_grid.proofs.StateNumbers.{vertex_number-vertex_at}
 use Rattle.acas_process.specs.Axis.{gap}
-use Rattle.acas_process.proofs.AxisLaws.{distance-add, next_above}
+use Rattle.acas_process.proofs.AxisLaws.{distance-add}
 use Rattle.acas_step.specs.Ends.{FitsAxis, IsRound}
 use Rattle.acas_step.specs.Sizes.{altitude_gap, rate_gap}
-use Rattle.acas_step_stencils.specs.Stencils.{IsAbove, IsColumnStencil}
-use Rattle.acas_step_stencils.specs.Units.{AreGapsWithin, AreUnits, DivideGaps, DivideOffsets, DivideUnits, DividesGaps, IsCountedIn, IsEndsIn, IsGapIn, IsKnownCell, IsRoundIn, IsVertexCell}
+use Rattle.acas_grid_units.specs.Units.{AreGapsWithin, AreUnits, DivideUnits, IsAbove, IsGapIn}
+use Rattle.acas_step_stencils.specs.Stencils.{DivideOffsets, IsColumnStencil, IsCountedIn}
+use Rattle.acas_step_stencils.specs.Cells.{IsEndsIn, IsKnownCell, IsRoundIn, IsVertexCell}
 use Rattle.acas_step.specs.declared.cell.Cell.{Cell}
 use Rattle.acas_step.specs.declared.cell.Ends.{Ends}
+use Rattle.acas_grid_units.specs.declared.units.Units.{Units}
 use Rattle.acas_step_stencils.specs.declared.column_stencils.ColumnStencil.{ColumnStencil}
-use Rattle.acas_step_stencils.specs.declared.units.Units.{Units}
 use Rattle.acas_step_stencils.specs.declared.vertex_cells.VertexCell.{VertexCell}
-use Rattle.acas_step.proofs.CornerLaws.{factor_pos, fits_grid}
-use Rattle.acas_step_stencils.proofs.StencilLaws.{above-same, offset-le}
+use Rattle.acas_step.proofs.CornerLaws.{fits_grid}
+use Rattle.acas_grid_units.proofs.GapLaws.{above-counted, above-same, gaps_within}
 
 -- ---- gaps
-
--- a factor of a number above 0 is above 0
-pub factor_some : (a b n : ℕ) → a * b ≡ n → 0 < n → 0 < b
-factor_some a b n e some = factor_pos n b a some (omega (arith, e))
-
-pub gap_some : (axis : List ℤ) (k : ℕ) → IsAxis axis → k + 1 < length axis → 0 < gap axis k
-gap_some axis k rising here = omega (arith, ints, next_above axis k rising here)
-
-gaps_within : (axis : List ℤ) (least greatest : ℤ) (most : ℕ) → IsWithin least greatest axis → unsigned_abs least ≤ most → unsigned_abs greatest ≤ most → AreGapsWithin axis (2 * most)
-gaps_within axis least greatest most near bottom top = record {
-  each = λ k here.
-      let low = unsigned_abs-within most least greatest axis k near (omega (arith, here)) bottom top in
-      let high = unsigned_abs-within most least greatest axis (k + 1) near here bottom top in
-      omega (arith, ints, low, high);
-}
 
 pub altitude_gaps : (g : GridData) → IsGrid g → AreGapsWithin g.h altitude_gap
 altitude_gaps g valid = gaps_within g.h _ _ 1200000 valid.altitudes_within (omega arith) (omega arith)
@@ -56,17 +39,6 @@ pub intruder_gaps : (g : GridData) → IsGrid g → AreGapsWithin g.v1 rate_gap
 intruder_gaps g valid = gaps_within g.v1 _ _ 10000 valid.intruder_within (omega arith) (omega arith)
 
 -- ---- units that divide
-
--- a number that divides a unit divides each gap that the unit divides
-pub gaps_finer : (axis : List ℤ) (u w : ℕ) → u ∣ w → DividesGaps axis w → DividesGaps axis u
-gaps_finer axis u w finer divides = record { each = λ k here. dvd_trans u finer (divides.each k here) }
-
-pub grid_finer : (g : GridData) (u w : Units) → DivideUnits u w → DivideGaps g w → DivideGaps g u
-grid_finer g u w finer divide = record {
-  h = gaps_finer g.h u.h w.h finer.h divide.h;
-  v0 = gaps_finer g.v0 u.v0 w.v0 finer.v0 divide.v0;
-  v1 = gaps_finer g.v1 u.v1 w.v1 finer.v1 divide.v1;
-}
 
 offsets_finer : (u w : Units) (s : ColumnStencil) → DivideUnits u w → DivideOffsets w s → DivideOffsets u s
 offsets_finer u w s finer divide = record {
@@ -84,11 +56,6 @@ offsets_more u w xs i e inside finer before here = λ n d.
 
 -- ---- stencils that are counted in units
 
-above-counted : (axis : List ℤ) (unit : ℕ) (x : ℤ) (place place' offset counted : ℕ) → place' ≡ place → IsAbove axis 1 x place offset → unit * counted ≡ offset → IsAbove axis unit x place' counted
-above-counted axis unit x place place' offset counted at is e =
-    let here : IsAbove axis unit x place counted = record { cell = is.cell; above = omega (arith, e, is.above) } in
-    above-same unit x counted refl (sym at) here
-
 pub stencil-counted : (g : GridData) (u : Units) (x : Point) (rise : ℤ) (s counted : ColumnStencil) → IsColumnStencil g (record { h = 1; v0 = 1; v1 = 1 }) x rise s → IsCountedIn u s counted → IsColumnStencil g u x rise counted
 stencil-counted g u x rise s counted is of = record {
   column = omega (arith, is.column, of.column);
@@ -97,11 +64,6 @@ stencil-counted g u x rise s counted is of = record {
   climb = of.climb ∙ omega (arith, ints, is.climb);
   small = of.small;
 }
-
--- an offset in a unit is at most the gap in it
-pub offset-within : (axis : List ℤ) (unit place units : ℕ) (x : ℤ) (offset : ℕ) → 0 < unit → IsGapIn axis unit place units → IsAbove axis unit x place offset → offset ≤ units
-offset-within axis unit place units x offset some gaps is =
-    le_of_mul-le-mul_left {k = unit} (omega (arith, offset-le axis unit x place offset is, gaps.whole is.cell.before_last)) some
 
 -- what is left of the gap in a unit is the distance to the upper end in it
 pub ends_in-IsEndsIn : (axis : List ℤ) (unit place units : ℕ) (x : ℤ) (offset : ℕ) (e : Ends) → IsGapIn axis unit place units → IsAbove axis unit x place offset →

@@ -1,2 +1,2 @@
-pub mod Units
+pub mod Cells
 pub mod Stencils

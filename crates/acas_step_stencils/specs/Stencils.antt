@@ -1,30 +1,26 @@
 -- Where the sigma points lead from each column of vertices under each advisory, found before the layers are formed.
 use Rattle.std.specs.Prelude.{◌≡◌, ℕ, ◌*◌, ◌/◌, ◌%◌, ◌<◌, ◌≤◌, ℤ, pos, ◌-ℤ◌, ◌*ℤ◌, unsigned_abs, List, length, get_or, if◌then◌else◌, nat_eq}
+use Rattle.std.specs.Int.{◌∣◌}
 use Rattle.acas_spec.specs.Axis.{place_value}
 use Rattle.acas_spec.specs.Model.{GridData, ModelData, total_weight, vertices}
 use Rattle.acas_spec.specs.declared.place.Point.{Point}
 use Rattle.acas_spec.specs.declared.place.Vertex.{Vertex}
-use Rattle.acas_grid.specs.Axis.{IsCell}
 use Rattle.acas_grid.specs.States.{vertex_at}
-use Rattle.acas_process.specs.Axis.{distance}
 use Rattle.acas_process.specs.Step.{moved}
 use Rattle.acas_frac.specs.Divisor.{IsDivisor}
 use Rattle.acas_frac.specs.declared.divisor.Divisor.{Divisor}
 use Rattle.acas_step.specs.Columns.{columns}
 use Rattle.acas_step.specs.Second.{led_past}
-use Rattle.acas_step_stencils.specs.Units.{AreHeights, AreUnits, AreVertexCells, IsEvenGap, IsInGaps, IsVertexCell}
+use Rattle.acas_grid_units.specs.Heights.{AreHeights, IsEvenGap, IsInGaps}
+use Rattle.acas_grid_units.specs.Units.{AreUnits, IsAbove}
+use Rattle.acas_step_stencils.specs.Cells.{AreVertexCells, IsVertexCell}
+use Rattle.acas_grid_units.specs.declared.units.Units.{Units}
 use Rattle.acas_step_stencils.specs.declared.column_stencils.ColumnStencil.{ColumnStencil}
 use Rattle.acas_step_stencils.specs.declared.stencils.CellSize.{CellSize}
 use Rattle.acas_step_stencils.specs.declared.stencils.Rise.{Rise}
 use Rattle.acas_step_stencils.specs.declared.stencils.Stencil.{Stencil}
 use Rattle.acas_step_stencils.specs.declared.stencils.Stencils.{Stencils}
-use Rattle.acas_step_stencils.specs.declared.units.Units.{Units}
 use Rattle.acas_step_stencils.specs.declared.vertex_cells.VertexCell.{VertexCell}
-
--- a number is in the cell that begins at a place of an axis, so many units above that place
-pub record IsAbove (axis : List ℤ) (unit : ℕ) (x : ℤ) (place offset : ℕ) : Type 0 where
-  pub cell : IsCell axis place x
-  pub above : unit * offset ≡ distance (place_value axis place) x
 
 -- the stencil of a point: the number of the lower corner of its cell, and how far above that corner it is on each axis
 pub record IsStencil (g : GridData) (units : Units) (x : Point) (s : Stencil) : Type 0 where
@@ -45,6 +41,20 @@ pub record IsColumnStencil (g : GridData) (u : Units) (x : Point) (rise : ℤ) (
   pub v1 : IsAbove g.v1 u.v1 x.v1 (vertex_at g s.column).k s.v1
   pub climb : pos u.h *ℤ s.climb ≡ rise
   pub small : unsigned_abs s.climb ≤ 4_000_000
+
+-- units divide the climb and the offsets of a stencil
+pub record DivideOffsets (u : Units) (s : ColumnStencil) : Type 0 where
+  pub climb : u.h ∣ unsigned_abs s.climb
+  pub v0 : u.v0 ∣ s.v0
+  pub v1 : u.v1 ∣ s.v1
+
+-- a stencil is another one whose climb and offsets are counted in units
+pub record IsCountedIn (u : Units) (s counted : ColumnStencil) : Type 0 where
+  pub column : counted.column ≡ s.column
+  pub v0 : u.v0 * counted.v0 ≡ s.v0
+  pub v1 : u.v1 * counted.v1 ≡ s.v1
+  pub climb : pos u.h *ℤ counted.climb ≡ s.climb
+  pub small : unsigned_abs counted.climb ≤ 4_000_000
 
 -- the stencil of the column c, the advisory a and the sigma point q, by their numbers: from the lowest vertex of the column
 abbrev pub IsStencilOf : ModelData → Units → ℕ → ℕ → ℕ → ColumnStencil → Type 0

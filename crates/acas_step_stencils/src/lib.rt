@@ -2,10 +2,8 @@
 #![tactic(auto)]
 
 mod column_stencils;
-mod heights;
 mod stencil_corners;
 mod stencils;
-mod units;
 mod vertex_cells;
 
 pub use stencils::{Rise, Stencils};

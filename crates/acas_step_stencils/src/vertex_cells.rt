@@ -1,13 +1,14 @@
 //! The cell above each vertex, found once for all stencils that begin there.
-ghost use Rattle.std.specs.Prelude.{◌≡◌, ℕ, ◌<◌, ◌≤◌, length, IfOk};
+ghost use Rattle.std.specs.Prelude.{◌≡◌, ◌<◌, length, IfOk};
 ghost use Rattle.acas_spec.specs.Limits.{IsGrid};
 ghost use Rattle.acas_spec.specs.Model.{vertices};
 ghost use Rattle.acas_grid.specs.States as numbers;
-ghost use Rattle.acas_step_stencils.specs.Units.{AreGapsWithin, AreUnits, AreVertexCells, DivideGaps, DividesGaps, IsGapIn, IsVertexCell};
+ghost use Rattle.acas_grid_units.specs.Units.{AreUnits, DivideGaps};
+ghost use Rattle.acas_step_stencils.specs.Cells.{AreVertexCells, IsVertexCell};
 
-use crate::units::{Units, gap_at};
 use acas_frac::Divisor;
-use acas_grid::{Axis, Grid, vertex_at};
+use acas_grid::{Grid, vertex_at};
+use acas_grid_units::{Units, gap_in};
 use acas_step::product;
 use std::alloc::{AllocError, Global};
 
@@ -22,21 +23,6 @@ pub(crate) struct VertexCell {
     pub(crate) v0: u32,
     pub(crate) v1: u32,
     pub(crate) divisor: Divisor,
-}
-
-// The gap from a place of an axis to the next in a unit that divides it, and 1 at the last place.
-fn gap_in(axis: &Axis, unit: u64, place: u32) -> u64
-    requires some { 0 < unit }
-    requires gaps { DividesGaps axis.now unit }
-    requires place { place < length axis.now }
-    ensures gap { IsGapIn axis.now unit place result }
-    ensures small { (most : ℕ) → AreGapsWithin axis.now most → 0 < most → result ≤ most }
-{
-    let count = axis.len();
-    if place + 1 == count {
-        return 1;
-    }
-    gap_at(axis, place) / unit
 }
 
 // The cell above the vertex of a number.

@@ -41,7 +41,7 @@ pub struct TableReader {
 }
 
 impl TableReader {
-    ghost use Rattle.std.specs.Prelude.{◌≡◌, ◌≤◌, ◌<◌, ◌+◌, List, ℕ, false, is_ok, IsTrue, IsErrOf, Ok, IfOk, IfSome, OnOk, OnErr};
+    ghost use Rattle.std.specs.Prelude.{◌≡◌, ◌≤◌, ◌<◌, ◌+◌, List, ℕ, false, is_ok, IsTrue, IsErrOf, Ok, Some, IfOk, IfSome, OnOk, OnErr};
     ghost use Rattle.acas_outside.specs.Counts.{raised};
     ghost use Rattle.acas_outside.specs.Files.{Given};
     ghost use Rattle.acas_outside.specs.Frame.{OnlyReads};
@@ -166,7 +166,8 @@ impl TableReader {
     /// The next entry, where nothing is to be done but to take it: its bytes are at hand, no digest is to be read before it, its advice
     /// is one that it may have, and no fault was found. It is not taken yet.
     pub fn peek(&self) -> Option<Entry>
-        ensures { IfSome result (IsNext self.now) }
+        ensures at_hand { IfSome result (IsNext self.now) }
+        ensures all { (entry : EntryData) → IsNext self.now entry → result ≡ Some entry }
     {
         if self.fault.is_some() || self.place.left == 0 {
             return None;

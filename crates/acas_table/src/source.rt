@@ -48,6 +48,7 @@ impl Source {
     ghost use Rattle.acas_table_text.specs.Faults.{end_fault, fault_at, fields_fault, more_fault, width_of, widths};
     ghost use Rattle.acas_outside.specs.Files.{Given};
     ghost use Rattle.acas_outside.specs.Bytes.{IsBytes};
+    ghost use Rattle.acas_units.specs.declared.pair.Entry.{Entry as EntryData};
     ghost use Rattle.acas_table.specs.AtHand.{HasAtHand};
     ghost use Rattle.acas_table.specs.Source.{IsAt, IsAtFile, Moves, Checks, Fills, Finds, ReadsTable, Steps, bytes_taken};
 
@@ -297,7 +298,8 @@ impl Source {
 
     /// The next entry of the file, where all its bytes are at hand.
     pub fn peek(&self) -> Option<Entry>
-        ensures { IfSome result (HasAtHand self.now) }
+        ensures at_hand { IfSome result (HasAtHand self.now) }
+        ensures all { (entry : EntryData) → HasAtHand self.now entry → result ≡ Some entry }
     {
         if self.to - self.from < ENTRY {
             return None;

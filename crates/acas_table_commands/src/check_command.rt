@@ -11,12 +11,13 @@ ghost use Rattle.acas_table_commands.specs.Calls.{CallsForCheck};
 use acas_command::{Cause, put_count, put_text, read_model_file};
 use acas_grid::Grid;
 use acas_outside::{Folder, Sink, emit};
+use acas_step::LayerMeans;
 use acas_table_file::read_table_file;
 use acas_units::Line;
 use std::alloc::Global;
 
 /// Checks a table of a model, and prints how large it is where it is accepted.
-pub fn check<F: Folder, O: Sink>(
+pub fn check<M: LayerMeans, F: Folder, O: Sink>(
     alloc: Global,
     model: &str,
     table: &str,
@@ -35,7 +36,7 @@ pub fn check<F: Folder, O: Sink>(
 {
     let found = read_model_file(alloc, model, folder)?;
     let mut line = Line::make(alloc)?;
-    read_table_file(alloc, &found, table, folder)?;
+    read_table_file::<M, F>(alloc, &found, table, folder)?;
     write_line(&mut line, found.model.grid());
     match emit(out, line.bytes()) {
         Ok(()) => Ok(()),

@@ -12,7 +12,6 @@ use acas_outside::{Folder, Sink, emit};
 use acas_plane::Turned;
 use acas_step::LayerMeans;
 use acas_step_choices::Backups;
-use acas_step_columns::StencilMeans;
 use acas_sweep::SweepRoom;
 use acas_table::TableWriter;
 use acas_table_rows::store_swept;
@@ -22,7 +21,7 @@ use std::alloc::Global;
 /// Stores the compiled table of a model under another name, in version 2, and then prints how large it is. It takes all
 /// its memory before it creates the table's file. It counts the backups and the turned pairs of its sweep; each count
 /// is to be at most 2^63 before.
-pub fn compile<F: Folder, O: Sink>(
+pub fn compile<M: LayerMeans, F: Folder, O: Sink>(
     alloc: Global,
     model: &str,
     table: &str,
@@ -46,7 +45,7 @@ pub fn compile<F: Folder, O: Sink>(
         turned.old turned.new }
 {
     let found = read_model_file(alloc, model, folder)?;
-    let means = StencilMeans::make(alloc, &found.model)?;
+    let means = M::make(alloc, &found.model)?;
     let mut room = SweepRoom::make(alloc, &found.model)?;
     let writer = TableWriter::new(alloc, &found.model, &found.digest)?;
     let mut line = Line::make(alloc)?;

@@ -10,6 +10,7 @@ ghost use Rattle.acas_table_commands.specs.Calls.{CallsForMigrate};
 use crate::stored_line::write_stored_line;
 use acas_command::{Cause, read_model_file};
 use acas_outside::{Folder, Sink, emit};
+use acas_step::LayerMeans;
 use acas_table::TableWriter;
 use acas_table_file::read_table_layers;
 use acas_table_rows::store_layers;
@@ -18,7 +19,7 @@ use std::alloc::Global;
 
 /// Checks a table of a model, of either version, stores its values and advices under another name in version 2, and
 /// then prints how large that file is. It takes all its memory before it creates the file.
-pub fn migrate<F: Folder, O: Sink>(
+pub fn migrate<M: LayerMeans, F: Folder, O: Sink>(
     alloc: Global,
     model: &str,
     table: &str,
@@ -38,7 +39,7 @@ pub fn migrate<F: Folder, O: Sink>(
     ensures output { O.faults out.old ≤ O.faults out.new }
 {
     let found = read_model_file(alloc, model, folder)?;
-    let layers = read_table_layers(alloc, &found, table, folder)?;
+    let layers = read_table_layers::<M, F>(alloc, &found, table, folder)?;
     let writer = TableWriter::new(alloc, &found.model, &found.digest)?;
     let mut line = Line::make(alloc)?;
     let length = match store_layers(&found, &layers, writer, folder, target) {

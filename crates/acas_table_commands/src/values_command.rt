@@ -11,14 +11,13 @@ use acas_outside::{Folder, Sink};
 use acas_plane::Turned;
 use acas_step::LayerMeans;
 use acas_step_choices::Backups;
-use acas_step_columns::StencilMeans;
 use acas_sweep::SweepRoom;
 use acas_table_lines::{Pen, print_table};
 use std::alloc::Global;
 
 /// Prints the compiled table of a model, layer by layer as the sweep goes. It takes all its memory before the first
 /// byte goes out. It counts the backups and the turned pairs of its sweep; each count is to be at most 2^63 before.
-pub fn values<F: Folder, O: Sink>(
+pub fn values<M: LayerMeans, F: Folder, O: Sink>(
     alloc: Global,
     model: &str,
     folder: &mut F,
@@ -41,7 +40,7 @@ pub fn values<F: Folder, O: Sink>(
 {
     let found = read_model_file(alloc, model, folder)?;
     let mut pen = Pen::make(alloc)?;
-    let means = StencilMeans::make(alloc, &found.model)?;
+    let means = M::make(alloc, &found.model)?;
     let mut room = SweepRoom::make(alloc, &found.model)?;
     match print_table(
         &found.model,

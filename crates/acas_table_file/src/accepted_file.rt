@@ -11,12 +11,12 @@ use acas_accept::{AcceptFault, accept};
 use acas_base::Advices;
 use acas_command::{Cause, FileRole, ModelFile};
 use acas_outside::Folder;
-use acas_step_columns::StencilMeans;
+use acas_step::LayerMeans;
 use std::alloc::Global;
 
 /// Reads and checks the file of a table and gives its advices, or gives the cause that ends every command that reads
 /// one.
-pub fn read_table_file<F: Folder>(
+pub fn read_table_file<M: LayerMeans, F: Folder>(
     alloc: Global,
     found: &ModelFile,
     name: &str,
@@ -32,7 +32,7 @@ pub fn read_table_file<F: Folder>(
     ensures frame { OnlyReads F.Folder folder.old folder.new
         (IsErrOf result Cause.Folder) (IsErrOf result (Cause.Absent FileRole.Table)) }
 {
-    match accept::<StencilMeans, F>(alloc, &found.model, &found.digest, folder, name) {
+    match accept::<M, F>(alloc, &found.model, &found.digest, folder, name) {
         Ok(advices) => Ok(advices),
         Err(AcceptFault::Refused(refusal)) => Err(Cause::Table(refusal)),
         Err(AcceptFault::Absent) => Err(Cause::Absent(FileRole::Table)),

@@ -11,12 +11,12 @@ use acas_accept::{AcceptFault, accept_layers};
 use acas_command::{Cause, FileRole, ModelFile};
 use acas_layers::Layers;
 use acas_outside::Folder;
-use acas_step_columns::StencilMeans;
+use acas_step::LayerMeans;
 use std::alloc::Global;
 
 /// Reads and checks the file of a table and gives its layers, or gives the cause that ends every command that reads
 /// one.
-pub fn read_table_layers<F: Folder>(
+pub fn read_table_layers<M: LayerMeans, F: Folder>(
     alloc: Global,
     found: &ModelFile,
     name: &str,
@@ -32,7 +32,7 @@ pub fn read_table_layers<F: Folder>(
     ensures frame { OnlyReads F.Folder folder.old folder.new
         (IsErrOf result Cause.Folder) (IsErrOf result (Cause.Absent FileRole.Table)) }
 {
-    match accept_layers::<StencilMeans, F>(alloc, &found.model, &found.digest, folder, name) {
+    match accept_layers::<M, F>(alloc, &found.model, &found.digest, folder, name) {
         Ok(layers) => Ok(layers),
         Err(AcceptFault::Refused(refusal)) => Err(Cause::Table(refusal)),
         Err(AcceptFault::Absent) => Err(Cause::Absent(FileRole::Table)),

@@ -4,6 +4,7 @@ ghost use Rattle.std.specs.Prelude.{◌≤◌};
 use acas_command::Cause;
 use acas_drill::drill;
 use acas_outside::MemorySink;
+use acas_step_columns::StencilMeans;
 use acas_units::GREATEST_DRILL_NUMBER;
 use std::alloc::Global;
 use std::test::Fail;
@@ -17,7 +18,7 @@ fn prints(alloc: Global, number: u32, lines: &str, reported: u64) -> Option<bool
     requires { number ≤ GREATEST_DRILL_NUMBER }
 {
     let mut out = MemorySink::new(alloc, Vec::new(alloc), 65_536).ok()?;
-    let answer = drill(alloc, number, &mut out).ok()?;
+    let answer = drill::<StencilMeans, MemorySink>(alloc, number, &mut out).ok()?;
     Some(answer == reported && out.written() == lines.as_bytes())
 }
 
@@ -26,7 +27,7 @@ fn fails(alloc: Global, write: u64, most: u32, count: usize) -> Option<bool>
     requires { 1 ≤ most }
 {
     let mut out = MemorySink::new(alloc, [write].to_vec(alloc).ok()?, most).ok()?;
-    let answer = drill(alloc, 0, &mut out);
+    let answer = drill::<StencilMeans, MemorySink>(alloc, 0, &mut out);
     let begun = FIRST.as_bytes().get(..count)?;
     Some(matches!(answer, Err(Cause::Output)) && out.written() == begun)
 }

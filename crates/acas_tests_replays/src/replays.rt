@@ -1,6 +1,6 @@
 //! Whole replays.
 use crate::rows::printed;
-use acas_replay::ReplayFault;
+use acas_print::PrintFault;
 use std::test::Fail;
 
 // A second that is in contact only between its ends, and then one that is not.
@@ -167,7 +167,7 @@ fn a_failing_sink_is_named(rt: HostRuntime) -> Result<(), Fail> {
         let mut writes = Vec::new(alloc);
         writes.push(failing)?;
         let got = printed(alloc, row, writes, most).ok_or("parts")?;
-        assert!(rt; got.answer == Err(ReplayFault::Sink));
+        assert!(rt; got.answer == Err(PrintFault::Sink));
         assert_eq!(rt; got.text.len(), want);
     }
     Ok(())

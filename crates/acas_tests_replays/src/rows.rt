@@ -1,13 +1,14 @@
 //! Rows: a model, the advices of a table, an encounter, and what its replay prints.
 use crate::parts::{advices_of, encounter_of, model_with};
 use acas_outside::MemorySink;
-use acas_replay::{ReplayFault, replay};
+use acas_print::PrintFault;
+use acas_replay::replay;
 use std::alloc::Global;
 
 /// What a row gives, behind its parts: how many seconds are in contact, or why the replay was not written, and what was.
 #[derive(Drop)]
 pub struct Outcome {
-    pub answer: Result<u32, ReplayFault>,
+    pub answer: Result<u32, PrintFault>,
     pub text: Vec<u8>,
 }
 

@@ -1,10 +1,7 @@
 //! Entries that are held against the layer below, by its values and by its means. More of them are cases of `acas_cases`.
 use self::Wanted::{Allows, Needs, NotAllowed, Sound};
 use crate::models::{COSTLY, NOISY};
-use acas_bounds::{
-    BoundFault, Plane, check_at, check_by_means, check_entry, fill_leasts, fill_means,
-};
-use acas_grid::state_present;
+use acas_bounds::{BoundFault, check_by_means, check_entry, fill_means};
 use acas_tests_data::model_of;
 use acas_units::{Entry, Pair};
 use std::alloc::Global;
@@ -48,7 +45,7 @@ impl Wanted {
     }
 }
 
-// What all three checks answer of an entry over a layer below, or None where they differ.
+// What both checks answer of an entry over a layer below, or None where they differ.
 fn answer_of(
     alloc: Global,
     text: &str,
@@ -66,12 +63,7 @@ fn answer_of(
     fill_means(&model, below, &mut means);
     let by_values = check_entry(&model, n, state, &entry, below);
     let by_means = check_by_means(&model, n, state, &entry, &means);
-    let plane = Plane::new(&model, state_present(model.grid(), state));
-    let vertex = state % model.grid().vertices();
-    let mut leasts = vec![in alloc; 0i64; model.grid().vertices() as usize].ok()?;
-    fill_leasts(&model, &plane, &means, &mut leasts);
-    let by_leasts = check_at(&model, n, &plane, vertex, &entry, &means, Some(&leasts));
-    if by_values == by_means && by_means == by_leasts {
+    if by_values == by_means {
         Some(by_values)
     } else {
         None

@@ -1,17 +1,19 @@
-use Rattle.std.proofs.Common.{rules, w64, arith, ◌∙◌, ap}
-use Rattle.acas_spec.specs.Model.{vertices}
+use Rattle.std.proofs.Common.{◌-◌, rules, w64, get_or, arith}
 use Rattle.std.proofs.lemmas.Int.{to_z-of_z}
-use Rattle.std.proofs.lemmas.List.{length-set}
-use Rattle.acas_bounds.proofs.SharedChoices.{leasts_next}
+use Rattle.acas_bounds.specs.Leasts.{AreLowered}
+use Rattle.acas_bounds.specs.Planes.{no_plane_choice}
+use Rattle.acas_bounds.proofs.LeastValues.{leasts_next}
 use Rattle.acas_bounds.proofs.leasts.fill_leasts.Goals as goal
 use mir.Val.{SFits}
 
-pub loop-vertex-preserved : goal.loop-vertex-preserved
-loop-vertex-preserved c =
-    let m = c.args.model.now in
-    let fits : SFits w64 c.narrow_least.result = search rules in
-    rw (to_z-of_z w64 c.narrow_least.result fits)
-    (record {
-      count = length-set c.loop-vertex.leasts c.loop-vertex.vertex c.narrow_least.result ∙ c.loop-vertex.invariant.count;
-      each = leasts_next m c.args.means.now c.args.plane.now.present c.loop-vertex.vertex c.loop-vertex.leasts c.narrow_least.result (omega (arith, c.loop-vertex.invariant.count, c.vertices-vertex-end.ensures.value, ap vertices c.grid.ensures.value)) c.loop-vertex.invariant.each c.narrow_least.ensures;
-    })
+pub loop-place-preserved : goal.loop-place-preserved
+loop-place-preserved c =
+    let under = c.means_under-in-loop-place in
+    let cost : SFits w64 (get_or c.args.plane.now.choices (c.loop-place.place - 1) no_plane_choice).cost = search rules in
+    let lowered : AreLowered c.means_under-in-loop-place.result.now (get_or c.args.plane.now.choices (c.loop-place.place - 1) no_plane_choice).cost c.loop-place.leasts c.lower_values.new.leasts = simp (to_z-of_z, cost) at c.lower_values.ensures.values in
+    record {
+      inside = omega (arith, c.loop-place.invariant.inside);
+      leasts =
+          leasts_next c.args.model.now c.args.means.now under.result.now c.args.plane.now (c.loop-place.place - 1) c.loop-place.place c.loop-place.leasts c.lower_values.new.leasts c.requires.plane (omega (arith, c.loop-place-test.true)) c.loop-place.invariant.inside
+          (record { count = under.ensures.count; values = under.ensures.values }) c.lower_values.ensures.count lowered c.loop-place.invariant.leasts;
+    }

@@ -1,12 +1,12 @@
-use Rattle.std.proofs.Common.{◌≡◌, ℕ, ◌<◌, pos, length, get_or}
-use Rattle.acas_spec.specs.Model.{vertices}
-use Rattle.acas_grid.specs.States.{vertex_at}
-use Rattle.acas_bounds.specs.Leasts.{IsLeastAt}
-use Rattle.acas_bounds.specs.Means.{formed_lower}
+use Rattle.std.proofs.Common.{◌<◌}
+use Rattle.acas_bounds.specs.Leasts.{AreLeastsFrom}
 use Rattle.acas_bounds.proofs.leasts.fill_leasts.Given as goal
 
-abbrev pub invariant-loop-vertex : goal.invariant-loop-vertex
-invariant-loop-vertex l = record {
-  count : length l.leasts ≡ vertices l.model.grid;
-  each : (v : ℕ) → v < l.vertex → IsLeastAt l.model (formed_lower l.model l.means (vertex_at l.model.grid v)) l.plane.present (get_or l.leasts v (pos 0));
+abbrev pub invariant-loop-place : goal.invariant-loop-place
+invariant-loop-place l = record {
+  inside : l.place < l.plane.count;
+  leasts : AreLeastsFrom l.model l.means l.plane.present l.place l.leasts;
 }
+
+abbrev pub decreases-loop-place : goal.decreases-loop-place
+decreases-loop-place l = l.place

@@ -6,10 +6,10 @@ use Rattle.acas_drill.specs.Calls.{AreDrilled}
 use Rattle.acas_drill.proofs.drill_command.make_lines.Goals as goal
 
 pub drill_table-requires : goal.drill_table-requires
-drill_table-requires c = rw c.in_ok-found.ensures.digest (length-sha256 (decimal c.args.number))
+drill_table-requires g c = rw c.in_ok-found.ensures.digest (length-sha256 (decimal c.args.number))
 
 pub returns : goal.returns
-returns c =
+returns g c =
     let counts = c.in_ok-counts.counts in
     let drilled : AreDrilled c.in_ok-found.found.model counts = record {
       advices = c.in_ok-table.table.advices;

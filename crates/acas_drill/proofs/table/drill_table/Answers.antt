@@ -5,6 +5,6 @@ use Rattle.acas_drill.proofs.Tables.{held}
 use Rattle.acas_drill.proofs.table.drill_table.Goals as goal
 
 pub accepted_advices-requires-clause-held : goal.accepted_advices-requires-clause-held
-accepted_advices-requires-clause-held c =
+accepted_advices-requires-clause-held g c =
     held (folder_state c.in_ok-folder.folder).files (folder_state c.store_swept.new.folder).files TABLE.now
     (compiled_text c.args.found.now.digest c.args.found.now.model) c.in-Ok.ensures.ok

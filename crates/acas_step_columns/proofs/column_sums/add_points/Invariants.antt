@@ -3,7 +3,7 @@ use Rattle.acas_spec.specs.Model.{states, vertices}
 use Rattle.acas_grid.specs.States.{vertex_at}
 use Rattle.acas_units.specs.declared.pair.Pair.{Pair}
 use Rattle.acas_step.specs.Columns.{vertex_in}
-use Rattle.acas_step_columns.specs.ColumnSums.{AreBlends, AreColumnSums}
+use Rattle.acas_step_narrow.specs.ColumnBlends.{AreBlends, AreColumnSums}
 use Rattle.acas_step.specs.Layer.{AreWithin}
 use Rattle.acas_step_narrow.specs.Narrow.{AreRaisedSums, weights_below}
 use Rattle.acas_step_narrow.specs.Raised.{AreRaisedWithin, raised_in}

@@ -3,8 +3,8 @@ use Rattle.acas_spec.specs.Model.{GridData, vertices}
 use Rattle.acas_grid.specs.States.{vertex_at}
 use Rattle.acas_process.specs.Step.{moved}
 use Rattle.acas_step.specs.Columns.{vertex_in}
-use Rattle.acas_step_columns.specs.ColumnSums.{AreBlends}
-use Rattle.acas_step_stencils.specs.Units.{HoldsRates}
+use Rattle.acas_step_narrow.specs.ColumnBlends.{AreBlends}
+use Rattle.acas_step_stencils.specs.Cells.{HoldsRates}
 use Rattle.acas_step.specs.Ends.{weight_of_cell}
 use Rattle.acas_step_stencils.proofs.ColumnCells.{unit_cell-HoldsRates}
 use Rattle.acas_step_stencils.proofs.ColumnVertices.{vertex_in-lowest}

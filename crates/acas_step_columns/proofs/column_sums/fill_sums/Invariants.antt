@@ -1,4 +1,4 @@
-use Rattle.acas_step_columns.specs.ColumnSums.{AreColumnSums}
+use Rattle.acas_step_narrow.specs.ColumnBlends.{AreColumnSums}
 use Rattle.acas_step_columns.proofs.column_sums.fill_sums.Given as goal
 
 abbrev pub invariant-loop-sigma : goal.invariant-loop-sigma

@@ -9,7 +9,8 @@ use Rattle.acas_step_narrow.specs.Raised.{raised_in}
 use Rattle.acas_step_columns.specs.declared.columns.Source.{Source}
 use Rattle.acas_step_columns.specs.declared.columns.Source.TheVariants.{Twin, Sums}
 use Rattle.acas_step.proofs.TableMeans.{means_bounded}
-use Rattle.acas_step_columns.proofs.SourceMeans.{means_of_all, means_of_twin}
+use Rattle.acas_step_narrow.proofs.RaisedMeans.{means_of_all}
+use Rattle.acas_step_columns.proofs.SourceMeans.{means_of_twin}
 use Rattle.acas_step_columns.proofs.columns.mean_pair_from.Goals as goal
 
 pub returns-in-Twin-clause-means : goal.returns-in-Twin-clause-means

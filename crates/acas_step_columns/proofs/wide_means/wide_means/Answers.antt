@@ -3,10 +3,10 @@ use Rattle.std.proofs.lemmas.Int.{fits_signed_from_abs, ints, to_z-of_z}
 use Rattle.acas_frac.specs.Rounding.{down, up}
 use Rattle.acas_grid.specs.States.{vertex_at}
 use Rattle.acas_step.specs.Columns.{vertex_in}
-use Rattle.acas_step_columns.specs.WideSums.{as_raised}
+use Rattle.acas_step_narrow.specs.WideSums.{as_raised}
 use Rattle.acas_step_narrow.proofs.RaisedLaws.{down-raised, up-raised}
-use Rattle.acas_step_columns.proofs.CornerSums.{lowered_is, quotient-most, quotient_down-most}
-use Rattle.acas_step_columns.proofs.SourceMeans.{means_of_all, whole_weight}
+use Rattle.acas_step_narrow.proofs.CornerSums.{lowered_is, quotient-most, quotient_down-most}
+use Rattle.acas_step_narrow.proofs.RaisedMeans.{means_of_all, whole_weight}
 use Rattle.acas_step_columns.proofs.wide_means.wide_means.Goals as goal
 
 pub lowered-requires-clause-within : goal.lowered-requires-clause-within

@@ -13,7 +13,7 @@ use Rattle.acas_step.specs.declared.layer.Side.TheVariants.{Upper, Lower}
 use Rattle.acas_step_narrow.specs.Narrow.{sum_over}
 use Rattle.acas_step_narrow.specs.Raised.{along_h, raised_at}
 use Rattle.acas_step_narrow.proofs.RaisedLaws.{down-raised, up-raised}
-use Rattle.acas_step_columns.proofs.CornerSums.{cell-light, corners-le, corners_inside, corners_raised, quotient-most, quotient_down-most, sum-fits}
+use Rattle.acas_step_narrow.proofs.CornerSums.{cell-light, corners-le, corners_inside, corners_raised, quotient-most, quotient_down-most, sum-fits}
 use Rattle.acas_step_columns.proofs.UnitSums.{interpolated_in}
 use Rattle.acas_step_columns.proofs.wide_means.wide_point.Goals as goal
 

@@ -1,6 +1,6 @@
 use Rattle.std.proofs.Common.{◌≡◌, ◌≢◌, ℕ, ◌<◌, ◌≤◌, pos, unsigned_abs, length, get_or, sym, subst, ◌∙◌, arith}
 use Rattle.std.proofs.lemmas.List.{get_or_default, get_or-set_other, length-set}
-use Rattle.acas_step_stencils.specs.Units.{DivideOffsets, IsCountedIn}
+use Rattle.acas_step_stencils.specs.Stencils.{DivideOffsets, IsCountedIn}
 use Rattle.acas_step_stencils.specs.declared.column_stencils.ColumnStencil.{ColumnStencil}
 use Rattle.acas_step.proofs.Written.{each_written}
 use Rattle.acas_step_stencils.proofs.column_stencils.count_offsets.Goals as goal

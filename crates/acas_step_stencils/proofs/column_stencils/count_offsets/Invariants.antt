@@ -1,5 +1,5 @@
 use Rattle.std.proofs.Common.{◌≡◌, ℕ, ◌<◌, ◌≤◌, length, get_or}
-use Rattle.acas_step_stencils.specs.Units.{IsCountedIn}
+use Rattle.acas_step_stencils.specs.Stencils.{IsCountedIn}
 use Rattle.acas_step_stencils.specs.declared.column_stencils.ColumnStencil.{ColumnStencil}
 use Rattle.acas_step_stencils.proofs.column_stencils.count_offsets.Given as goal
 

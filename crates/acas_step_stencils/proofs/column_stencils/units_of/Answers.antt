@@ -1,5 +1,6 @@
 use Rattle.std.proofs.Common.{pos}
-use Rattle.acas_step_stencils.proofs.UnitLaws.{grid_finer, offsets_more}
+use Rattle.acas_grid_units.proofs.GapLaws.{grid_finer}
+use Rattle.acas_step_stencils.proofs.UnitLaws.{offsets_more}
 use Rattle.acas_step_stencils.proofs.column_stencils.units_of.Goals as goal
 
 pub loop-stencil-preserved : goal.loop-stencil-preserved

@@ -1,6 +1,6 @@
 use Rattle.std.proofs.Common.{ℕ, ◌<◌, get_or}
 use Rattle.acas_grid.specs.States.{vertex_at}
-use Rattle.acas_step_stencils.specs.Units.{IsVertexCell}
+use Rattle.acas_step_stencils.specs.Cells.{IsVertexCell}
 use Rattle.acas_step_stencils.specs.declared.vertex_cells.VertexCell.{VertexCell}
 use Rattle.acas_step_stencils.proofs.vertex_cells.fill_cells.Given as goal
 

@@ -7,7 +7,6 @@ use Rattle.acas_units.specs.declared.pair.Pair.{Pair}
 use Rattle.acas_spec.specs.Table.{Table}
 use Rattle.acas_step.specs.Layer.{AreValuesOf, AreWithin}
 use Rattle.acas_step.specs.Means.{AreMeansOf}
-use Rattle.acas_step.specs.declared.layer.Side.TheVariants.{Lower}
 use Rattle.acas_accept.specs.declared.check.TableCheck.{TableCheck}
 use Rattle.acas_accept.proofs.Steps.{in_layer_first}
 use Rattle.acas_accept.proofs.check.TableCheck.begin_layer.Goals as goal
@@ -40,6 +39,6 @@ returns-then-n-gt0-clause-check g c =
       pairs = check.pairs;
       advice = check.advice;
       means = ap length items ∙ c.fill_means_with-size.ensures.count;
-      leasts = c.forget.ensures c.args.model.now c.args.self.now.means.items _ check.leasts (subst (AreWithin c.fill_means_with-size.result Lower) (sym items) (c.fill_means_with-size.ensures.size Lower));
+      leasts = c.forget.ensures c.args.model.now c.args.self.now.means.items _ check.leasts (λ side. subst (AreWithin c.fill_means_with-size.result side) (sym items) (c.fill_means_with-size.ensures.size side));
       allowed = check.allowed;
     }

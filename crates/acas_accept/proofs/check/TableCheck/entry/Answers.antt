@@ -31,7 +31,7 @@ returns-in-Ok-check_at-clause-check g c =
     let keeps : Keeps c.args.self.now c.entry.new.self c.keep.new.self c.args.state c.in-Ok.entry =
     record { reader = c.keep.ensures.reader; means = c.keep.ensures.means; leasts = c.keep.ensures.leasts; pairs = c.keep.ensures.pairs; advice = c.keep.ensures.advice } in
     check_next m c.args.self.now c.entry.new.self c.keep.new.self c.args.n c.args.state c.in-Ok.entry c.requires.check c.requires.n c.requires.state on keeps
-    (λ some. allowed_at m c.args.plane.now.present c.args.vertex c.args.state c.in-Ok.entry.advice c.requires.vertex c.requires.place (c.in-Ok-check_at.ensures.allowed (omega arith)))
+    (λ some. allowed_at m c.args.present c.args.vertex c.args.state c.in-Ok.entry.advice c.requires.vertex c.requires.place (c.in-Ok-check_at.ensures.allowed (omega arith)))
 
 pub returns-in-Ok-check_at-clause-given : goal.returns-in-Ok-check_at-clause-given
 returns-in-Ok-check_at-clause-given g c = λ digest.
@@ -39,7 +39,7 @@ returns-in-Ok-check_at-clause-given g c = λ digest.
     let old = c.args.self.now in
     let says : Says c.args.model.now c.args.self.now.means.items c.in-Ok.entry c.args.n c.args.state None =
     subst (λ (means : List Pair). Says c.args.model.now means c.in-Ok.entry c.args.n c.args.state None) c.deref.ensures.value
-    (says_at m c.deref.result.now c.in-Ok.entry c.args.n c.args.plane.now.present c.args.vertex c.args.state None c.requires.vertex c.requires.place c.in-Ok-check_at.ensures.value) in
+    (says_at m c.deref.result.now c.in-Ok.entry c.args.n c.args.present c.args.vertex c.args.state None c.requires.vertex c.requires.place c.in-Ok-check_at.ensures.value) in
     let keeps : Keeps c.args.self.now c.entry.new.self c.keep.new.self c.args.state c.in-Ok.entry =
     record { reader = c.keep.ensures.reader; means = c.keep.ensures.means; leasts = c.keep.ensures.leasts; pairs = c.keep.ensures.pairs; advice = c.keep.ensures.advice } in
     told_map _ c.args.name.now
@@ -54,7 +54,7 @@ returns-in-Err-check_at-clause-given g c = λ digest.
     let m = c.args.model.now in
     let says : Says c.args.model.now c.args.self.now.means.items c.in-Ok.entry c.args.n c.args.state (Some c.in-Err-check_at.fault) =
     subst (λ (means : List Pair). Says c.args.model.now means c.in-Ok.entry c.args.n c.args.state (Some c.in-Err-check_at.fault)) c.deref.ensures.value
-    (says_at m c.deref.result.now c.in-Ok.entry c.args.n c.args.plane.now.present c.args.vertex c.args.state (Some c.in-Err-check_at.fault) c.requires.vertex c.requires.place c.in-Err-check_at.ensures.value) in
+    (says_at m c.deref.result.now c.in-Ok.entry c.args.n c.args.present c.args.vertex c.args.state (Some c.in-Err-check_at.fault) c.requires.vertex c.requires.place c.in-Err-check_at.ensures.value) in
     told_map _ c.args.name.now (λ bytes. HasRead digest c.args.self.now.reader bytes → GivesEntry digest (reader_state c.args.self.now.reader) bytes (Ok c.in-Ok.entry)) _
     (λ bytes gives within.
     unsound_answered m digest c.args.self.now c.args.n c.args.state bytes c.in-Ok.entry c.in-Err-check_at.fault c.requires.check c.requires.n c.requires.state within (gives within.accepted.stands) says)

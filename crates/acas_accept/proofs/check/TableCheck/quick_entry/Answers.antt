@@ -30,7 +30,7 @@ returns-clause-check c = λ yes.
     let keeps : Keeps c.args.self.now c.pass.new.self c.keep.new.self c.args.state c.in-Some.entry =
     record { reader = c.keep.ensures.reader; means = c.keep.ensures.means; leasts = c.keep.ensures.leasts; pairs = c.keep.ensures.pairs; advice = c.keep.ensures.advice } in
     check_next m c.args.self.now c.pass.new.self c.keep.new.self c.args.n c.args.state c.in-Some.entry c.requires.check c.requires.n c.requires.state on keeps
-    (λ some. allowed_at m c.args.plane.now.present c.args.vertex c.args.state c.in-Some.entry.advice c.requires.vertex c.requires.place (c.if-not-is_seen_sound.ensures.allowed refl))
+    (λ some. allowed_at m c.args.plane.now.present c.args.vertex c.args.state c.in-Some.entry.advice c.requires.vertex c.requires.place (c.if-not-is_sound_at.ensures.allowed refl))
 
 pub returns-clause-given : goal.returns-clause-given
 returns-clause-given c = λ yes digest bytes within.
@@ -38,8 +38,8 @@ returns-clause-given c = λ yes digest bytes within.
     let old = c.args.self.now in
     let says : Says c.args.model.now c.args.self.now.means.items c.in-Some.entry c.args.n c.args.state None =
     subst (λ (means : List Pair). Says c.args.model.now means c.in-Some.entry c.args.n c.args.state None) c.deref.ensures.value
-    (says_at m c.deref.result.now c.in-Some.entry c.args.n c.args.plane.now.present c.args.vertex c.args.state None c.requires.vertex c.requires.place (c.if-not-is_seen_sound.ensures.value refl)) in
+    (says_at m c.deref.result.now c.in-Some.entry c.args.n c.args.plane.now.present c.args.vertex c.args.state None c.requires.vertex c.requires.place (λ t entry layer. (c.if-not-is_sound_at.ensures.value t c.args.n (c.requires.found c.if-not-found.false).some entry layer).0 refl)) in
     let keeps : Keeps c.args.self.now c.pass.new.self c.keep.new.self c.args.state c.in-Some.entry =
     record { reader = c.keep.ensures.reader; means = c.keep.ensures.means; leasts = c.keep.ensures.leasts; pairs = c.keep.ensures.pairs; advice = c.keep.ensures.advice } in
     in_layer_next m digest old c.pass.new.self c.keep.new.self c.args.n c.args.state bytes c.in-Some.entry c.requires.check c.requires.n c.requires.state within
-    (c.pass.ensures.given c.in-Some.entry c.in-Some.ensures digest bytes within.accepted.stands) (c.pass.ensures.stands digest bytes within.accepted.stands) says keeps
+    (c.pass.ensures.given c.in-Some.entry c.in-Some.ensures.at_hand digest bytes within.accepted.stands) (c.pass.ensures.stands digest bytes within.accepted.stands) says keeps

@@ -7,7 +7,7 @@ use Rattle.acas_process.specs.Step.{moved}
 use Rattle.acas_frac.specs.declared.divisor.Divisor.{Divisor}
 use Rattle.acas_step.specs.Columns.{vertex_in}
 use Rattle.acas_step_stencils.specs.Stencils.{IsStencil}
-use Rattle.acas_step_stencils.specs.Units.{IsUnitCell}
+use Rattle.acas_step_stencils.specs.Cells.{IsUnitCell}
 use Rattle.acas_step_stencils.specs.declared.stencils.Stencil.{Stencil}
 use Rattle.acas_step_stencils.proofs.ColumnCells.{base_at_rates, cell_at_rates, offset_at_rates}
 use Rattle.acas_step_stencils.proofs.ColumnHeights.{column-IsStencil}

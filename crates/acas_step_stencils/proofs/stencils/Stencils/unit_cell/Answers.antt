@@ -4,7 +4,7 @@ use Rattle.acas_grid.specs.States.{vertex_at}
 use Rattle.acas_process.specs.Step.{moved}
 use Rattle.acas_step.specs.Columns.{vertex_in}
 use Rattle.acas_step_stencils.specs.Stencils.{IsStencil}
-use Rattle.acas_step_stencils.specs.Units.{IsUnitCell, IsVertexCell}
+use Rattle.acas_step_stencils.specs.Cells.{IsUnitCell, IsVertexCell}
 use Rattle.acas_step_stencils.specs.declared.vertex_cells.VertexCell.{VertexCell}
 use Rattle.acas_step_stencils.proofs.stencils.Stencils.unit_cell.Goals as goal
 

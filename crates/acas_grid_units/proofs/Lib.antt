@@ -1,0 +1,3 @@
+pub mod GapLaws
+pub mod HeightLaws
+pub mod EvenHeights
