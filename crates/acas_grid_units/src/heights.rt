@@ -89,7 +89,8 @@ pub(crate) fn height_place(heights: &[u32], near: u32, height: u32) -> u32
 pub fn even_gap(heights: &[u32]) -> u32
     requires some { 2 ≤ length heights.now }
     requires short { length heights.now ≤ GREATEST_VERTICES }
-    ensures { IsEvenGap heights.now result }
+    ensures even { IsEvenGap heights.now result }
+    ensures found { (gap : ℕ) → 0 < gap → IsEvenGap heights.now gap → result ≡ gap }
 {
     let gap = heights[1];
     for place in 0..heights.len() {

@@ -22,7 +22,7 @@ returns c =
           (subst (λ (n : ℕ). AreStencils c.args.model.now filled.result n filled.new.stencils) count filled.ensures.stencils);
       units = filled.ensures.some;
       heights = subst (λ (g : GridData). AreHeights g.h filled.result.h c.in_ok-heights.heights.items) c.grid.ensures.value c.in_ok-heights.ensures;
-      even = subst (λ (hs : List ℕ). IsEvenGap hs c.even_gap-even.result) c.deref.ensures.value c.even_gap-even.ensures;
+      even = subst (λ (hs : List ℕ). IsEvenGap hs c.even_gap-even.result) c.deref.ensures.value c.even_gap-even.ensures.even;
       cells = subst (λ (g : GridData). AreVertexCells g filled.result c.in_ok-cells.cells.items) c.grid-2.ensures.value c.in_ok-cells.ensures;
       total = c.new.ensures.divisor;
       by = omega (arith, ints, c.new.ensures.by, c.total_weight.ensures.value, c.total_weight.ensures.light);
