@@ -10,11 +10,11 @@ use Rattle.acas_outside.specs.Bytes.{IsBytes}
 use Rattle.acas_outside.specs.Files.{Files, Given}
 use Rattle.acas_table.specs.Reader.{Told, reader_state}
 use Rattle.acas_table_text.specs.Shape.{shape_of}
-use Rattle.acas_table_text.proofs.FieldFaults.{advice_small}
+use Rattle.acas_table_text_laws.proofs.FieldFaults.{advice_small}
 use Rattle.acas_table_text.specs.Format.{expected_length, format_of, length_of}
 use Rattle.acas_table_text.specs.declared.format.Format.{Format}
-use Rattle.acas_table_text.proofs.Twice.{each_entry_none}
-use Rattle.acas_table_text.proofs.Texts.{text_given_small}
+use Rattle.acas_table_text_laws.proofs.Twice.{each_entry_none}
+use Rattle.acas_table_text_laws.proofs.Texts.{text_given_small}
 use Rattle.acas_table.proofs.Told.{told_both, told_map}
 use Rattle.acas_accept.specs.Answers.{AreAllowed, AreWhole, Gives, HasAdvices, HasLayers}
 use Rattle.acas_accept.specs.Checking.{Begins, HasAccepted, HasNoRefusal, IsAnswer}

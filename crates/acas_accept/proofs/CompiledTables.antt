@@ -6,7 +6,7 @@ use Rattle.acas_spec.specs.Limits.{IsModel}
 use Rattle.acas_spec.specs.Model.{ModelData}
 use Rattle.acas_frac.specs.Rounding.{down, up}
 use Rattle.acas_process.specs.Compiled.{compiled}
-use Rattle.acas_process.proofs.CompiledLaws.{compiled_is_sound}
+use Rattle.acas_policies.proofs.CompiledBounds.{compiled_is_sound}
 use Rattle.acas_process.proofs.SizeLaws.{compiled_size}
 use Rattle.acas_table_text.specs.Layers.{table_text}
 use Rattle.acas_table_text.specs.declared.format.Format.{Format}

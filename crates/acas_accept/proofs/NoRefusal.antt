@@ -4,10 +4,9 @@ use Rattle.std.specs.Option.{option_map}
 use Rattle.acas_spec.specs.Model.{ModelData, states}
 use Rattle.acas_table_text.specs.Faults.{entry_fault, first_below, first_fault, header_fault, tail_fault}
 use Rattle.acas_table_text.specs.Shape.{entry_count, shape_of}
-use Rattle.acas_table_text.proofs.Cuts.{first_none}
+use Rattle.acas_table_text.proofs.Nones.{all_none, each_none, first-cons, first_none, none-option_map, option_map-none}
 use Rattle.acas_accept.specs.Refusals.{entry_refusal, first_refusal, soundness_refusal, given_fault}
 use Rattle.acas_table_text.specs.declared.refusal.TableRefusal.TheVariants.{Form, Entry}
-use Rattle.acas_table_text.proofs.Nones.{all_none, each_none, first-cons, none-option_map, option_map-none}
 
 -- bytes without fault, each of whose entries passes the check of soundness
 pub record HasNone (m : ModelData) (digest bytes : List ℕ) : Type 0 where

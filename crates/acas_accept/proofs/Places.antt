@@ -5,7 +5,7 @@ use Rattle.acas_spec.specs.Model.{GridData, ModelData, states}
 use Rattle.acas_grid.proofs.Vertices.{row_below, some_width}
 use Rattle.acas_process.specs.Cost.{IsEntry}
 use Rattle.acas_grid.specs.States.{state_present, state_vertex}
-use Rattle.acas_step.proofs.NumberedStates.{IsVertex-state_vertex}
+use Rattle.acas_means.proofs.NumberedStates.{IsVertex-state_vertex}
 use Rattle.acas_accept.specs.GivenTable.{entry_place}
 use Rattle.acas_grid.proofs.StateNumbers.{state_present-below}
 

@@ -11,8 +11,8 @@ use Rattle.acas_grid.specs.States.{state_present, state_vertex, vertex_at}
 use Rattle.acas_grid.proofs.StateNumbers.{IsVertex-vertex_at, state_present-state_number, state_vertex-state_number, vertex_number-vertex_at}
 use Rattle.acas_grid.proofs.Vertices.{row_below}
 use Rattle.acas_process.specs.Cost.{MayChoose}
-use Rattle.acas_step.specs.Entries.{IsEntryOf}
-use Rattle.acas_step.specs.Means.{AreMeansOf}
+use Rattle.acas_means.specs.Entries.{IsEntryOf}
+use Rattle.acas_means.specs.Means.{AreMeansOf}
 use Rattle.acas_bounds.specs.Checks.{OfBelow}
 use Rattle.acas_bounds.specs.Sound.{bound_fault}
 use Rattle.acas_accept.proofs.Steps.{Says}

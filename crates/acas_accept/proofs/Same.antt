@@ -7,7 +7,7 @@ use Rattle.acas_grid.specs.Grid.{IsVertex}
 use Rattle.acas_spec.specs.declared.place.Vertex.{Vertex}
 use Rattle.acas_frac.specs.Rounding.{down, up}
 use Rattle.acas_spec.specs.Table.{Table}
-use Rattle.acas_process.specs.Bounds.{IsSoundEntry, lower_value, upper_value}
+use Rattle.acas_policies.specs.Bounds.{IsSoundEntry, lower_value, upper_value}
 use Rattle.acas_process.specs.Cost.{IsEntry, MayChoose}
 use Rattle.acas_process.proofs.ModelLaws.{is_chosen}
 use Rattle.acas_process.proofs.SameLaws.{choice_same}

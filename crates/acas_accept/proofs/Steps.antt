@@ -11,9 +11,9 @@ use Rattle.acas_units.specs.declared.pair.Pair.{Pair}
 use Rattle.acas_spec.specs.Table.{Table}
 use Rattle.acas_process.specs.Cost.{MayChoose}
 use Rattle.acas_grid.specs.States.{state_present, state_vertex}
-use Rattle.acas_step.specs.Entries.{IsStateEntry}
-use Rattle.acas_step.specs.Layer.{AreValuesOf, no_pair}
-use Rattle.acas_step.specs.Means.{AreMeansOf}
+use Rattle.acas_means.specs.Entries.{IsStateEntry}
+use Rattle.acas_means.specs.Layer.{AreValuesOf, no_pair}
+use Rattle.acas_means.specs.Means.{AreMeansOf}
 use Rattle.acas_bounds.specs.Checks.{OfBelow, state_fault}
 use Rattle.acas_spec.specs.declared.fault.BoundFault.{BoundFault}
 use Rattle.acas_bounds.proofs.Faults.{OfBelow-map}

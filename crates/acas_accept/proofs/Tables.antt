@@ -19,17 +19,17 @@ use Rattle.acas_table_text.specs.Text.{text_of_layers}
 use Rattle.acas_table_text.specs.declared.format.Format.TheVariants.{Layered}
 use Rattle.acas_table_text.proofs.Backward.{good_is_text}
 use Rattle.acas_table_text.proofs.Shapes.{limited}
-use Rattle.acas_table_text.proofs.TextLaws.{layers_again, text_is_good}
-use Rattle.acas_table_text.proofs.Twice.{each_entry_none}
+use Rattle.acas_table_text_laws.proofs.TextLaws.{layers_again, text_is_good}
+use Rattle.acas_table_text_laws.proofs.Twice.{each_entry_none}
 use Rattle.acas_accept.specs.Accepted.{IsAcceptedTable}
 use Rattle.acas_accept.specs.GivenTable.{entry_place, given_table}
 use Rattle.acas_accept.specs.Refusals.{first_refusal, given_fault}
-use Rattle.acas_table_text.proofs.FieldFaults.{lower_fits, no_advice_at, upper_fits}
+use Rattle.acas_table_text_laws.proofs.FieldFaults.{lower_fits, no_advice_at, upper_fits}
 use Rattle.acas_accept.proofs.Given.{layers-given}
 use Rattle.acas_accept.proofs.NoRefusal.{HasNone, none_refused, refused_none}
 use Rattle.acas_grid.proofs.StateNumbers.{state_present-state_number, state_vertex-state_number}
 use Rattle.acas_grid.proofs.Vertices.{vertices-one_to_one}
-use Rattle.acas_step.proofs.NumberedStates.{state_number-below}
+use Rattle.acas_means.proofs.NumberedStates.{state_number-below}
 use Rattle.acas_accept.proofs.Places.{is_place, entry_place-below, state_entry_is}
 use Rattle.acas_accept.proofs.Same.{sound_same}
 use Rattle.acas_accept.proofs.Written.{is_table, read_again}

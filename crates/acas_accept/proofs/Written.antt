@@ -8,7 +8,7 @@ use Rattle.acas_grid.specs.Grid.{state_number, vertex_number}
 use Rattle.acas_spec.specs.declared.place.Vertex.{Vertex}
 use Rattle.acas_units.specs.declared.pair.Entry.{Entry}
 use Rattle.acas_spec.specs.Table.{Table}
-use Rattle.acas_process.specs.Bounds.{IsSound, IsSoundEntry}
+use Rattle.acas_policies.specs.Bounds.{IsSound, IsSoundEntry}
 use Rattle.acas_process.specs.Cost.{IsEntry}
 use Rattle.acas_process.proofs.ModelLaws.{is_chosen}
 use Rattle.acas_grid.specs.States.{state_present, state_vertex}
@@ -18,13 +18,13 @@ use Rattle.acas_table_text.specs.Shape.{shape_of}
 use Rattle.acas_table_text.specs.Tables.{IsTable}
 use Rattle.acas_table_text.specs.declared.format.Format.{Format}
 use Rattle.acas_table_text.proofs.Shapes.{limited}
-use Rattle.acas_table_text.proofs.TextLaws.{entry_read, good_if}
+use Rattle.acas_table_text_laws.proofs.TextLaws.{entry_read, good_if}
 use Rattle.acas_accept.specs.Accepted.{IsWritable}
 use Rattle.acas_accept.specs.GivenTable.{entry_place, given_entry, given_table}
 use Rattle.acas_accept.proofs.Given.{entry-at, layers-at, length-layer, length-layers}
 use Rattle.acas_grid.proofs.StateNumbers.{state_present-state_number, state_vertex-state_number}
 use Rattle.acas_grid.proofs.Vertices.{vertices-one_to_one}
-use Rattle.acas_step.proofs.NumberedStates.{state_number-below}
+use Rattle.acas_means.proofs.NumberedStates.{state_number-below}
 use Rattle.acas_accept.proofs.Places.{state_entry_is}
 use Rattle.acas_accept.proofs.Same.{AreSame}
 

@@ -4,7 +4,7 @@ use Rattle.std.specs.Int.{w64}
 use Rattle.acas_spec.specs.Model.{ModelData}
 use Rattle.acas_spec.specs.declared.place.Vertex.{Vertex}
 use Rattle.acas_spec.specs.Table.{Table}
-use Rattle.acas_process.specs.Bounds.{IsSound}
+use Rattle.acas_policies.specs.Bounds.{IsSound}
 use Rattle.acas_process.specs.Cost.{IsEntry}
 use Rattle.acas_table_text.specs.Layers.{table_text}
 use Rattle.acas_table_text.specs.declared.format.Format.{Format}

@@ -2,8 +2,8 @@
 use Rattle.std.specs.Prelude.{◌≡◌, ℕ, ◌*◌, List, length, false, Option, Some, None, Result, Ok, Err, ⊤}
 use Rattle.acas_spec.specs.Limits.{IsModel}
 use Rattle.acas_spec.specs.Model.{ModelData, states}
-use Rattle.acas_step.specs.Layer.{AreValuesOf}
-use Rattle.acas_step.specs.Means.{AreMeansOf}
+use Rattle.acas_means.specs.Layer.{AreValuesOf}
+use Rattle.acas_means.specs.Means.{AreMeansOf}
 use Rattle.acas_bounds.specs.Checks.{OfBelow}
 use Rattle.acas_table_text.specs.Faults.{first_below}
 use Rattle.acas_table.specs.Reader.{HasRead, reader_state}

@@ -7,7 +7,7 @@ use Rattle.acas_units.specs.declared.pair.Pair.{Pair}
 use Rattle.acas_base.specs.Advices.{AdvicesData, AreAdvicesOf, advice_at}
 use Rattle.acas_layers.specs.Layers.{LayersData, advice_of, pairs_of}
 use Rattle.acas_process.specs.Cost.{MayChoose}
-use Rattle.acas_step.specs.Layer.{pair_at}
+use Rattle.acas_means.specs.Layer.{pair_at}
 use Rattle.acas_table_text.specs.Shape.{shape_of}
 use Rattle.acas_table_text.specs.Tables.{layer_at}
 use Rattle.acas_table_text.specs.Text.{entry_at, layer_of}

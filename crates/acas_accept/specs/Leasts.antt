@@ -2,9 +2,9 @@
 use Rattle.std.specs.Prelude.{◌≡◌, ℕ, ◌<◌, ◌^◌, List, length, IfSome, IsTrue}
 use Rattle.acas_spec.specs.Model.{ModelData, vertices}
 use Rattle.acas_units.specs.declared.pair.Pair.{Pair}
-use Rattle.acas_step.specs.Layer.{AreWithin}
-use Rattle.acas_step.specs.declared.layer.Side.{Side}
-use Rattle.acas_step.specs.declared.layer.Side.TheVariants.{Upper}
+use Rattle.acas_means.specs.Layer.{AreWithin}
+use Rattle.acas_means.specs.declared.layer.Side.{Side}
+use Rattle.acas_means.specs.declared.layer.Side.TheVariants.{Upper}
 use Rattle.acas_bounds.specs.Leasts.{AreLeasts}
 use Rattle.acas_accept.specs.declared.leasts.Leasts.{Leasts}
 

@@ -4,7 +4,7 @@ ghost use Rattle.acas_spec.specs.Limits.{IsModel};
 ghost use Rattle.acas_spec.specs.Model.{ModelData};
 ghost use Rattle.acas_outside.specs.Bytes.{IsBytes};
 ghost use Rattle.acas_spec.specs.Table.{Table};
-ghost use Rattle.acas_process.specs.Bounds.{HasTwoSidedBounds};
+ghost use Rattle.acas_policies.specs.Bounds.{HasTwoSidedBounds};
 ghost use Rattle.acas_process.specs.Compiled.{compiled};
 ghost use Rattle.acas_table_text.specs.Layers.{table_text};
 ghost use Rattle.acas_table_text.specs.Shape.{shape_of};

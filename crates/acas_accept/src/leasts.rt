@@ -2,8 +2,8 @@
 ghost use Rattle.std.specs.Prelude.{◌≡◌, ◌<◌, List, length, IfOk, IsTrue};
 ghost use Rattle.acas_spec.specs.Model.{ModelData, states};
 ghost use Rattle.acas_units.specs.declared.pair.Pair.{Pair as PairData};
-ghost use Rattle.acas_step.specs.Layer.{AreWithin};
-ghost use Rattle.acas_step.specs.declared.layer.Side.{Side};
+ghost use Rattle.acas_means.specs.Layer.{AreWithin};
+ghost use Rattle.acas_means.specs.declared.layer.Side.{Side};
 ghost use Rattle.acas_bounds.specs.Leasts.{AreLeasts};
 ghost use Rattle.acas_bounds.specs.Planes.{IsPlane};
 ghost use Rattle.acas_accept.specs.Leasts.{AreFound, HaveLeasts};

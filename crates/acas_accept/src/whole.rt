@@ -17,8 +17,8 @@ use crate::keeping::KeepsLayers;
 use crate::refusal::AcceptFault;
 use acas_base::{Advices, Model};
 use acas_layers::Layers;
+use acas_means::LayerMeans;
 use acas_outside::Folder;
-use acas_step::LayerMeans;
 use std::alloc::Global;
 
 // Reads and checks a whole table, and gives what is kept of its layers.

@@ -1,13 +1,13 @@
 //! The areas of blocks.
 ghost use Rattle.std.specs.Prelude.{◌≡◌};
 ghost use Rattle.acas_spec.specs.Limits.{IsModel};
-ghost use Rattle.acas_region_curves.specs.View.{area_of};
+ghost use Rattle.acas_areas.specs.View.{area_of};
 ghost use Rattle.acas_audit_blocks.specs.BlockStates.{area_of_block};
 ghost use Rattle.acas_cells.specs.Blocks.{IsBlockOf};
 
+use acas_areas::BoxState;
 use acas_base::Model;
 use acas_cells::Block;
-use acas_region_curves::BoxState;
 use acas_rulings::between;
 
 /// The area of a block: from the lower ends of its first cell to the upper ends of its last.

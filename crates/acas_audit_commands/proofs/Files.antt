@@ -5,12 +5,8 @@ use Rattle.std.specs.FinMap.{get}
 use Rattle.acas_spec.specs.Model.{ModelData}
 use Rattle.acas_base.specs.Advices.{AdvicesData, AreAdvices, AreAdvicesOf}
 use Rattle.acas_outside.specs.Files.{Files, Given}
-use Rattle.acas_boxes.specs.Whole.{boxes_of}
-use Rattle.acas_command.specs.Calls.{with_input_file}
-use Rattle.acas_command.proofs.Inputs.{no_file-input_file}
 use Rattle.acas_command.specs.ModelFile.{IsModelFile}
 use Rattle.acas_command.specs.Outcome.{Outcome, prints}
-use Rattle.acas_command.specs.declared.status.FileRole.TheVariants.{Boxes as BoxesFile}
 use Rattle.acas_command.proofs.Files.{with_model-file}
 use Rattle.acas_command.proofs.Reports.{no_file-model, refers-report}
 use Rattle.acas_table_file.specs.AcceptedFile.{IsTableFile, IsTableOf}
@@ -19,36 +15,23 @@ use Rattle.acas_table_file.proofs.Files.{no_file-table}
 use Rattle.acas_report_lines.specs.declared.counts.Which.{Which}
 use Rattle.acas_command.specs.Called.{calls_for}
 use Rattle.acas_command.proofs.Behind.{Refers, told-both}
-use Rattle.acas_audit_commands.specs.Calls.{CallsForAudit, CallsForRegions, IsAuditBegun, IsAuditText, IsRegionsBegun, IsRegionsText, audit_looks_at, regions_looks_at}
+use Rattle.acas_audit_commands.specs.Calls.{CallsForAudit, IsAuditBegun, IsAuditText, audit_looks_at}
 
 -- looking at the files stores nothing
 pub no_file-audit : (model table : List ℕ) (files : Files) → (audit_looks_at model table files).file ≡ None
 no_file-audit model table files =
     no_file-model (get files model) (λ digest m. with_table m digest (get files table) (λ bytes. prints [])) (λ digest m. no_file-table m digest (get files table) (λ bytes. prints []) (λ bytes. refl))
 
-pub no_file-regions : (model boxes : List ℕ) (files : Files) → (regions_looks_at model boxes files).file ≡ None
-no_file-regions model boxes files =
-    no_file-model (get files model) (λ digest m. with_input_file BoxesFile (boxes_of m) (get files boxes) (λ said. prints [])) (λ digest m. no_file-input_file BoxesFile (boxes_of m) (get files boxes) (λ said. prints []) (λ said. refl))
-
 -- behind the model's file
 pub audit-behind_model : (model table digest : List ℕ) (m : ModelData) (files : Files) → IsModelFile (get files model) digest m
     → with_table m digest (get files table) (λ bytes. prints []) ≡ audit_looks_at model table files
 audit-behind_model model table digest m files is = sym (with_model-file (get files model) digest m (λ d n. with_table n d (get files table) (λ bytes. prints [])) is)
-
-pub regions-behind_model : (model boxes digest : List ℕ) (m : ModelData) (files : Files) → IsModelFile (get files model) digest m
-    → with_input_file BoxesFile (boxes_of m) (get files boxes) (λ said. prints []) ≡ regions_looks_at model boxes files
-regions-behind_model model boxes digest m files is = sym (with_model-file (get files model) digest m (λ d n. with_input_file BoxesFile (boxes_of n) (get files boxes) (λ said. prints [])) is)
 
 -- what refuses the command as it looks at its files is answered by it
 pub audit-refers : (model table : List ℕ) (which : Which) (files : Files) (outcome_of : Files → Outcome) → outcome_of files ≡ audit_looks_at model table files
     → Refers files (calls_for outcome_of) (CallsForAudit model table which)
 audit-refers model table which files outcome_of same =
     refers-report files outcome_of (audit_looks_at model table) (IsAuditText model table which) (IsAuditBegun model table which) same (no_file-audit model table files)
-
-pub regions-refers : (model boxes : List ℕ) (files : Files) (outcome_of : Files → Outcome) → outcome_of files ≡ regions_looks_at model boxes files
-    → Refers files (calls_for outcome_of) (CallsForRegions model boxes)
-regions-refers model boxes files outcome_of same =
-    refers-report files outcome_of (regions_looks_at model boxes) (IsRegionsText model boxes) (IsRegionsBegun model boxes) same (no_file-regions model boxes files)
 
 -- the advices of the table, where the model's file was read first
 pub table-of : (model table digest : List ℕ) (m : ModelData) (advices : AdvicesData) (before mid : Option Files) → mid ≡ before

@@ -1,8 +1,7 @@
--- What `audit` and `regions` are worth, in the words of the subject, over a folder that tells its files.
-use Rattle.std.specs.Prelude.{◌≡◌, ℕ, ◌≤◌, List, length, Some}
+-- What `audit` is worth, in the words of the subject, over a folder that tells its files.
+use Rattle.std.specs.Prelude.{◌≡◌, ℕ, List, Some}
 use Rattle.std.specs.FinMap.{get}
 use Rattle.sha2.specs.Sha256.{sha256}
-use Rattle.acas_units.specs.declared.limits.TheConstants.{TEXT_BYTES}
 use Rattle.acas_spec.specs.Model.{ModelData}
 use Rattle.acas_spec.specs.Table.{Table}
 use Rattle.acas_base.specs.Advices.{AdvicesData}
@@ -10,14 +9,11 @@ use Rattle.acas_outside.specs.Bytes.{Appends}
 use Rattle.acas_outside.specs.Files.{Files}
 use Rattle.acas_outside.specs.Outside.{Outside}
 use Rattle.acas_accept.specs.Accepted.{IsAcceptedTable}
-use Rattle.acas_input.specs.declared.fault.InputFault.{InputFault}
-use Rattle.acas_rulings.specs.Boxes.{AuditedBox}
 use Rattle.acas_cells.specs.Corners.{advisory_cells}
-use Rattle.acas_boxes.specs.Text.{IsBoxesText}
-use Rattle.acas_report_lines.specs.Regions.{places, regions_text}
-use Rattle.acas_report_lines.specs.Report.{IsReportOn, clear_cells, report_text}
+use Rattle.acas_report_lines.specs.Report.{IsReportOn}
 use Rattle.acas_report_lines.specs.Text.{is_certified}
-use Rattle.acas_report.specs.Verdicts.{IsVerdictOnBox, IsVerdictOnCell}
+use Rattle.acas_report_cells.specs.Report.{clear_cells, report_text}
+use Rattle.acas_report.specs.Verdicts.{IsVerdictOnCell}
 use Rattle.acas_report_lines.specs.declared.counts.Counts.{Counts}
 use Rattle.acas_report_lines.specs.declared.counts.Which.{Which}
 use Rattle.acas_table_text.specs.declared.refusal.TableRefusal.{TableRefusal}
@@ -26,7 +22,7 @@ use Rattle.acas_command.specs.Outcome.{report_cause}
 use Rattle.acas_command.specs.Says.{SaysModel}
 use Rattle.acas_command.specs.Worth.{IsNotRefused}
 use Rattle.acas_command.specs.declared.status.Cause.{Cause}
-use Rattle.acas_command.specs.declared.status.Cause.TheVariants.{Input, Table as Refused}
+use Rattle.acas_command.specs.declared.status.Cause.TheVariants.{Table as Refused}
 use Rattle.acas_table_file.specs.Worth.{RejectsTable, TellsAdvices}
 
 -- M says a model, T is the text of a table of it whose entries are all sound, and what was printed is a report of that table's advices:
@@ -42,33 +38,6 @@ pub record PrintsAudit (model table : List ℕ) (which : Which) (files : Files) 
   pub kept : after.holds ≡ Some files
   pub reported : cause ≡ report_cause counts.reported
 
--- M says a model, B says boxes beside it, and what was printed is a report of them: each is ruled on, in order. The cause says whether
--- one is reported.
-pub record PrintsRegions (model boxes : List ℕ) (files : Files) (cause : Cause) (before after : Outside) : Type 0 where
-  pub bytes : List ℕ
-  pub m : ModelData
-  pub given : List ℕ
-  pub said : List AuditedBox
-  pub says : SaysModel files model bytes m
-  pub file : get files boxes ≡ Some given
-  pub short : length given ≤ TEXT_BYTES
-  pub boxes_text : IsBoxesText m given said
-  pub counts : Counts
-  pub text : List ℕ
-  pub report : IsReportOn (IsVerdictOnBox m said) is_certified (places said) 0 regions_text counts text
-  pub printed : Appends before.written after.written text
-  pub kept : after.holds ≡ Some files
-  pub reported : cause ≡ report_cause counts.reported
-
--- M says a model, and B says no boxes beside it
-pub record RejectsBoxes (model boxes : List ℕ) (files : Files) : Type 0 where
-  pub bytes : List ℕ
-  pub m : ModelData
-  pub given : List ℕ
-  pub says : SaysModel files model bytes m
-  pub file : get files boxes ≡ Some given
-  pub none : (said : List AuditedBox) → IsBoxesText m given said → ⊥
-
 -- `audit M T`: what a run has printed that is done or reports, and what one has rejected that is refused as a table; and where M says a
 -- model and T is the text of a table of it whose entries are all sound, it is not refused
 pub record AuditIsWorth (model table : List ℕ) (which : Which) (files : Files) (cause : Cause) (before after : Outside) : Type 0 where
@@ -76,11 +45,3 @@ pub record AuditIsWorth (model table : List ℕ) (which : Which) (files : Files)
   pub refused : (refusal : TableRefusal) → cause ≡ Refused refusal → RejectsTable model table files
   pub not_refused : (bytes given : List ℕ) (m : ModelData) (t : Table) → SaysModel files model bytes m → get files table ≡ Some given
       → IsAcceptedTable m (sha256 bytes) given t → IsNotRefused cause before after
-
--- `regions M B`: what a run has printed that is done or reports, and what one has rejected that is refused as boxes; and where M says a
--- model and B says boxes beside it, it is not refused
-pub record RegionsIsWorth (model boxes : List ℕ) (files : Files) (cause : Cause) (before after : Outside) : Type 0 where
-  pub printed : MayPrint cause → PrintsRegions model boxes files cause before after
-  pub refused : (fault : InputFault) → cause ≡ Input fault → RejectsBoxes model boxes files
-  pub not_refused : (bytes given : List ℕ) (m : ModelData) (said : List AuditedBox) → SaysModel files model bytes m → get files boxes ≡ Some given
-      → length given ≤ TEXT_BYTES → IsBoxesText m given said → IsNotRefused cause before after

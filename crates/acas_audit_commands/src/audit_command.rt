@@ -8,11 +8,11 @@ ghost use Rattle.acas_audit_commands.specs.Decisions.{CountsAudit};
 
 use acas_audit_blocks::Decisions;
 use acas_command::{Cause, read_model_file};
+use acas_means::LayerMeans;
 use acas_outside::{Folder, Sink};
 use acas_print::PrintFault;
 use acas_report::write_blocks;
 use acas_report_lines::Which;
-use acas_step::LayerMeans;
 use acas_table_file::read_table_file;
 use std::alloc::Global;
 

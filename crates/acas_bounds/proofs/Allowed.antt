@@ -8,7 +8,7 @@ use Rattle.acas_spec.specs.declared.parts.Choice.{Choice}
 use Rattle.acas_process.specs.Cost.{MayChoose, advisories_of, cost_among}
 use Rattle.acas_process.proofs.ModelLaws.{place_of, test_same}
 use Rattle.acas_process.proofs.Least.{Contains-cons, Contains-first}
-use Rattle.acas_step.specs.Choices.{no_choice}
+use Rattle.acas_means.specs.Choices.{no_choice}
 use Rattle.acas_bounds.specs.Means.{allowed_cost}
 use Rattle.acas_bounds.specs.Sound.{is_allowed}
 

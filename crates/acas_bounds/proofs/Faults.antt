@@ -1,45 +1,32 @@
 -- The fault of an entry by the means of the layer below is its fault in the table, and what an answer says.
-use Rattle.std.proofs.Common.{◌≡◌, ◌∙◌, ℕ, ◌%◌, zero, suc, ◌<◌, ℤ, ◌+ℤ◌, Bool, true, false, cond, Option, Some, None, Result, List, refl, ap, sym, subst, arith}
+use Rattle.std.proofs.Common.{◌≡◌, ℕ, zero, suc, ◌<◌, ℤ, ◌+ℤ◌, Bool, true, false, cond, Option, Some, None, Result, List, refl, ap, sym, subst, arith}
 use Rattle.std.specs.Prelude.{OnOk}
 use Rattle.acas_spec.specs.Limits.{IsModel}
-use Rattle.acas_spec.specs.Model.{ModelData, choices_at, vertices}
+use Rattle.acas_spec.specs.Model.{ModelData, choices_at}
 use Rattle.acas_grid.specs.Grid.{IsVertex}
-use Rattle.acas_grid.specs.States.{state_present, state_vertex, vertex_at}
 use Rattle.acas_spec.specs.declared.place.Vertex.{Vertex}
 use Rattle.acas_frac.specs.Rounding.{down, up}
 use Rattle.acas_units.specs.declared.pair.Entry.{Entry}
 use Rattle.acas_units.specs.declared.pair.Pair.{Pair}
 use Rattle.acas_spec.specs.Table.{Table}
-use Rattle.acas_process.specs.Bounds.{lower_value, mean_value, millionths, upper_value}
+use Rattle.acas_process.specs.Values.{mean_value, millionths}
+use Rattle.acas_policies.specs.Bounds.{lower_value, upper_value}
 use Rattle.acas_process.specs.Compiled.{least}
 use Rattle.acas_process.specs.Cost.{MayChoose, cost_of}
 use Rattle.acas_process.proofs.ModelLaws.{is_chosen}
-use Rattle.acas_step.specs.Choices.{value_by_mean}
-use Rattle.acas_step.specs.Entries.{IsEntryOf}
-use Rattle.acas_step.specs.Layer.{AreValuesOf, layer_values}
-use Rattle.acas_step.specs.Means.{AreMeansOf}
-use Rattle.acas_step.specs.declared.layer.Side.TheVariants.{Lower, Upper}
-use Rattle.acas_step.proofs.TableMeans.{lower_mean-is, upper_mean-is}
+use Rattle.acas_means.specs.Choices.{value_by_mean}
+use Rattle.acas_means.specs.Entries.{IsEntryOf}
+use Rattle.acas_means.specs.Layer.{layer_values}
+use Rattle.acas_means.specs.Means.{AreMeansOf}
+use Rattle.acas_means.specs.declared.layer.Side.TheVariants.{Lower, Upper}
 use Rattle.acas_process.proofs.Least.{least-same}
-use Rattle.acas_step.proofs.NumberedStates.{layer_values-is}
+use Rattle.acas_means.proofs.NumberedStates.{layer_values-is}
 use Rattle.acas_bounds.specs.Checks.{OfBelow, AnswersFault}
-use Rattle.acas_bounds.specs.Means.{allowed_cost, answer_of, choice_fault, fault_by_means}
+use Rattle.acas_bounds.specs.Means.{AreOfLayer, allowed_cost, answer_of, choice_fault, fault_by_means}
 use Rattle.acas_bounds.specs.Sound.{bound_fault, is_allowed, values_fault}
 use Rattle.acas_spec.specs.declared.fault.BoundFault.{BoundFault}
 use Rattle.acas_spec.specs.declared.fault.BoundFault.TheVariants.{AdviceNotAllowed}
 use Rattle.acas_bounds.proofs.Allowed.{is_allowed-is}
-
--- at the vertex x, two functions of an advisory are the means of a table's layer with k seconds to go
-pub record AreOfLayer (m : ModelData) (t : Table) (k : ℕ) (x : Vertex) (high low : ℕ → ℤ) : Type 0 where
-  pub upper : (a : ℕ) → a < m.grid.advisories → high a ≡ mean_value up m (t.upper k) x a
-  pub lower : (a : ℕ) → a < m.grid.advisories → low a ≡ mean_value down m (t.lower k) x a
-
-pub means_by_values : (m : ModelData) (t : Table) (k : ℕ) (x : Vertex) (values : List Pair) → AreValuesOf m t k values →
-    AreOfLayer m t k x (mean_value up m (layer_values Upper m.grid values) x) (mean_value down m (layer_values Lower m.grid values) x)
-means_by_values m t k x values are = record {
-  upper = λ a known. upper_mean-is m t k values x a known are;
-  lower = λ a known. lower_mean-is m t k values x a known are;
-}
 
 pub means_by_means : (m : ModelData) (t : Table) (k : ℕ) (x : Vertex) (means : List Pair) → IsVertex m.grid x → AreMeansOf m t k means →
     AreOfLayer m t k x (λ a. layer_values Upper m.grid means a x) (λ a. layer_values Lower m.grid means a x)
@@ -116,17 +103,3 @@ pub ok_allowed : (m : ModelData) (upper lower : ℕ → ℤ) (n p : ℕ) (x : Ve
 ok_allowed m upper lower n p x e r is =
     subst (λ (q : Result (Unit {0}) BoundFault). OnOk q (0 < n → MayChoose m p e.advice)) (sym is)
     (ok_if (fault_by_means m upper lower n p x e) (0 < n → MayChoose m p e.advice) (may_choose m upper lower n p x e))
-
--- an answer by the means at the vertex of a number where p is present is one by those of a state
-pub at_state : (m : ModelData) (n : ℕ) (e : Entry) (upper lower : ℕ → ℕ → ℤ) (r : Result (Unit {0}) BoundFault) (s p v : ℕ) → p ≡ state_present m.grid s → v ≡ s % vertices m.grid
-    → r ≡ answer_of (fault_by_means m (upper v) (lower v) n p (vertex_at m.grid v) e)
-    → r ≡ answer_of (fault_by_means m (upper (s % vertices m.grid)) (lower (s % vertices m.grid)) n (state_present m.grid s) (state_vertex m.grid s) e)
-at_state m n e upper lower r s p v present vertex is =
-    is
-    ∙ ap (λ (w : ℕ). answer_of (fault_by_means m (upper w) (lower w) n p (vertex_at m.grid w) e)) vertex
-    ∙ ap (λ (q : ℕ). answer_of (fault_by_means m (upper (s % vertices m.grid)) (lower (s % vertices m.grid)) n q (state_vertex m.grid s) e)) present
-
--- what a check by means says of an entry, whatever table it is of, at the vertex of a number where p is present
-abbrev pub Reports : ModelData → ℕ → Entry → List Pair → Result (Unit {0}) BoundFault → ℕ → ℕ → Type 0
-Reports m n e means r p v =
-    (t : Table) → IsEntryOf t n p (vertex_at m.grid v) e → OfBelow (λ k. AreMeansOf m t k means) n → AnswersFault r (bound_fault m t n p (vertex_at m.grid v))

@@ -6,11 +6,11 @@ use borrow.Author.Count.{below_more}
 use Rattle.acas_spec.specs.Model.{ModelData, choices_at, vertices}
 use Rattle.acas_units.specs.declared.pair.Pair.{Pair}
 use Rattle.acas_grid.specs.States.{vertex_at}
-use Rattle.acas_process.proofs.Least.{best_of_last, least-drop}
-use Rattle.acas_step.specs.Choices.{listed_choice, no_choice, value_by_mean}
-use Rattle.acas_step.specs.Layer.{value_at}
-use Rattle.acas_step.specs.declared.layer.Side.TheVariants.{Lower}
-use Rattle.acas_bounds.specs.Leasts.{AreLeastsFrom, AreLowered, AreWithCost, least_from}
+use Rattle.acas_process.proofs.Least.{least-drop}
+use Rattle.acas_means.specs.Choices.{listed_choice, no_choice, value_by_mean}
+use Rattle.acas_means.specs.Layer.{value_at}
+use Rattle.acas_means.specs.declared.layer.Side.TheVariants.{Lower}
+use Rattle.acas_bounds.specs.Leasts.{AreLeastsFrom, AreLowered, least_from}
 use Rattle.acas_bounds.specs.Means.{formed_lower}
 use Rattle.acas_bounds.specs.Planes.{IsPlane, IsPlaneChoice, no_plane_choice}
 use Rattle.acas_bounds.specs.declared.plane.Plane.{Plane}
@@ -45,17 +45,6 @@ choice_value m means under plane k v choice is same are within =
     ap (λ (mean : ℤ). mean +ℤ choice.cost) (are.values v within)
     ∙ ap (λ (cost : ℤ). formed_lower m means (vertex_at m.grid v) choice.advisory +ℤ cost) is.cost
     ∙ ap (value_by_mean m plane.present (formed_lower m means (vertex_at m.grid v))) same
-
--- the values of the last choice
-pub leasts_last : (m : ModelData) (means under : List Pair) (plane : Plane) (k : ℕ) (leasts : List ℤ) → IsPlane m plane → k + 1 ≡ plane.count → AreMeansUnder m means under (get_or plane.choices k no_plane_choice).advisory
-    → length leasts ≡ length under → AreWithCost under (get_or plane.choices k no_plane_choice).cost leasts → AreLeastsFrom m means plane.present k leasts
-leasts_last m means under plane k leasts is last are long values = record {
-  count = long ∙ are.count;
-  each = λ v within.
-      values.each v (omega (arith, are.count, within))
-      ∙ choice_value m means under plane k v (get_or plane.choices k no_plane_choice) (is.choice k (omega (arith, last))) (is.advisory k (omega (arith, last))) are within
-      ∙ (best_of_last (value_by_mean m plane.present (formed_lower m means (vertex_at m.grid v))) (choices_at m plane.present) k no_choice (last ∙ is.count)).least;
-}
 
 -- the values of the choices behind one, lowered by its own
 pub leasts_next : (m : ModelData) (means under : List Pair) (plane : Plane) (k next : ℕ) (old new : List ℤ) → IsPlane m plane → suc k ≡ next → next < plane.count → AreMeansUnder m means under (get_or plane.choices k no_plane_choice).advisory

@@ -4,7 +4,7 @@ use Rattle.acas_spec.specs.Model.{ModelData, choices_at}
 use Rattle.acas_spec.specs.declared.place.Vertex.{Vertex}
 use Rattle.acas_units.specs.declared.pair.Entry.{Entry}
 use Rattle.acas_process.proofs.ModelLaws.{listed, place_of}
-use Rattle.acas_step.specs.Choices.{no_choice}
+use Rattle.acas_means.specs.Choices.{no_choice}
 use Rattle.acas_bounds.specs.Means.{choice_fault, fault_by_means}
 use Rattle.acas_bounds.specs.Planes.{IsAtPlace, IsPlane}
 use Rattle.acas_bounds.specs.Sound.{is_allowed}

@@ -8,8 +8,8 @@ use Rattle.acas_grid.specs.States.{vertex_at}
 use Rattle.acas_grid.proofs.StateNumbers.{vertex_number-vertex_at}
 use Rattle.acas_grid.proofs.Vertices.{row_below}
 use Rattle.acas_units.specs.declared.pair.Pair.{Pair}
-use Rattle.acas_step.specs.Layer.{layer_values, no_pair, pair_at, value_at}
-use Rattle.acas_step.specs.declared.layer.Side.TheVariants.{Lower}
+use Rattle.acas_means.specs.Layer.{layer_values, no_pair, pair_at, value_at}
+use Rattle.acas_means.specs.declared.layer.Side.TheVariants.{Lower}
 
 -- the number of a state from that of the first under its advisory
 pub from_first : (g : GridData) (a v first : ℕ) → first ≡ state_number g a 0 → first + v ≡ state_number g a (vertex_number g (vertex_at g v))

@@ -5,7 +5,7 @@ use Rattle.acas_spec.specs.Limits.{IsModel}
 use Rattle.acas_spec.specs.Model.{ModelData, choices_at}
 use Rattle.acas_spec.specs.Table.{Table}
 use Rattle.acas_spec.specs.declared.place.Vertex.{Vertex}
-use Rattle.acas_process.specs.Bounds.{IsSoundEntry, lower_value}
+use Rattle.acas_policies.specs.Bounds.{IsSoundEntry, lower_value}
 use Rattle.acas_process.proofs.Least.{le-least, least-le}
 use Rattle.acas_bounds.specs.Sound.{allowed_lower, bound_fault, is_allowed, needed_upper, values_fault}
 use Rattle.acas_spec.specs.declared.fault.BoundFault.{BoundFault}

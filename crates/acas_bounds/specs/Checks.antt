@@ -1,9 +1,8 @@
 -- What the check of an entry answers.
-use Rattle.std.specs.Prelude.{◌≡◌, ℕ, zero, suc, ◌<◌, Option, Some, None, Result, MatchResult, ⊤}
+use Rattle.std.specs.Prelude.{◌≡◌, ℕ, zero, suc, Option, Some, None, Result, MatchResult, ⊤}
 use Rattle.acas_spec.specs.Model.{ModelData}
 use Rattle.acas_spec.specs.Table.{Table}
 use Rattle.acas_grid.specs.States.{state_present, state_vertex}
-use Rattle.acas_process.specs.Cost.{MayChoose}
 use Rattle.acas_bounds.specs.Sound.{bound_fault}
 use Rattle.acas_spec.specs.declared.fault.BoundFault.{BoundFault}
 
@@ -19,7 +18,3 @@ state_fault m t n s = bound_fault m t n (state_present m.grid s) (state_vertex m
 -- Ok is answered where there is no fault, and otherwise the fault
 abbrev pub AnswersFault : Result (Unit {0}) BoundFault → Option BoundFault → Type 0
 AnswersFault answer fault = MatchResult answer (λ _. fault ≡ None) (λ found. fault ≡ Some found)
-
--- with a second to go, an advice may be chosen at the state of a number
-abbrev pub MayAdvise : ModelData → ℕ → ℕ → ℕ → Type 0
-MayAdvise m n s advice = 0 < n → MayChoose m (state_present m.grid s) advice

@@ -5,9 +5,9 @@ use Rattle.acas_spec.specs.Model.{ModelData, choices_at, vertices}
 use Rattle.acas_grid.specs.States.{vertex_at}
 use Rattle.acas_units.specs.declared.pair.Pair.{Pair}
 use Rattle.acas_process.specs.Compiled.{least}
-use Rattle.acas_step.specs.Choices.{value_by_mean}
-use Rattle.acas_step.specs.Layer.{value_at}
-use Rattle.acas_step.specs.declared.layer.Side.TheVariants.{Lower}
+use Rattle.acas_means.specs.Choices.{value_by_mean}
+use Rattle.acas_means.specs.Layer.{value_at}
+use Rattle.acas_means.specs.declared.layer.Side.TheVariants.{Lower}
 use Rattle.acas_bounds.specs.Means.{formed_lower}
 
 -- the least lower value, at the vertex of a number, of the choices where p is present from a place of their list on

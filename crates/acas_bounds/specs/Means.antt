@@ -1,44 +1,50 @@
--- What the inner functions say: the means of the layer below, formed before or now, and an entry's fault by them.
-use Rattle.std.specs.Prelude.{◌≡◌, ◌≤ℤ◌, true, ℕ, zero, suc, ℤ, List, Option, Some, None, Result, Ok, Err, if◌then◌else◌}
-use Rattle.acas_spec.specs.Model.{ModelData, choices_at}
+-- What the inner functions say: the means of the layer below, and an entry's fault by them.
+use Rattle.std.specs.Prelude.{◌≡◌, ◌<◌, ◌≤ℤ◌, true, ℕ, zero, suc, ℤ, List, length, Option, Some, None, Result, Ok, Err, if◌then◌else◌, ⊤}
+use Rattle.acas_spec.specs.Model.{ModelData, choices_at, states}
+use Rattle.acas_spec.specs.Table.{Table}
 use Rattle.acas_spec.specs.declared.place.Vertex.{Vertex}
 use Rattle.acas_frac.specs.Rounding.{down, up}
 use Rattle.acas_units.specs.declared.pair.Entry.{Entry}
 use Rattle.acas_units.specs.declared.pair.Pair.{Pair}
-use Rattle.acas_process.specs.Bounds.{mean_value, millionths}
+use Rattle.acas_process.specs.Values.{mean_value, millionths}
 use Rattle.acas_process.specs.Compiled.{least}
 use Rattle.acas_process.specs.Cost.{cost_of, terminal_cost}
-use Rattle.acas_step.specs.Choices.{value_by_mean}
-use Rattle.acas_step.specs.Layer.{layer_values}
-use Rattle.acas_step.specs.declared.layer.Side.TheVariants.{Upper, Lower}
+use Rattle.acas_means.specs.Choices.{value_by_mean}
+use Rattle.acas_means.specs.Layer.{layer_values, value_at}
+use Rattle.acas_means.specs.declared.layer.Side.TheVariants.{Upper, Lower}
 use Rattle.acas_bounds.specs.Sound.{is_allowed, values_fault}
 use Rattle.acas_bounds.specs.declared.below.Below.{Below}
-use Rattle.acas_bounds.specs.declared.below.Below.TheVariants.{Means, Values}
+use Rattle.acas_bounds.specs.declared.below.Below.TheVariants.{AtStates, AtVertex}
 use Rattle.acas_spec.specs.declared.fault.BoundFault.{BoundFault}
 use Rattle.acas_spec.specs.declared.fault.BoundFault.TheVariants.{AdviceNotAllowed}
 
--- the pairs of the layer below
-abbrev pub pairs_below : Below → List Pair
-pairs_below (Values values) = values.now
-pairs_below (Means means) = means.now
+-- there are means for all states of the model, or for each advisory at a vertex
+abbrev pub HasMeans : ModelData → Below → Type 0
+HasMeans m (AtStates means) = length means.now ≡ states m.grid
+HasMeans m (AtVertex means) = ⊤
 
--- the upper mean of the layer below at the vertex x under the advisory a: of its values, or as it was formed
+-- the upper mean of the layer below at the vertex x under the advisory a
 abbrev pub upper_below : ModelData → Below → Vertex → ℕ → ℤ
-upper_below m (Values values) x a = mean_value up m (layer_values Upper m.grid values.now) x a
-upper_below m (Means means) x a = layer_values Upper m.grid means.now a x
+upper_below m (AtStates means) x a = layer_values Upper m.grid means.now a x
+upper_below m (AtVertex means) x a = value_at Upper means.now a
 
--- the lower mean of the layer below in the same way
+-- the lower mean in the same way
 abbrev pub lower_below : ModelData → Below → Vertex → ℕ → ℤ
-lower_below m (Values values) x a = mean_value down m (layer_values Lower m.grid values.now) x a
-lower_below m (Means means) x a = layer_values Lower m.grid means.now a x
+lower_below m (AtStates means) x a = layer_values Lower m.grid means.now a x
+lower_below m (AtVertex means) x a = value_at Lower means.now a
 
--- the upper mean as it was formed, at the vertex x under the advisory a
+-- the upper mean among those of all states, at the vertex x under the advisory a
 abbrev pub formed_upper : ModelData → List Pair → Vertex → ℕ → ℤ
 formed_upper m means x a = layer_values Upper m.grid means a x
 
 -- the lower mean in the same way
 abbrev pub formed_lower : ModelData → List Pair → Vertex → ℕ → ℤ
 formed_lower m means x a = layer_values Lower m.grid means a x
+
+-- at the vertex x, two functions of an advisory are the means of a table's layer with k seconds to go
+pub record AreOfLayer (m : ModelData) (t : Table) (k : ℕ) (x : Vertex) (high low : ℕ → ℤ) : Type 0 where
+  pub upper : (a : ℕ) → a < m.grid.advisories → high a ≡ mean_value up m (t.upper k) x a
+  pub lower : (a : ℕ) → a < m.grid.advisories → low a ≡ mean_value down m (t.lower k) x a
 
 -- the cost of an advisory, where it is in the list of choices
 abbrev pub allowed_cost : ModelData → ℕ → ℕ → Option ℤ

@@ -3,9 +3,9 @@ use Rattle.std.specs.Prelude.{◌≡◌, ℕ, pos, ◌<◌, ◌≤◌, ◌^◌, 
 use Rattle.acas_spec.specs.Limits.{IsModel}
 use Rattle.acas_spec.specs.Model.{ModelData, choices_at}
 use Rattle.acas_grid.specs.Grid.{state_number}
-use Rattle.acas_process.specs.Bounds.{millionths}
+use Rattle.acas_process.specs.Values.{millionths}
 use Rattle.acas_process.specs.Cost.{cost_of}
-use Rattle.acas_step.specs.Choices.{listed_choice}
+use Rattle.acas_means.specs.Choices.{listed_choice}
 use Rattle.acas_bounds.specs.declared.plane.Plane.{Plane}
 use Rattle.acas_bounds.specs.declared.plane.PlaneChoice.{PlaneChoice}
 

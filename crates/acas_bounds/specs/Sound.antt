@@ -4,7 +4,8 @@ use Rattle.std.specs.List.{list_any}
 use Rattle.acas_spec.specs.Model.{ModelData, choices_at}
 use Rattle.acas_spec.specs.Table.{Table}
 use Rattle.acas_spec.specs.declared.place.Vertex.{Vertex}
-use Rattle.acas_process.specs.Bounds.{lower_value, millionths, upper_value}
+use Rattle.acas_process.specs.Values.{millionths}
+use Rattle.acas_policies.specs.Bounds.{lower_value, upper_value}
 use Rattle.acas_process.specs.Compiled.{least}
 use Rattle.acas_process.specs.Cost.{terminal_cost}
 use Rattle.acas_spec.specs.declared.fault.BoundFault.{BoundFault}

@@ -1,25 +1,25 @@
-//! The layer below an entry, as the check takes it.
+//! The means of the layer below an entry, as the check takes them.
 ghost use Rattle.std.specs.Prelude.{◌≡◌, ◌<◌, length};
 ghost use Rattle.acas_spec.specs.Model.{states, vertices};
 ghost use Rattle.acas_grid.specs.States as numbers;
-ghost use Rattle.acas_step.specs.Layer.{layer_values};
-ghost use Rattle.acas_step.specs.declared.layer.Side.TheVariants.{Upper, Lower};
-ghost use Rattle.acas_bounds.specs.Means.{lower_below, pairs_below, upper_below};
+ghost use Rattle.acas_means.specs.Layer.{layer_values};
+ghost use Rattle.acas_means.specs.declared.layer.Side.TheVariants.{Upper, Lower};
+ghost use Rattle.acas_bounds.specs.Means.{HasMeans, lower_below, upper_below};
 
 use acas_base::Model;
-use acas_frac::{Down, Up};
-use acas_step::{Side, mean};
+use acas_means::{VertexMeans, advisory_count};
 use acas_units::Pair;
 
-/// The pairs of the layer below in the order of the states' numbers: its values, or their means as `fill_means` writes them.
+/// The means of the layer below: at all states in the order of their numbers, or at the vertex of the entry alone, under each advisory
+/// by its number.
 #[derive(Clone, Copy)]
 pub(crate) enum Below<'l> {
-    Values(&'l [Pair]),
-    Means(&'l [Pair]),
+    AtStates(&'l [Pair]),
+    AtVertex(&'l VertexMeans),
 }
 
-/// The means that were formed for an advisory at a vertex.
-pub(crate) fn formed_means(model: &Model, vertex: u32, advisory: u8, means: &[Pair]) -> Pair
+// The means at a vertex under an advisory, among those of all states.
+fn state_means(model: &Model, vertex: u32, advisory: u8, means: &[Pair]) -> Pair
     requires vertex { vertex < vertices model.now.grid }
     requires advisory { advisory < model.now.grid.advisories }
     requires means { length means.now ≡ states model.now.grid }
@@ -31,30 +31,20 @@ pub(crate) fn formed_means(model: &Model, vertex: u32, advisory: u8, means: &[Pa
     means[model.grid().state_number(advisory, vertex) as usize]
 }
 
-/// The upper mean of the layer below under an advisory at a vertex, in millionths.
-pub(crate) fn upper_mean(model: &Model, vertex: u32, advisory: u8, below: Below<'_>) -> i64
+/// The means of the layer below under an advisory at a vertex, in millionths.
+pub(crate) fn means_under(model: &Model, vertex: u32, advisory: u8, below: Below<'_>) -> Pair
     requires vertex { vertex < vertices model.now.grid }
     requires advisory { advisory < model.now.grid.advisories }
-    requires below { length (pairs_below below) ≡ states model.now.grid }
-    ensures { let x = numbers.vertex_at model.now.grid vertex in
-        result ≡ upper_below model.now below.entry x advisory }
+    requires below { HasMeans model.now below }
+    ensures upper { let x = numbers.vertex_at model.now.grid vertex in
+        result.upper ≡ upper_below model.now below.entry x advisory }
+    ensures lower { let x = numbers.vertex_at model.now.grid vertex in
+        result.lower ≡ lower_below model.now below.entry x advisory }
 {
+    // There are no more advisories than a vertex has places for means.
+    let _ = advisory_count(model);
     match below {
-        Below::Values(values) => mean::<Up>(model, vertex, advisory, Side::Upper, values),
-        Below::Means(means) => formed_means(model, vertex, advisory, means).upper,
-    }
-}
-
-/// The lower mean of the layer below under an advisory at a vertex, in millionths.
-pub(crate) fn lower_mean(model: &Model, vertex: u32, advisory: u8, below: Below<'_>) -> i64
-    requires vertex { vertex < vertices model.now.grid }
-    requires advisory { advisory < model.now.grid.advisories }
-    requires below { length (pairs_below below) ≡ states model.now.grid }
-    ensures { let x = numbers.vertex_at model.now.grid vertex in
-        result ≡ lower_below model.now below.entry x advisory }
-{
-    match below {
-        Below::Values(values) => mean::<Down>(model, vertex, advisory, Side::Lower, values),
-        Below::Means(means) => formed_means(model, vertex, advisory, means).lower,
+        Below::AtStates(means) => state_means(model, vertex, advisory, means),
+        Below::AtVertex(means) => means[usize::from(advisory)],
     }
 }

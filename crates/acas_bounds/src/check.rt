@@ -1,30 +1,29 @@
 //! The check of one entry.
-ghost use Rattle.std.specs.Prelude.{◌≡◌, ◌↔◌, ◌%◌, ◌<◌, ◌^◌, ◌+ℤ◌, ℕ, None, IsTrue, OnOk, length};
-ghost use Rattle.acas_spec.specs.Limits.{IsModel};
+ghost use Rattle.std.specs.Prelude.{◌≡◌, ◌↔◌, ◌<◌, ◌^◌, ◌+ℤ◌, ℕ, None, IsTrue, OnOk, length};
 ghost use Rattle.acas_spec.specs.Model.{choices_at, states, vertices};
 ghost use Rattle.acas_spec.specs.Table.{Table};
 ghost use Rattle.acas_grid.specs.States as numbers;
-ghost use Rattle.acas_process.specs.Bounds.{millionths};
+ghost use Rattle.acas_process.specs.Values.{millionths};
 ghost use Rattle.acas_process.specs.Compiled.{least};
 ghost use Rattle.acas_process.specs.Cost.{MayChoose};
-ghost use Rattle.acas_step.specs.Choices.{value_by_mean};
-ghost use Rattle.acas_step.specs.Entries.{IsEntryOf, IsStateEntry};
-ghost use Rattle.acas_step.specs.Layer.{AreValuesOf, AreWithin};
-ghost use Rattle.acas_step.specs.Means.{AreMeansOf};
-ghost use Rattle.acas_step.specs.declared.layer.Side.TheVariants.{Upper};
-ghost use Rattle.acas_bounds.specs.Checks.{MayAdvise, OfBelow, AnswersFault, state_fault};
+ghost use Rattle.acas_means.specs.Choices.{value_by_mean};
+ghost use Rattle.acas_means.specs.Entries.{IsEntryOf};
+ghost use Rattle.acas_means.specs.Layer.{AreWithin, value_at};
+ghost use Rattle.acas_means.specs.Means.{AreMeansOf};
+ghost use Rattle.acas_means.specs.declared.layer.Side.TheVariants.{Upper, Lower};
+ghost use Rattle.acas_bounds.specs.Checks.{OfBelow, AnswersFault};
 ghost use Rattle.acas_bounds.specs.Leasts.{AreLeasts};
-ghost use Rattle.acas_bounds.specs.Means.{answer_of, choice_fault, ending_fault, fault_by_means, lower_below, pairs_below, upper_below};
+ghost use Rattle.acas_bounds.specs.Means.{AreOfLayer, HasMeans, answer_of, choice_fault, ending_fault, fault_by_means, lower_below, upper_below};
 ghost use Rattle.acas_bounds.specs.Planes.{IsPlane};
 ghost use Rattle.acas_bounds.specs.Sound.{bound_fault, values_fault};
 
-use crate::below::{Below, upper_mean};
+use crate::below::{Below, means_under};
 use crate::choices::{cost_if_allowed, least_lower};
 use crate::near::passes;
 use crate::plane::Plane;
 use acas_base::Model;
+use acas_means::{VertexMeans, terminal, with_cost};
 use acas_spec::BoundFault;
-use acas_step::{terminal, with_cost};
 use acas_units::{Entry, Pair};
 
 // What the values of an entry are held against: what the upper is to be at least, and the lower at most.
@@ -53,19 +52,6 @@ fn check_values(pair: Pair, limits: Limits) -> Result<(), BoundFault>
     Ok(())
 }
 
-// The present advisory of a state and the number of its vertex.
-fn parts(model: &Model, state: u32) -> (u8, u32)
-    requires { state < states model.now.grid }
-    ensures valid { IsModel model.now }
-    ensures present { result.0 ≡ numbers.state_present model.now.grid state }
-    ensures known { result.0 < model.now.grid.advisories }
-    ensures vertex { result.1 ≡ state % vertices model.now.grid }
-    ensures inside { result.1 < vertices model.now.grid }
-{
-    let vertices = model.grid().vertices();
-    ((state / vertices) as u8, state % vertices)
-}
-
 // The check of the two values of an entry with no second to go.
 fn check_ending(model: &Model, vertex: u32, pair: Pair) -> Result<(), BoundFault>
     requires { vertex < vertices model.now.grid }
@@ -92,7 +78,7 @@ fn limits_by_choice(
     requires present { present < model.now.grid.advisories }
     requires vertex { vertex < vertices model.now.grid }
     requires advice { advice < model.now.grid.advisories }
-    requires below { length (pairs_below below) ≡ states model.now.grid }
+    requires below { HasMeans model.now below }
     ensures needed { let x = numbers.vertex_at model.now.grid vertex in
         result.needed ≡ upper_below model.now below.entry x advice +ℤ millionths cost }
     ensures allowed { let lower = lower_below model.now below.entry
@@ -100,7 +86,7 @@ fn limits_by_choice(
         result.allowed ≡ least (value_by_mean model.now present lower) (choices_at model.now present) }
 {
     Limits {
-        needed: with_cost(upper_mean(model, vertex, advice, below), cost),
+        needed: with_cost(means_under(model, vertex, advice, below).upper, cost),
         allowed: least_lower(model, present, vertex, below),
     }
 }
@@ -115,7 +101,7 @@ fn check_choice(
 ) -> Result<(), BoundFault>
     requires present { present < model.now.grid.advisories }
     requires vertex { vertex < vertices model.now.grid }
-    requires below { length (pairs_below below) ≡ states model.now.grid }
+    requires below { HasMeans model.now below }
     ensures { let x = numbers.vertex_at model.now.grid vertex in
         let upper = upper_below model.now below.entry x in
         let lower = lower_below model.now below.entry x in
@@ -142,7 +128,7 @@ fn check(
 ) -> Result<(), BoundFault>
     requires present { present < model.now.grid.advisories }
     requires vertex { vertex < vertices model.now.grid }
-    requires below { 0 < n → length (pairs_below below) ≡ states model.now.grid }
+    requires below { 0 < n → HasMeans model.now below }
     ensures { let x = numbers.vertex_at model.now.grid vertex in
         let upper = upper_below model.now below.entry x in
         let lower = lower_below model.now below.entry x in
@@ -155,50 +141,9 @@ fn check(
     }
 }
 
-/// Whether the entry of a state with n seconds to go is sound by the layer below, and the first part that it fails if not. The
-/// pairs of the layer below stand in the order of the states' numbers; with no second to go none is looked at.
-pub fn check_entry(
-    model: &Model,
-    n: u32,
-    state: u32,
-    entry: &Entry,
-    below: &[Pair],
-) -> Result<(), BoundFault>
-    requires state { state < states model.now.grid }
-    requires below { 0 < n → length below.now ≡ states model.now.grid }
-
-    // Whatever table the entry and the values below it are of, its fault there is reported.
-    ensures value { (t : Table) → IsStateEntry model.now t n state entry.now
-        → OfBelow (λ k. AreValuesOf model.now t k below.now) n
-        → AnswersFault result (state_fault model.now t n state) }
-    ensures allowed { OnOk result (MayAdvise model.now n state entry.now.advice) }
-{
-    let (present, vertex) = parts(model, state);
-    check(model, n, present, vertex, entry, Below::Values(below))
-}
-
-/// The same, by the means of the layer below, as `fill_means` writes them.
-pub fn check_by_means(
-    model: &Model,
-    n: u32,
-    state: u32,
-    entry: &Entry,
-    means: &[Pair],
-) -> Result<(), BoundFault>
-    requires state { state < states model.now.grid }
-    requires means { 0 < n → length means.now ≡ states model.now.grid }
-
-    // Whatever table the entry and the means below it are of, its fault there is reported.
-    ensures value { (t : Table) → IsStateEntry model.now t n state entry.now
-        → OfBelow (λ k. AreMeansOf model.now t k means.now) n
-        → AnswersFault result (state_fault model.now t n state) }
-    ensures allowed { OnOk result (MayAdvise model.now n state entry.now.advice) }
-{
-    let (present, vertex) = parts(model, state);
-    check_at(model, n, present, vertex, entry, means)
-}
-
-/// The same of the state at a vertex where an advisory is present.
+/// Whether the entry of a state with n seconds to go is sound by the layer below, and the first part that it fails if not: of the state at
+/// a vertex where an advisory is present, by the means of the layer below in the order of the states' numbers. With no second to go none
+/// is looked at.
 pub fn check_at(
     model: &Model,
     n: u32,
@@ -219,7 +164,30 @@ pub fn check_at(
     ensures allowed { OnOk result (0 < n → MayChoose model.now present entry.now.advice) }
 {
     let _ = model.grid();
-    check(model, n, present, vertex, entry, Below::Means(means))
+    check(model, n, present, vertex, entry, Below::AtStates(means))
+}
+
+/// The same, by the means at the vertex alone, under each advisory by its number.
+pub fn check_at_vertex(
+    model: &Model,
+    n: u32,
+    present: u8,
+    vertex: u32,
+    entry: &Entry,
+    means: &VertexMeans,
+) -> Result<(), BoundFault>
+    requires present { present < model.now.grid.advisories }
+    requires vertex { vertex < vertices model.now.grid }
+
+    // Whatever table the entry and the means are of, its fault there is reported.
+    ensures value { let x = numbers.vertex_at model.now.grid vertex in
+        (t : Table) → IsEntryOf t n present x entry.now
+        → OfBelow (λ k. AreOfLayer model.now t k x (value_at Upper means.now) (value_at Lower means.now)) n
+        → AnswersFault result (bound_fault model.now t n present x) }
+    ensures allowed { OnOk result (0 < n → MayChoose model.now present entry.now.advice) }
+{
+    let _ = model.grid();
+    check(model, n, present, vertex, entry, Below::AtVertex(means))
 }
 
 /// Whether the entry at a vertex under the present advisory of a plane, with a second to go, is sound. It is quickly answered: the means

@@ -1,15 +1,15 @@
 //! The choices under a present advisory, by their costs and by their lower values.
 ghost use Rattle.std.specs.Prelude.{◌≡◌, ◌<◌, length, IfSome};
 ghost use Rattle.acas_spec.specs.Axis.{IsBetween};
-ghost use Rattle.acas_spec.specs.Model.{choices_at, states, vertices};
+ghost use Rattle.acas_spec.specs.Model.{choices_at, vertices};
 ghost use Rattle.acas_grid.specs.States as numbers;
 ghost use Rattle.acas_process.specs.Compiled.{least};
-ghost use Rattle.acas_step.specs.Choices.{listed_choice, value_by_mean};
-ghost use Rattle.acas_bounds.specs.Means.{allowed_cost, lower_below, pairs_below};
+ghost use Rattle.acas_means.specs.Choices.{listed_choice, value_by_mean};
+ghost use Rattle.acas_bounds.specs.Means.{HasMeans, allowed_cost, lower_below};
 
-use crate::below::{Below, lower_mean};
+use crate::below::{Below, means_under};
 use acas_base::Model;
-use acas_step::{choice_among, choice_at, choice_count, with_cost};
+use acas_means::{choice_among, choice_at, choice_count, with_cost};
 use acas_units::{GREATEST_COST, LEAST_COST};
 
 // The cost of an advisory in units, or None where it is at no place of the list of choices.
@@ -53,12 +53,12 @@ fn lower_value(model: &Model, present: u8, vertex: u32, place: usize, below: Bel
     requires present { present < model.now.grid.advisories }
     requires vertex { vertex < vertices model.now.grid }
     requires place { place < length (choices_at model.now present) }
-    requires below { length (pairs_below below) ≡ states model.now.grid }
+    requires below { HasMeans model.now below }
     ensures { let means = lower_below model.now below.entry (numbers.vertex_at model.now.grid vertex) in
         result ≡ value_by_mean model.now present means (listed_choice model.now present place).advisory }
 {
     let choice = choice_at(model, present, place);
-    let mean = lower_mean(model, vertex, choice.advisory, below);
+    let mean = means_under(model, vertex, choice.advisory, below).lower;
     with_cost(mean, choice.cost)
 }
 
@@ -66,7 +66,7 @@ fn lower_value(model: &Model, present: u8, vertex: u32, place: usize, below: Bel
 pub(crate) fn least_lower(model: &Model, present: u8, vertex: u32, below: Below<'_>) -> i128
     requires present { present < model.now.grid.advisories }
     requires vertex { vertex < vertices model.now.grid }
-    requires below { length (pairs_below below) ≡ states model.now.grid }
+    requires below { HasMeans model.now below }
     ensures { let means = lower_below model.now below.entry (numbers.vertex_at model.now.grid vertex) in
         result ≡ least (value_by_mean model.now present means) (choices_at model.now present) }
 {

@@ -4,7 +4,7 @@ ghost use Rattle.acas_spec.specs.Limits.{IsModel};
 ghost use Rattle.acas_spec.specs.Model.{ModelData};
 ghost use Rattle.acas_spec.specs.Table.{Table};
 ghost use Rattle.acas_spec.specs.declared.place.Vertex.{Vertex};
-ghost use Rattle.acas_process.specs.Bounds.{IsSoundEntry};
+ghost use Rattle.acas_policies.specs.Bounds.{IsSoundEntry};
 ghost use Rattle.acas_bounds.specs.First.{IsFirstFault};
 ghost use Rattle.acas_bounds.specs.Sound.{bound_fault};
 ghost use Rattle.acas_spec.specs.declared.fault.BoundFault.{BoundFault};

@@ -5,8 +5,8 @@ ghost use Rattle.std.specs.Prelude.{◌≡◌, ◌↔◌, ℕ, ◌<◌, ◌^◌,
 ghost use Rattle.acas_spec.specs.Model.{states, vertices};
 ghost use Rattle.acas_grid.specs.Grid.{state_number};
 ghost use Rattle.acas_grid.specs.States as numbers;
-ghost use Rattle.acas_step.specs.Layer.{AreWithin, layer_values, value_at};
-ghost use Rattle.acas_step.specs.declared.layer.Side.TheVariants.{Lower};
+ghost use Rattle.acas_means.specs.Layer.{AreWithin, layer_values, value_at};
+ghost use Rattle.acas_means.specs.declared.layer.Side.TheVariants.{Lower};
 ghost use Rattle.acas_bounds.specs.Leasts.{AreLeasts, AreLowered, AreWithCost, HaveSameChoices};
 ghost use Rattle.acas_bounds.specs.Planes.{IsPlane};
 

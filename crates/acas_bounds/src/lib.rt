@@ -11,8 +11,7 @@ mod near;
 mod plane;
 
 pub use acas_spec::BoundFault;
-pub use acas_step::fill_means;
-pub use check::{check_at, check_by_means, check_entry, is_sound_at};
+pub use check::{check_at, check_at_vertex, is_sound_at};
 pub use laws::{faults_are_first, sound_entries_have_no_fault};
 pub use leasts::{fill_leasts, have_same_choices};
 pub use plane::Plane;

@@ -3,9 +3,9 @@ ghost use Rattle.std.specs.Prelude.{◌≡◌, ◌↔◌, ◌<◌, ◌≤◌, �
 ghost use Rattle.acas_spec.specs.Model.{states, vertices};
 ghost use Rattle.acas_grid.specs.Grid.{state_number};
 ghost use Rattle.acas_grid.specs.States as numbers;
-ghost use Rattle.acas_step.specs.Choices.{value_by_mean};
-ghost use Rattle.acas_step.specs.Layer.{AreWithin, layer_values};
-ghost use Rattle.acas_step.specs.declared.layer.Side.TheVariants.{Upper, Lower};
+ghost use Rattle.acas_means.specs.Choices.{value_by_mean};
+ghost use Rattle.acas_means.specs.Layer.{AreWithin, layer_values};
+ghost use Rattle.acas_means.specs.declared.layer.Side.TheVariants.{Upper};
 ghost use Rattle.acas_bounds.specs.Leasts.{AreLeasts};
 ghost use Rattle.acas_bounds.specs.Means.{IsUpperMet, choice_fault, formed_lower, formed_upper};
 ghost use Rattle.acas_bounds.specs.Planes.{IsPlane, IsPlaneChoice};

@@ -5,8 +5,8 @@ ghost use Rattle.acas_process.specs.Cost.{IsKnownChoice};
 ghost use Rattle.acas_bounds.specs.Planes.{IsAtPlace, IsPlane, IsPlaneChoice};
 
 use acas_base::Model;
+use acas_means::{choice_at, choice_count};
 use acas_spec::Choice;
-use acas_step::{choice_at, choice_count};
 use acas_units::GREATEST_ADVISORIES;
 
 /// A choice, with the number of its advisory's first state, and its cost in millionths.

@@ -2,17 +2,17 @@
 ghost use Rattle.std.specs.Prelude.{◌≡◌, ◌<◌, pos, ◌+ℤ◌, ◌*ℤ◌, ◌≤ℤ◌, int_le, IfOk, OnOk, length};
 ghost use Rattle.toml.specs.View.{table_view};
 ghost use Rattle.acas_units.specs.declared.limits.TheConstants.{GREATEST_RADIUS};
-ghost use Rattle.acas_region_curves.specs.Limits.{IsFlownInTime, interval_of};
+ghost use Rattle.acas_areas.specs.Limits.{IsFlownInTime, interval_of};
 ghost use Rattle.acas_model.specs.View.{item_at};
 ghost use Rattle.acas_rulings.specs.Boxes.{IsBoxOf, audited};
 ghost use Rattle.acas_input.specs.Answers.{Gives};
 ghost use Rattle.acas_boxes.specs.OneBox as rules;
 
 use crate::spans::{altitudes_at, closings_at, ranges_at, rates_at};
+use acas_areas::BoxState;
 use acas_base::Model;
 use acas_doc::{only_keys, path_of_item, table_item};
 use acas_input::{InputFault, advisory_at};
-use acas_region_curves::BoxState;
 use acas_rulings::AuditBox;
 use acas_units::{
     GREATEST_BOX_RANGE, GREATEST_CLOSING, LEAST_BOX_RANGE, LEAST_CLOSING, Span, WINDOW_SECONDS,

@@ -1,7 +1,7 @@
 //! Whether the intruder's rates of boxes are within what it may do.
 ghost use Rattle.std.specs.Prelude.{◌≡◌, ◌↔◌, ℕ, Ok, Err, IfOk};
 ghost use Rattle.acas_manoeuvre.specs.View.{may_of};
-ghost use Rattle.acas_region_curves.specs.Limits.{interval_of};
+ghost use Rattle.acas_areas.specs.Limits.{interval_of};
 ghost use Rattle.acas_rulings.specs.Boxes.{AreBoxesOf};
 ghost use Rattle.acas_input.specs.Answers.{Gives};
 ghost use Rattle.acas_input.specs.declared.fault.InputFault.TheVariants.{Rate};

@@ -2,7 +2,7 @@
 ghost use Rattle.std.specs.Prelude.{◌≡◌, ◌*◌, pos, ◌≤ℤ◌, unsigned_abs, IfOk};
 ghost use Rattle.toml.specs.View.{table_view};
 ghost use Rattle.acas_units.specs.declared.ticks.TheConstants.{TICKS_PER_FOOT};
-ghost use Rattle.acas_region_curves.specs.Limits.{IsSmall, interval_of};
+ghost use Rattle.acas_areas.specs.Limits.{IsSmall, interval_of};
 ghost use Rattle.acas_input.specs.Answers.{Gives};
 ghost use Rattle.acas_boxes.specs.Spans as rules;
 

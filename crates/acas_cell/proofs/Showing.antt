@@ -19,7 +19,7 @@ use Rattle.acas_rulings.specs.Ranges.{IsBoxesRange, IsCellsRange, IsContactOfBox
 use Rattle.acas_rulings.specs.Witness.{IsFlightInContact, IsWitnessOf}
 use Rattle.acas_rulings.specs.declared.flight.Witness.{Witness}
 use Rattle.acas_rulings.specs.declared.flight.Flight as printed
-use Rattle.acas_region_curves.proofs.Climbs.{IsOver-finer, over_left, over_right}
+use Rattle.acas_areas.proofs.Finer.{IsOver-finer, over_left, over_right}
 use Rattle.acas_rulings.proofs.Parts.{AreParts-finer}
 use Rattle.acas_rulings.specs.Boxes.{AuditedBox}
 use Rattle.acas_rulings.specs.Rulings.{IsReported, IsWitnessOfBox, IsWitnessOfCell, ShowsDanger}

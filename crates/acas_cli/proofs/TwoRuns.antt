@@ -11,13 +11,14 @@ use Rattle.acas_table_text.specs.Layers.{layers_of, table_text}
 use Rattle.acas_table_text.specs.Shape.{shape_of}
 use Rattle.acas_table_text.specs.declared.format.Format.{Format}
 use Rattle.acas_table_text.specs.declared.format.Format.TheVariants.{Layered}
-use Rattle.acas_table_text.proofs.Formats.{format-text}
+use Rattle.acas_table_text_laws.proofs.TextFormats.{format-text}
 use Rattle.acas_command.specs.Worth.{IsNotRefused}
 use Rattle.acas_command.specs.declared.status.Cause.{Cause}
 use Rattle.acas_command.specs.declared.status.Cause.TheVariants.{Done}
 use Rattle.acas_report_lines.specs.declared.counts.Which.{Which}
 use Rattle.acas_audit_commands.specs.Worth.{AuditIsWorth}
-use Rattle.acas_table_commands.specs.Worth.{CheckIsWorth, CompileIsWorth, MigrateIsWorth, MigratesTable}
+use Rattle.acas_table_commands.specs.Worth.{CompileIsWorth}
+use Rattle.acas_check_commands.specs.Worth.{CheckIsWorth, MigrateIsWorth, MigratesTable}
 use Rattle.acas_cli.specs.Headline.{Headline}
 use Rattle.acas_cli_words.specs.Words.{Audit, Check, Compile, Migrate}
 

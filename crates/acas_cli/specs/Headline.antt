@@ -4,13 +4,15 @@ use Rattle.acas_outside.specs.Files.{Files}
 use Rattle.acas_outside.specs.Outside.{Outside}
 use Rattle.acas_command.specs.declared.status.Cause.{Cause}
 use Rattle.acas_command.specs.declared.status.Cause.TheVariants.{Words}
-use Rattle.acas_audit_commands.specs.Worth.{AuditIsWorth, RegionsIsWorth}
+use Rattle.acas_audit_commands.specs.Worth.{AuditIsWorth}
+use Rattle.acas_region_commands.specs.Worth.{RegionsIsWorth}
 use Rattle.acas_drill.specs.Worth.{DrillIsWorth}
 use Rattle.acas_encounter_commands.specs.Worth.{ReplayIsWorth}
 use Rattle.acas_manoeuvre_commands.specs.Worth.{ManoeuvreIsWorth}
 use Rattle.acas_risk_commands.specs.Worth.{RiskIsWorth}
 use Rattle.acas_safeable_commands.specs.Worth.{SafeableIsWorth}
-use Rattle.acas_table_commands.specs.Worth.{CheckIsWorth, CompileIsWorth, MigrateIsWorth, ValuesIsWorth}
+use Rattle.acas_table_commands.specs.Worth.{CompileIsWorth, ValuesIsWorth}
+use Rattle.acas_check_commands.specs.Worth.{CheckIsWorth, MigrateIsWorth}
 use Rattle.acas_cli_words.specs.Words.{Form, Values, Compile, Check, Risk, Audit, Regions, Manoeuvre, Safeable, Replay, Migrate, Drill}
 
 -- what each form is worth, by the files that the folder held before

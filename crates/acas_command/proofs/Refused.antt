@@ -1,5 +1,5 @@
 -- What the files hold where a command was not to be refused by them, and a command that was to be refused by nothing.
-use Rattle.std.proofs.Common.{◌≡◌, ℕ, ◌≤◌, List, length, Bool, true, false, cond, nat_lt, Option, None, Some, Result, Ok, Err, refl, ap, subst, ◌∙◌}
+use Rattle.std.proofs.Common.{◌≡◌, ℕ, ◌≤◌, List, length, Bool, true, false, cond, nat_lt, Option, None, Some, Result, Ok, Err, refl, ap, sym, subst, ◌∙◌}
 use Rattle.std.proofs.lemmas.Bool.{le-ltb, ltb-false}
 use Rattle.sha2.specs.Sha256.{sha256}
 use Rattle.acas_units.specs.declared.limits.TheConstants.{TEXT_BYTES}
@@ -96,3 +96,7 @@ not_refused called files Folder before after prints h a = h
 not_refused called files Output before after prints h a = h
 not_refused called files (TooLong role) before after prints h a = subst MayPrint a.refused (prints a.outcome a.may)
 not_refused called files Memory before after prints h a = tt
+
+-- a cause that outcomes share may print in both
+pub prints-cause : (o o' : Outcome) → o ≡ o' → MayPrint o'.cause → MayPrint o.cause
+prints-cause o o' same h = subst (λ (p : Outcome). MayPrint p.cause) (sym same) h

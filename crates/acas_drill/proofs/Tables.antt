@@ -8,7 +8,7 @@ use Rattle.acas_grid.specs.Grid.{state_number, vertex_number}
 use Rattle.acas_outside.specs.Files.{Files, Stores}
 use Rattle.acas_outside.proofs.Inserted.{get-insert_same}
 use Rattle.acas_process.specs.Compiled.{compiled}
-use Rattle.acas_step.proofs.NumberedStates.{state_number-below}
+use Rattle.acas_means.proofs.NumberedStates.{state_number-below}
 use Rattle.acas_accept.specs.Answers.{Accepts, HasAdvices}
 use Rattle.acas_accept.specs.Refusals.{first_refusal}
 use Rattle.acas_accept.specs.declared.refusal.AcceptFault.{AcceptFault}

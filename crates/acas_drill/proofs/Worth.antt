@@ -9,8 +9,8 @@ use Rattle.acas_outside.specs.Bytes.{Appends}
 use Rattle.acas_outside.specs.Files.{Files}
 use Rattle.acas_outside.specs.Outside.{Outside}
 use Rattle.acas_process.specs.Compiled.{compiled}
-use Rattle.acas_process.proofs.BoundLaws.{two_sided_bounds}
-use Rattle.acas_process.proofs.CompiledLaws.{compiled_is_sound, compiled_is_tight}
+use Rattle.acas_policies.proofs.BoundLaws.{two_sided_bounds}
+use Rattle.acas_policies.proofs.CompiledBounds.{compiled_is_sound, compiled_is_tight}
 use Rattle.acas_accept.proofs.CompiledTables.{compiled_is_accepted}
 use Rattle.acas_table_text.specs.declared.format.Format.TheVariants.{Layered}
 use Rattle.acas_command.specs.Answers.{Answers}

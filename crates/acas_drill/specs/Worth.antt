@@ -9,15 +9,16 @@ use Rattle.acas_base.specs.Advices.{AdvicesData}
 use Rattle.acas_outside.specs.Bytes.{Appends}
 use Rattle.acas_outside.specs.Files.{Files}
 use Rattle.acas_outside.specs.Outside.{Outside}
-use Rattle.acas_process.specs.Bounds.{HasTwoSidedBounds, IsTight}
+use Rattle.acas_policies.specs.Bounds.{HasTwoSidedBounds, IsTight}
 use Rattle.acas_table_text.specs.Layers.{table_text}
 use Rattle.acas_table_text.specs.declared.format.Format.TheVariants.{Layered}
 use Rattle.acas_accept.specs.Accepted.{IsAcceptedTable}
 use Rattle.acas_cells.specs.Corners.{advisory_cells}
-use Rattle.acas_report_lines.specs.Report.{IsReportOn, clear_cells, report_text}
+use Rattle.acas_report_lines.specs.Report.{IsReportOn}
 use Rattle.acas_report_lines.specs.Text.{is_certified}
 use Rattle.acas_report_lines.specs.declared.counts.Counts.{Counts}
 use Rattle.acas_report_lines.specs.declared.counts.Which.TheVariants.{All}
+use Rattle.acas_report_cells.specs.Report.{clear_cells, report_text}
 use Rattle.acas_command.specs.Called.{MayPrint}
 use Rattle.acas_command.specs.Outcome.{report_cause}
 use Rattle.acas_command.specs.Worth.{IsNotRefused}

@@ -13,13 +13,13 @@ ghost use Rattle.acas_table_file.specs.Worth.{AreTabled};
 use acas_accept::{AcceptFault, accept};
 use acas_base::Advices;
 use acas_command::ModelFile;
+use acas_means::LayerMeans;
 use acas_outside::MemoryFolder;
 use acas_plane::Turned;
-use acas_step::LayerMeans;
 use acas_step_choices::Backups;
 use acas_sweep::SweepRoom;
-use acas_table::TableWriter;
 use acas_table_rows::store_swept;
+use acas_table_writer::TableWriter;
 use std::alloc::{AllocError, Global};
 
 /// The name of the table in the folder of a drill.

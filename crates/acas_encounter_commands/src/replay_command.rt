@@ -7,9 +7,9 @@ ghost use Rattle.acas_encounter_commands.specs.Calls.{CallsForReplay};
 
 use crate::encounter_file::read_encounter_file;
 use acas_command::{Cause, read_model_file};
+use acas_means::LayerMeans;
 use acas_outside::{Folder, Sink};
 use acas_print::PrintFault;
-use acas_step::LayerMeans;
 use acas_table_file::read_table_file;
 use std::alloc::Global;
 

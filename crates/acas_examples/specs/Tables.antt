@@ -4,7 +4,7 @@ use Rattle.acas_spec.specs.Model.{ModelData}
 use Rattle.acas_spec.specs.Table.{Table}
 use Rattle.acas_spec.specs.declared.place.Point.{Point}
 use Rattle.acas_spec.specs.declared.place.Vertex.{Vertex}
-use Rattle.acas_process.specs.Bounds.{interpolated}
+use Rattle.acas_process.specs.Values.{interpolated}
 use Rattle.acas_process.specs.Compiled.{compiled, compiled_values}
 use Rattle.acas_process.specs.Step.{moved, share}
 use Rattle.acas_examples.specs.Parts.{vertex}

@@ -1,6 +1,6 @@
 //! Sound entries, and entries that are a millionth or an advice away from it.
 ghost use Rattle.std.specs.Prelude.{pos};
-ghost use Rattle.acas_process.specs.Bounds.{IsSoundEntry};
+ghost use Rattle.acas_policies.specs.Bounds.{IsSoundEntry};
 ghost use Rattle.acas_process.specs.Compiled.{compiled};
 ghost use Rattle.acas_examples.specs.Models.{four_advisories, noisy, switching};
 ghost use Rattle.acas_examples.specs.Parts.{minus, vertex};

@@ -1,15 +1,10 @@
-pub mod Borders
 pub mod Models
 pub mod Safe
-pub mod BestTimes
-pub mod BoxWindows
 pub mod Held
 pub mod Rising
-pub mod EndTimes
 pub mod Scales
 pub mod Longer
 pub mod Tangents
 pub mod Mirror
-pub mod Windows
 pub mod Gaps
-pub mod GapScales
+pub mod Numbers

@@ -1,7 +1,6 @@
-//! The two curves that bound every climb, windows of horizontal contact, and the times of least and greatest gaps: lemmas, and the laws of
-//! curves and windows.
+//! The two curves that bound every climb: lemmas, and the laws of curves.
 #![tactic(auto)]
 
 mod laws;
 
-pub use laws::{advisories_can_be_met, holding_longer_never_helps, windows_in_numbers};
+pub use laws::{advisories_can_be_met, holding_longer_never_helps};

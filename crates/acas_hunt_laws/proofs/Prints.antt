@@ -12,7 +12,7 @@ use Rattle.acas_passes.specs.Search.{IsTimed, unit}
 use Rattle.acas_passes.specs.Responses.{IsApproachFor, IsHoldFor, fine, not_held}
 use Rattle.acas_pass_laws.proofs.Touching.{lasts}
 use Rattle.acas_rulings.specs.Printed.{AreParts, hold_part, some_part, segments_of}
-use Rattle.acas_region_curves.proofs.Climbs.{IsOver-finer}
+use Rattle.acas_areas.proofs.Finer.{IsOver-finer}
 use Rattle.acas_rulings.proofs.Parts.{AreParts-append, AreParts-finer}
 use Rattle.acas_manoeuvre.specs.Intruder.{Manoeuvre}
 use Rattle.acas_manoeuvre.specs.Apart.{IsApart}

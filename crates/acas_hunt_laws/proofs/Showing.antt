@@ -13,7 +13,7 @@ use Rattle.acas_flight_laws.proofs.Finer.{lasting_finer}
 use Rattle.acas_rulings.specs.Boxes.{AuditedBox}
 use Rattle.acas_rulings.specs.Printed.{flight_fractions, segments_of}
 use Rattle.acas_rulings.specs.Ranges.{IsContactOfBox}
-use Rattle.acas_region_curves.proofs.Climbs.{IsOver-finer, over_left, over_right}
+use Rattle.acas_areas.proofs.Finer.{IsOver-finer, over_left, over_right}
 use Rattle.acas_rulings.proofs.Parts.{AreParts-finer}
 use Rattle.acas_manoeuvre.specs.Intruder.{Manoeuvre}
 use Rattle.acas_manoeuvre.specs.Meeting.{IsEndangeredBy}

@@ -4,7 +4,7 @@ use Rattle.acas_frac.specs.Fraction.{Fraction, IsReduced}
 use Rattle.acas_flight.specs.Response.{Demand}
 use Rattle.acas_flight.specs.Window.{Times, IsDuring}
 use Rattle.acas_flight.specs.Clear.{Area}
-use Rattle.acas_region_curves.specs.Limits.{IsEnd, IsTime}
+use Rattle.acas_areas.specs.Limits.{IsEnd, IsTime}
 use Rattle.acas_passes.specs.Search.{IsTimed, unit}
 use Rattle.acas_pass_laws.proofs.Neighbours.{unit_some}
 use Rattle.acas_manoeuvre.specs.Intruder.{Manoeuvre}

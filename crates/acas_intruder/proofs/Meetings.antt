@@ -7,7 +7,7 @@ use Rattle.acas_frac.specs.Fraction.{Fraction, IsReduced, whole_of}
 use Rattle.acas_flight.specs.Response.{demand_of}
 use Rattle.acas_flight.specs.Window.{IsWindowOfBox, Times}
 use Rattle.acas_flight.specs.Clear.{area_of_box}
-use Rattle.acas_region_curves.specs.Limits.{IsCurve}
+use Rattle.acas_areas.specs.Limits.{IsCurve}
 use Rattle.acas_passes.specs.Search.{unit}
 use Rattle.acas_rulings.specs.Boxes.{AuditedBox}
 use Rattle.acas_rulings.specs.Ranges.{IsBoxesRange, IsContactOfBox}
@@ -21,7 +21,7 @@ use Rattle.acas_hunt_laws.proofs.Prints.{printed-contact}
 use Rattle.acas_hunt_laws.proofs.Showing.{shown-endangers, shows-meeting}
 use Rattle.acas_witness_plans.specs.Plans.{IsPlanOf}
 use Rattle.acas_witness_plans.proofs.Overs.{whole_over_ℕ}
-use Rattle.acas_region_curves.proofs.Climbs.{IsOver-finer}
+use Rattle.acas_areas.proofs.Finer.{IsOver-finer}
 use Rattle.acas_witness_response.specs.PrintedPlans.{IsFineBend, PrintsPlan}
 use Rattle.acas_witness.proofs.Contacts.{planned_dens}
 use Rattle.acas_meeting_search.specs.Turns.{IsTurnOf}

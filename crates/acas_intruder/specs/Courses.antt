@@ -4,7 +4,7 @@ use Rattle.acas_frac.specs.Fraction.{Fraction, IsReduced, whole_of}
 use Rattle.acas_flight.specs.Response.{Demand}
 use Rattle.acas_flight.specs.Window.{Times}
 use Rattle.acas_flight.specs.Clear.{Area}
-use Rattle.acas_region_curves.specs.Limits.{IsEnd}
+use Rattle.acas_areas.specs.Limits.{IsEnd}
 use Rattle.acas_passes.specs.Search.{unit}
 use Rattle.acas_passes.specs.Value.{thinnest}
 use Rattle.acas_manoeuvre.specs.Intruder.{Manoeuvre}

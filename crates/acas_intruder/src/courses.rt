@@ -1,8 +1,8 @@
 //! The course of an area that is not apart.
 ghost use Rattle.std.specs.Prelude.{◌≡◌, ◌<◌};
 ghost use Rattle.acas_flight.specs.Response.{demand_of};
-ghost use Rattle.acas_region_curves.specs.Limits.{IsEnd};
-ghost use Rattle.acas_region_curves.specs.View.{area_of, times_of};
+ghost use Rattle.acas_areas.specs.Limits.{IsEnd};
+ghost use Rattle.acas_areas.specs.View.{area_of, times_of};
 ghost use Rattle.acas_rulings.specs.Witness.{IsTimeOf};
 ghost use Rattle.acas_manoeuvre.specs.Apart.{IsApart};
 ghost use Rattle.acas_manoeuvre.specs.Intruder.{RatesFit};
@@ -13,11 +13,11 @@ ghost use Rattle.acas_meeting_search.specs.Turns.{CanBeFlownWith};
 ghost use Rattle.acas_meeting_search.specs.View.{hunt_of};
 ghost use Rattle.acas_intruder.specs.Courses.{IsCourseIn};
 
+use acas_areas::{BoxState, Window};
 use acas_base::Model;
 use acas_manoeuvre::Manoeuvre;
 use acas_meeting_search::{Flown, Pursuit, meet};
 use acas_race::{SearchTimes, search_times};
-use acas_region_curves::{BoxState, Window};
 use acas_witness::survey_of;
 
 // What the search of a meeting goes through in an area under an advisory, between two times.

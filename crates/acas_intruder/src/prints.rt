@@ -1,7 +1,7 @@
 //! What is printed of a course.
 ghost use Rattle.std.specs.List.{All};
 ghost use Rattle.acas_frac.specs.Fraction.{IsReduced, whole_of};
-ghost use Rattle.acas_region_curves.specs.Limits.{IsFlownInTime, interval_of};
+ghost use Rattle.acas_areas.specs.Limits.{IsFlownInTime, interval_of};
 ghost use Rattle.acas_rulings.specs.Ranges.{IsContactOf, IsRangeOf, IsTimeOfBox};
 ghost use Rattle.acas_meetings.specs.Printed.{meeting_fractions};
 ghost use Rattle.acas_witness_plans.specs.Plans.{CanBeFlown};

@@ -16,7 +16,7 @@ use Rattle.acas_flight.specs.Window.{Times}
 use Rattle.acas_flight_curves.proofs.Rising.{scaled_le}
 use Rattle.acas_flight_curves.proofs.Safe.{low_pull-some, high_pull-some}
 use Rattle.acas_flight_laws.proofs.Extremes.{during_ends, natural}
-use Rattle.acas_region_curves.specs.Limits.{AreEnds}
+use Rattle.acas_areas.specs.Limits.{AreEnds}
 use Rattle.acas_passes.specs.Search.{IsMoment}
 use Rattle.acas_manoeuvre.specs.Intruder.{Manoeuvre, RatesFit}
 use Rattle.acas_manoeuvre.specs.Race.{Race, high_race, low_race, race_gap, race_tick, turned}

@@ -3,7 +3,7 @@ ghost use Rattle.std.specs.Prelude.{◌≡◌, ◌<◌, ◌≤◌};
 ghost use Rattle.acas_spec.specs.Limits.{IsModel};
 ghost use Rattle.acas_spec.specs.Model.{ModelData};
 ghost use Rattle.acas_flight.specs.Clear.{area_of_box};
-ghost use Rattle.acas_region_curves.specs.Limits.{IsArea};
+ghost use Rattle.acas_areas.specs.Limits.{IsArea};
 ghost use Rattle.acas_passes.specs.Search.{fastest};
 ghost use Rattle.acas_rulings.specs.Boxes.{AuditedBox, IsBoxOf};
 ghost use Rattle.acas_manoeuvre.specs.Intruder.{Manoeuvre, RatesFit};

@@ -2,7 +2,7 @@
 use Rattle.std.proofs.Common.{◌≡◌, ℕ, ◌*◌, ◌<◌, ◌≤◌, inl, refl, arith, ℤ, pos, ◌*ℤ◌, ◌≤ℤ◌, unsigned_abs, mul-pos}
 use Rattle.acas_frac.specs.Fraction.{Fraction, whole_of}
 use Rattle.acas_flight.specs.Values.{IsApproach, IsHeld, IsOver}
-use Rattle.acas_region_curves.specs.Limits.{IsCurve, IsTime}
+use Rattle.acas_areas.specs.Limits.{IsCurve, IsTime}
 use Rattle.acas_witness_plans.specs.Plans.{CanBeFlown, IsPlanOf}
 use Rattle.acas_witness_plans.specs.declared.plan.Plan.{Plan}
 use Rattle.acas_witness_plans.proofs.Overs.{whole_over}

@@ -1,6 +1,6 @@
 //! Courses in fractions.
 ghost use Rattle.std.specs.Prelude.{◌≤◌, unsigned_abs};
-ghost use Rattle.acas_region_curves.specs.Sizes.{altitude_size};
+ghost use Rattle.acas_areas.specs.Sizes.{altitude_size};
 
 use acas_frac::Frac;
 use acas_witness_plans::Plan;

@@ -2,7 +2,7 @@
 ghost use Rattle.std.specs.Prelude.{◌≡◌, ℕ, ◌*◌, pos, ◌*ℤ◌, neg_ℤ};
 ghost use Rattle.acas_frac.specs.Fraction.{whole_of};
 ghost use Rattle.acas_flight.specs.Values.{IsOver};
-ghost use Rattle.acas_region_curves.specs.Limits.{IsRate, IsTime};
+ghost use Rattle.acas_areas.specs.Limits.{IsRate, IsTime};
 ghost use Rattle.acas_passes.specs.Passes.{falling};
 ghost use Rattle.acas_passes.specs.Search.{rate_step};
 ghost use Rattle.acas_witness_plans.specs.Plans.{CanBeFlown, IsPlanOf};

@@ -1,6 +1,6 @@
 //! What the search of a meeting goes through.
 ghost use Rattle.acas_flight.specs.Clear.{Area};
-ghost use Rattle.acas_region_curves.specs.View.{area_of};
+ghost use Rattle.acas_areas.specs.View.{area_of};
 ghost use Rattle.acas_manoeuvre.specs.Intruder.{RatesFit};
 ghost use Rattle.acas_manoeuvre.specs.View.{may_of};
 

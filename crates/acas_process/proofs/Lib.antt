@@ -4,11 +4,8 @@ pub mod Least
 pub mod AxisLaws
 pub mod VertexLaws
 pub mod MeanLaws
-pub mod BoundLaws
 pub mod CompiledLaws
 pub mod HatLaws
 pub mod CellLaws
 pub mod SizeLaws
 pub mod SameLaws
-pub mod PolicyLaws
-pub mod ChanceLaws

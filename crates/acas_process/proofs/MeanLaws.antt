@@ -14,7 +14,7 @@ use Rattle.acas_process.specs.Sums.{sum_below}
 use Rattle.acas_process.specs.Step.{grid_product, moved, share, over_vertices, over_sigmas, sigma_weight}
 use Rattle.acas_process.specs.Cost.{transition_weight, transition_total}
 use Rattle.acas_spec.specs.Table.{Values}
-use Rattle.acas_process.specs.Bounds.{mean_value}
+use Rattle.acas_process.specs.Values.{mean_value}
 use Rattle.acas_process.proofs.SumLaws.{sum_below-same, sum_below-le, sum_below-mul, sum_below-add, sum_below-pos}
 use Rattle.acas_process.proofs.VertexLaws.{over_vertices-le, over_vertices-same, over_vertices-mul, over_vertices-add, over_vertices-swap, moved_shares_sum, weights_sum}
 use Rattle.acas_process.proofs.AxisLaws.{gap_product_pos}

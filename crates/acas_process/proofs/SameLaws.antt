@@ -7,7 +7,7 @@ use Rattle.acas_spec.specs.declared.place.Vertex.{Vertex}
 use Rattle.acas_process.specs.Cost.{cost_of}
 use Rattle.acas_process.specs.Step.{grid_product, moved, sigma_weight, share}
 use Rattle.acas_spec.specs.Table.{Values}
-use Rattle.acas_process.specs.Bounds.{choice_value, mean_value}
+use Rattle.acas_process.specs.Values.{choice_value, mean_value}
 use Rattle.acas_process.specs.Compiled.{compiled_values, first_least, least}
 use Rattle.acas_process.proofs.SumLaws.{sum_below-same}
 use Rattle.acas_process.proofs.VertexLaws.{over_vertices-same}

@@ -1,4 +1,4 @@
--- How large the values of a compiled table, and those of a policy, are.
+-- How large the values of a compiled table are.
 use Rattle.std.proofs.Common.{◌≡◌, ℕ, zero, suc, ◌+◌, ◌*◌, ◌<◌, ◌≤◌, ℤ, pos, neg_ℤ, ◌*ℤ◌, ◌≤ℤ◌, List, [], ◌∷◌, length, get_or, unsigned_abs, Bool, true, false, cond, nat_eq, ap, subst, ◌∙◌, arith}
 use Rattle.std.proofs.lemmas.Int.{ints}
 use Rattle.acas_units.specs.declared.limits.TheConstants.{LEAST_COST, GREATEST_COST}
@@ -15,18 +15,15 @@ use Rattle.acas_frac.proofs.RoundingLaws.{down_greatest, down_is_floor, either, 
 use Rattle.acas_frac.proofs.SignedProducts.{le-from_mul_ℤ, le-trans_ℤ, mul_comm_ℤ}
 use Rattle.acas_process.specs.Sums.{sum_below}
 use Rattle.acas_process.specs.Step.{grid_product, moved, share, over_vertices, over_sigmas, sigma_weight}
-use Rattle.acas_process.specs.Allowed.{SaysAdvisories}
-use Rattle.acas_process.specs.Cost.{IsEntry, cost_among, cost_of, terminal_cost}
-use Rattle.acas_spec.specs.Table.{Policy, Values}
-use Rattle.acas_process.specs.Bounds.{interpolated, mean_value, choice_value}
+use Rattle.acas_process.specs.Cost.{cost_among, cost_of, terminal_cost}
+use Rattle.acas_spec.specs.Table.{Values}
+use Rattle.acas_process.specs.Values.{interpolated, mean_value, choice_value}
 use Rattle.acas_process.specs.Compiled.{least, first_least, compiled_values}
-use Rattle.acas_process.specs.Policies.{policy_values}
 use Rattle.acas_process.proofs.SumLaws.{sum_below-same, sum_below-mul}
 use Rattle.acas_process.proofs.VertexLaws.{over_vertices-same, over_vertices-mul, moved_shares_sum, weights_sum}
 use Rattle.acas_process.proofs.MeanLaws.{shared, shared-le, weighted-le, grid_product_pos}
 use Rattle.acas_process.proofs.ModelLaws.{is_chosen, total_weight_pos}
 use Rattle.acas_process.proofs.Least.{first_least_is}
-use Rattle.acas_process.proofs.BoundLaws.{state_below}
 
 shared_const : (grid : GridData) (s : Point) (z : ℤ) → over_vertices grid (λ y. pos (share grid s y)) ≡ pos (grid_product grid) → shared grid s (λ y. z) ≡ pos (grid_product grid) *ℤ z
 shared_const grid s z whole =
@@ -87,7 +84,7 @@ unsigned_abs-cond : (b : Bool) (most : ℕ) (y z : ℤ) → unsigned_abs y ≤ m
 unsigned_abs-cond true most y z h k = h
 unsigned_abs-cond false most y z h k = k
 
-terminal_size : (m : ModelData) (x : Vertex) → IsModel m → unsigned_abs (terminal_cost m x) ≤ 1_000_000_000
+pub terminal_size : (m : ModelData) (x : Vertex) → IsModel m → unsigned_abs (terminal_cost m x) ≤ 1_000_000_000
 terminal_size m x v = unsigned_abs-cond _ 1_000_000_000 m.contact (pos 0) (unsigned_abs-between 1_000_000_000 LEAST_COST GREATEST_COST m.contact v.contact (omega arith) (omega arith)) (omega arith)
 
 cost_among_size : (cs : List Choice) (a most : ℕ) (d : Choice) → ((k : ℕ) → k < length cs → unsigned_abs (get_or cs k d).cost ≤ most) → unsigned_abs (cost_among cs a) ≤ most
@@ -100,7 +97,7 @@ cost_size m p a v known =
     cost_among_size (choices_at m p) a 1_000_000_000 _ (λ k w. unsigned_abs-between 1_000_000_000 LEAST_COST GREATEST_COST _ ((v.choices p known).each k w).cost (omega arith) (omega arith))
 
 -- the value of a choice is at most 10 ^ 15 larger in size than the values below
-choice_size : (round : ℤ → ℤ → ℤ) → IsRounding round → (m : ModelData) → IsModel m → (below : Values) (p : ℕ) (x : Vertex) (a b : ℕ) → p < m.grid.advisories → ((y : Vertex) → IsVertex m.grid y → unsigned_abs (below a y) ≤ b) →
+pub choice_size : (round : ℤ → ℤ → ℤ) → IsRounding round → (m : ModelData) → IsModel m → (below : Values) (p : ℕ) (x : Vertex) (a b : ℕ) → p < m.grid.advisories → ((y : Vertex) → IsVertex m.grid y → unsigned_abs (below a y) ≤ b) →
     unsigned_abs (choice_value round m below p x a) ≤ b + 1_000_000_000_000_000
 choice_size round way m v below p x a b known h = let mean = mean_bounded round way m below x a b v h in let cost = cost_size m p a v known in omega (arith, ints, mean, cost)
 
@@ -120,11 +117,3 @@ pub compiled_size : (round : ℤ → ℤ → ℤ) → IsRounding round → (m : 
 compiled_size round way m v zero p x known = omega (arith, ints, terminal_size m x v)
 compiled_size round way m v (suc n) p x known =
     omega (arith, least_size round way m v (compiled_values round m n) p x ((n + 1) * 1_000_000_000_000_000) known (λ a y k i. compiled_size round way m v n a y k))
-
--- the same of the values of a policy
-pub policy_size : (round : ℤ → ℤ → ℤ) → IsRounding round → (m : ModelData) (policy : Policy) (n p : ℕ) (x : Vertex) → IsModel m → SaysAdvisories m policy → IsEntry m n p x →
-    unsigned_abs (policy_values round m policy n p x) ≤ (n + 1) * 1_000_000_000_000_000
-policy_size round way m policy zero p x v says at = omega (arith, ints, terminal_size m x v)
-policy_size round way m policy (suc n) p x v says at =
-    let a : ℕ = policy (suc n) p x in
-    omega (arith, choice_size round way m v (policy_values round m policy n) p x a ((n + 1) * 1_000_000_000_000_000) at.present (λ y k. policy_size round way m policy n a y v says (state_below m policy n p x y says at k)))

@@ -7,7 +7,7 @@ use Rattle.acas_frac.specs.Rounding.{down, up}
 use Rattle.acas_spec.specs.Table.{Policy}
 use Rattle.acas_process.specs.Cost.{terminal_cost}
 use Rattle.acas_spec.specs.Table.{Values, Table}
-use Rattle.acas_process.specs.Bounds.{millionths, choice_value, upper_value}
+use Rattle.acas_process.specs.Values.{millionths, choice_value}
 
 -- the least value over the choices of a list, which is not empty
 abbrev pub least : (ℕ → ℤ) → List Choice → ℤ
@@ -30,7 +30,7 @@ compiled_values round m (suc n) p x = least (choice_value round m (compiled_valu
 -- the first choice of the least upper value; with no second to go there is none, which is written 255
 abbrev pub compiled_advice : ModelData → Policy
 compiled_advice m zero p x = 255
-compiled_advice m (suc n) p x = first_least (upper_value m (compiled_values up m n) p x) (choices_at m p)
+compiled_advice m (suc n) p x = first_least (choice_value up m (compiled_values up m n) p x) (choices_at m p)
 
 -- the compiled table has the least upper and the least lower value of the choices
 abbrev pub compiled : ModelData → Table

@@ -2,7 +2,5 @@ pub mod Sums
 pub mod Axis
 pub mod Step
 pub mod Cost
-pub mod Bounds
+pub mod Values
 pub mod Compiled
-pub mod Allowed
-pub mod Policies

@@ -1,7 +1,7 @@
 -- A race within the limits.
 use Rattle.std.specs.Prelude.{ℕ, ◌<◌, ◌≤◌, ℤ, ◌≤ℤ◌, unsigned_abs}
 use Rattle.acas_units.specs.declared.limits.TheConstants.{GREATEST_RATE, GREATEST_LIMIT, GREATEST_DELAY}
-use Rattle.acas_region_curves.specs.Sizes.{altitude_size}
+use Rattle.acas_areas.specs.Sizes.{altitude_size}
 use Rattle.acas_manoeuvre.specs.Race.{Race}
 
 -- the race of these eight numbers

@@ -1,5 +1,5 @@
 -- What the structs stand for.
-use Rattle.acas_region_curves.specs.declared.parts.Moment.{Moment}
+use Rattle.acas_areas.specs.declared.parts.Moment.{Moment}
 use Rattle.acas_manoeuvre.specs.Race.{Race}
 use Rattle.acas_manoeuvre.specs.Turns.{Instant}
 use Rattle.acas_race.specs.Runs.{race_of}

@@ -1,7 +1,7 @@
 //! Whether an area is apart from an intruder that may change its rate, in whole numbers and without a division.
 ghost use Rattle.std.specs.Prelude.{◌≡◌, ◌*◌, ◌<◌, ◌≤◌, ◌↔◌, pos, IsTrue, int_lt};
 ghost use Rattle.acas_flight.specs.Response.{demand_of};
-ghost use Rattle.acas_region_curves.specs.View.{area_of, demand_in, times_of};
+ghost use Rattle.acas_areas.specs.View.{area_of, demand_in, times_of};
 ghost use Rattle.acas_manoeuvre.specs.Apart.{IsApart, StaysAbove};
 ghost use Rattle.acas_manoeuvre.specs.Intruder.{RatesFit};
 ghost use Rattle.acas_manoeuvre.specs.Turns.{race_number};
@@ -12,10 +12,10 @@ use crate::contest::Contest;
 use crate::nearest::nearest;
 use crate::number::{number, times};
 use crate::sides::{high_contest, low_contest};
+use acas_areas::{Asked, BoxState, Moment, Window};
 use acas_base::Model;
 use acas_manoeuvre::Manoeuvre;
 use acas_region::{asked_by, natural};
-use acas_region_curves::{Asked, BoxState, Moment, Window};
 use acas_units::{GREATEST_HALF_HEIGHT, TICKS_PER_FOOT};
 
 // Whether the curve is more than the half height above the intruder at a time.

@@ -6,7 +6,7 @@ ghost use Rattle.acas_race.specs.View.{instant_at, race_in};
 use crate::contest::Contest;
 use crate::number::is_lower;
 use crate::turn::turn_within;
-use acas_region_curves::Moment;
+use acas_areas::Moment;
 
 // The first of three times, in their order, at which the curve is least above the intruder.
 fn first_of(contest: &Contest, from: &Moment, turn: &Moment, to: &Moment) -> Moment

@@ -1,16 +1,16 @@
 //! The first time of a window at which a curve is nearest the intruder.
 ghost use Rattle.acas_frac.specs.Fraction.{IsReduced};
-ghost use Rattle.acas_region_curves.specs.Limits.{IsEnd};
-ghost use Rattle.acas_region_curves.specs.View.{times_of};
+ghost use Rattle.acas_areas.specs.Limits.{IsEnd};
+ghost use Rattle.acas_areas.specs.View.{times_of};
 ghost use Rattle.acas_manoeuvre.specs.Least.{IsFirstLeastTime};
 ghost use Rattle.acas_manoeuvre.specs.Turns.{fraction_of};
 ghost use Rattle.acas_race.specs.View.{instant_at, race_in};
 
 use crate::contest::Contest;
 use crate::first::first_least;
+use acas_areas::{Moment, Window};
 use acas_frac::Frac;
 use acas_region::{moment_of, time_of};
-use acas_region_curves::{Moment, Window};
 
 /// The first time of the window at which the curve is least above the intruder.
 pub(crate) fn nearest(contest: &Contest, window: &Window) -> Moment

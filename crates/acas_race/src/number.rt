@@ -5,8 +5,8 @@ ghost use Rattle.acas_manoeuvre.specs.Turns.{race_number};
 ghost use Rattle.acas_race.specs.View.{instant_at, race_in};
 
 use crate::contest::Contest;
+use acas_areas::Moment;
 use acas_region::climb_at;
-use acas_region_curves::Moment;
 use acas_units::{GREATEST_CLOSING, GREATEST_LIMIT};
 
 /// A number times a natural one.

@@ -2,8 +2,8 @@
 ghost use Rattle.std.specs.Prelude.{◌<◌};
 ghost use Rattle.acas_frac.specs.Fraction.{IsReduced};
 ghost use Rattle.acas_flight.specs.Response.{demand_of};
-ghost use Rattle.acas_region_curves.specs.Limits.{IsEnd};
-ghost use Rattle.acas_region_curves.specs.View.{area_of, times_of};
+ghost use Rattle.acas_areas.specs.Limits.{IsEnd};
+ghost use Rattle.acas_areas.specs.View.{area_of, times_of};
 ghost use Rattle.acas_manoeuvre.specs.Intruder.{RatesFit};
 ghost use Rattle.acas_manoeuvre.specs.Least.{IsFirstLeastTime};
 ghost use Rattle.acas_manoeuvre.specs.Race.{high_race, low_race, turned};
@@ -11,11 +11,11 @@ ghost use Rattle.acas_manoeuvre.specs.View.{may_of};
 
 use crate::nearest::nearest_time;
 use crate::sides::{high_contest, low_contest};
+use acas_areas::{BoxState, Window};
 use acas_base::Model;
 use acas_frac::Frac;
 use acas_manoeuvre::Manoeuvre;
 use acas_region::asked_by;
-use acas_region_curves::{BoxState, Window};
 
 /// When the low curve of an area is first nearest the intruder that goes to its greatest rate, and when the high curve is first nearest
 /// the one that goes to its least: in seconds, from 0 to 600, over 5000 at most.

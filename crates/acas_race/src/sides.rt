@@ -1,15 +1,15 @@
 //! The two curves of an area against an intruder that may change its rate.
 ghost use Rattle.std.specs.Prelude.{◌≡◌, ◌<ℤ◌, ◌≤ℤ◌};
-ghost use Rattle.acas_region_curves.specs.View.{area_of, demand_in};
+ghost use Rattle.acas_areas.specs.View.{area_of, demand_in};
 ghost use Rattle.acas_manoeuvre.specs.Intruder.{RatesFit};
 ghost use Rattle.acas_manoeuvre.specs.Race.{high_race, low_race, turned};
 ghost use Rattle.acas_manoeuvre.specs.View.{may_of};
 ghost use Rattle.acas_race.specs.View.{race_in};
 
 use crate::contest::Contest;
+use acas_areas::{Asked, BoxState};
 use acas_manoeuvre::Manoeuvre;
 use acas_region::{minus, natural};
-use acas_region_curves::{Asked, BoxState};
 
 // The low curve from below lo.
 fn from_below(asked: &Asked, may: &Manoeuvre, area: &BoxState) -> Contest

@@ -4,8 +4,8 @@ ghost use Rattle.acas_manoeuvre.specs.Turns.{IsEarlyTurn, IsLateTurn, IsLooked, 
 ghost use Rattle.acas_race.specs.View.{instant_at, race_in};
 
 use crate::contest::Contest;
+use acas_areas::Moment;
 use acas_region::natural;
-use acas_region_curves::Moment;
 use acas_units::{GREATEST_DELAY, GREATEST_LIMIT, GREATEST_RATE};
 
 // The turn, or the end of a window next to it.

@@ -12,11 +12,11 @@ use Rattle.acas_flight.specs.Clear.{Area, IsClear, IsClearAbove, IsClearBelow}
 use Rattle.acas_flight.specs.Border.{Border, border_of, border_gap, gap_number, low_border_of, high_border_of, IsGapAt, IsLeastGap, IsNearestTime}
 use Rattle.acas_frac.proofs.IntRing.{at, ◌⊗◌, ring}
 use Rattle.acas_frac.proofs.Orders.{cases_lt_ℤ, neg-lt_ℤ}
-use Rattle.acas_flight_curves.proofs.EndTimes.{first_least, last_least}
+use Rattle.acas_flight_windows.proofs.EndTimes.{first_least, last_least}
 use Rattle.acas_flight_curves.proofs.Gaps.{IsGapAt-of, low_pull-border, high_pull-border, least_gap-border, greatest_gap-border}
-use Rattle.acas_region_curves.specs.Chases.{StaysOver}
-use Rattle.acas_region_curves.specs.Limits.{AreEnds}
-use Rattle.acas_region_curves.proofs.LeastGaps.{least_of_nearest}
+use Rattle.acas_areas.specs.Chases.{StaysOver}
+use Rattle.acas_areas.specs.Limits.{AreEnds}
+use Rattle.acas_flight_windows.proofs.LeastGaps.{least_of_nearest}
 
 -- the gap at the time n/d, over d*d times the pull
 abbrev gap_at : Border → ℕ → ℕ → Fraction

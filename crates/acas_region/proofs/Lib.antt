@@ -1,2 +1,1 @@
-pub mod NearestTimes
 pub mod Clears

@@ -1,10 +1,10 @@
 //! The two curves of a box against its intruders.
 ghost use Rattle.std.specs.Prelude.{◌≡◌, ◌<ℤ◌, ◌≤ℤ◌};
 ghost use Rattle.acas_flight.specs.Border.{high_border_of, low_border_of};
-ghost use Rattle.acas_region_curves.specs.View.{area_of, demand_in, border_in};
+ghost use Rattle.acas_areas.specs.View.{area_of, demand_in, border_in};
 
 use crate::numbers::minus;
-use acas_region_curves::{Asked, BoxState, Chase};
+use acas_areas::{Asked, BoxState, Chase};
 
 /// The low curve of a box against its highest intruder.
 pub(crate) fn low_chase(asked: &Asked, area: &BoxState) -> Chase

@@ -3,12 +3,13 @@ ghost use Rattle.std.specs.Prelude.{◌≡◌, ℕ, ◌*◌, ◌^◌, ◌≤◌,
 ghost use Rattle.acas_frac.specs.Fraction.{Fraction, IsReduced};
 ghost use Rattle.acas_flight.specs.Curves.{held};
 ghost use Rattle.acas_flight.specs.Border.{gap_number};
-ghost use Rattle.acas_region_curves.specs.Limits.{IsEnd};
-ghost use Rattle.acas_region_curves.specs.Sizes.{altitude_size};
-ghost use Rattle.acas_region_curves.specs.View.{border_in};
+ghost use Rattle.acas_areas.specs.Limits.{IsEnd};
+ghost use Rattle.acas_areas.specs.Sizes.{altitude_size};
+ghost use Rattle.acas_areas.specs.View.{border_in};
 
+use acas_areas::{Chase, Moment};
 use acas_frac::Frac;
-use acas_region_curves::{Chase, Moment, numerator};
+use acas_region_curves::numerator;
 use acas_units::{GREATEST_CLOSING, GREATEST_DELAY, GREATEST_LIMIT, GREATEST_RATE, WINDOW_SECONDS};
 
 /// The numbers of a window's end, or of another time over as little, which are in lowest terms.

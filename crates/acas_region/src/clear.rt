@@ -3,16 +3,16 @@ ghost use Rattle.std.specs.Prelude.{◌≡◌, ◌*◌, ◌<◌, ◌≤◌, ◌�
 ghost use Rattle.acas_flight.specs.Response.{demand_of};
 ghost use Rattle.acas_flight.specs.Clear.{IsClear, IsClearAbove, IsClearBelow, IsEndangeredDuring};
 ghost use Rattle.acas_flight.specs.Border.{gap_number};
-ghost use Rattle.acas_region_curves.specs.Chases.{StaysOver};
-ghost use Rattle.acas_region_curves.specs.View.{area_of, demand_in, border_in, times_of};
+ghost use Rattle.acas_areas.specs.Chases.{StaysOver};
+ghost use Rattle.acas_areas.specs.View.{area_of, demand_in, border_in, times_of};
 
 use crate::borders::{high_chase, low_chase};
 use crate::chase::{gap_number, moment_of, scale};
 use crate::demand::asked_by;
 use crate::nearest::nearest;
 use crate::numbers::natural;
+use acas_areas::{Asked, BoxState, Chase, Moment, Window};
 use acas_base::Model;
-use acas_region_curves::{Asked, BoxState, Chase, Moment, Window};
 use acas_units::{GREATEST_HALF_HEIGHT, TICKS_PER_FOOT};
 
 // Whether the curve is more than the half height over the intruder at a time.

@@ -3,12 +3,13 @@ ghost use Rattle.std.specs.Prelude.{◌≡◌, ◌<◌, ◌≤◌, pos, ◌*ℤ�
 ghost use Rattle.acas_frac.specs.Fraction.{Fraction, whole_of};
 ghost use Rattle.acas_flight.specs.Response.{demand_of};
 ghost use Rattle.acas_flight.specs.Values.{IsHeld, IsHighestClimb, IsLowestClimb};
-ghost use Rattle.acas_region_curves.specs.Limits.{IsRate, IsStart};
-ghost use Rattle.acas_region_curves.specs.View.{demand_in};
+ghost use Rattle.acas_areas.specs.Limits.{IsRate, IsStart};
+ghost use Rattle.acas_areas.specs.View.{demand_in};
 
+use acas_areas::Asked;
 use acas_base::Model;
 use acas_frac::Frac;
-use acas_region_curves::{Asked, held, rate_parts};
+use acas_region_curves::{held, rate_parts};
 use acas_units::{GREATEST_DELAY, GREATEST_LIMIT, GREATEST_RATE};
 
 /// What the advisory of a number asks.

@@ -3,15 +3,15 @@ ghost use Rattle.std.specs.Prelude.{◌<◌};
 ghost use Rattle.acas_frac.specs.Fraction.{IsFrac};
 ghost use Rattle.acas_flight.specs.Response.{demand_of};
 ghost use Rattle.acas_flight.specs.Extremes.{IsHighExtreme, IsHighGapAt, IsLowExtreme, IsLowGapAt};
-ghost use Rattle.acas_region_curves.specs.Limits.{IsEnd};
-ghost use Rattle.acas_region_curves.specs.View.{area_of, demand_in, times_of};
+ghost use Rattle.acas_areas.specs.Limits.{IsEnd};
+ghost use Rattle.acas_areas.specs.View.{area_of, demand_in, times_of};
 
 use crate::borders::{high_chase, low_chase};
 use crate::demand::asked_by;
 use crate::least::least;
 use crate::numbers::negate;
+use acas_areas::{Asked, BoxState, Extreme, Window};
 use acas_base::Model;
-use acas_region_curves::{Asked, BoxState, Extreme, Window};
 
 // The least gap under what an advisory asks.
 fn low_of(asked: &Asked, area: &BoxState, window: &Window) -> Extreme

@@ -2,14 +2,14 @@
 ghost use Rattle.std.specs.Prelude.{◌≡◌, ◌^◌, ◌<◌, ◌≤◌, pos, ◌*◌, ◌*ℤ◌, ◌<ℤ◌, ◌≤ℤ◌, unsigned_abs};
 ghost use Rattle.acas_frac.specs.Fraction.{Fraction, IsFrac, IsReduced};
 ghost use Rattle.acas_flight.specs.Border.{IsGapAt, IsLeastGap};
-ghost use Rattle.acas_region_curves.specs.Limits.{IsEnd};
-ghost use Rattle.acas_region_curves.specs.View.{border_in, times_of};
+ghost use Rattle.acas_areas.specs.Limits.{IsEnd};
+ghost use Rattle.acas_areas.specs.View.{border_in, times_of};
 
 use crate::chase::{gap_number, moment_of, scale};
 use crate::nearest::nearest;
 use crate::window::time_of;
+use acas_areas::{Chase, Extreme, Window};
 use acas_frac::Frac;
-use acas_region_curves::{Chase, Extreme, Window};
 use acas_units::{GREATEST_CLOSING, GREATEST_LIMIT};
 
 // A gap's number over its denominator.

@@ -1,10 +1,10 @@
 //! The time at which a rising curve is nearest the intruder, found without a division.
 ghost use Rattle.std.specs.Prelude.{◌≡◌, ◌+◌, ◌*◌, ◌≤◌, pos, ◌<ℤ◌, unsigned_abs};
 ghost use Rattle.acas_flight.specs.Border.{IsNearestTime, IsOnTheWay, turn};
-ghost use Rattle.acas_region_curves.specs.View.{border_in, time_at, times_of};
+ghost use Rattle.acas_areas.specs.View.{border_in, time_at, times_of};
 
 use crate::chase::moment_of;
-use acas_region_curves::{Chase, Moment, Window};
+use acas_areas::{Chase, Moment, Window};
 use acas_units::{GREATEST_DELAY, GREATEST_LIMIT, GREATEST_RATE};
 
 // The pull times the time at which the curve is as fast as the intruder.
@@ -17,7 +17,7 @@ fn turn_of(chase: &Chase) -> u64
 }
 
 // Where the intruder's rate is one of those on the way: when the curve has it, or the end of the window next to that.
-#[tactic(auto, using(crate::proofs::NearestTimes::before_end))]
+#[tactic(auto, using(acas_flight_windows::proofs::NearestTimes::before_end))]
 fn at_turn(chase: &Chase, window: &Window) -> Moment
     requires { IsOnTheWay (border_in chase.now) }
     ensures { IsNearestTime (border_in chase.now) (times_of window.now) (time_at result) }

@@ -3,17 +3,17 @@ ghost use Rattle.std.specs.Prelude.{◌≡◌, ◌+◌, ◌-◌, ◌*◌, ◌<�
 ghost use Rattle.acas_spec.specs.Limits.{IsModel};
 ghost use Rattle.acas_frac.specs.Fraction.{Fraction};
 ghost use Rattle.acas_flight.specs.Window.{IsWindowOfBox, IsWindowOfCell};
-ghost use Rattle.acas_region_curves.specs.Limits.{IsEnd, IsFlownInTime, interval_of};
-ghost use Rattle.acas_region_curves.specs.View.{times_of};
+ghost use Rattle.acas_areas.specs.Limits.{IsEnd, IsFlownInTime, interval_of};
+ghost use Rattle.acas_areas.specs.View.{times_of};
 
 use crate::numbers::natural;
+use acas_areas::Window;
 use acas_base::Model;
 use acas_frac::Frac;
-use acas_region_curves::Window;
 use acas_units::{GREATEST_CLOSING, GREATEST_HORIZON, GREATEST_RADIUS, Span, WINDOW_SECONDS};
 
 /// A time as a fraction: from 0 to 600 seconds, over a closing speed at most.
-#[tactic(auto, using(acas_region_curves::proofs::Ends::quotient_reduces))]
+#[tactic(auto, using(acas_flight_windows::proofs::Ends::quotient_reduces))]
 pub fn time_of(num: u64, den: u64) -> Frac
     requires some { 0 < den }
     requires den { den ≤ GREATEST_CLOSING }

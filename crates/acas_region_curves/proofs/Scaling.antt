@@ -7,12 +7,12 @@ use Rattle.acas_flight_curves.proofs.Held.{held_one_form, IsHeld-over}
 use Rattle.acas_frac.specs.Fraction.{Fraction, ReducesWithinBounds}
 use Rattle.acas_flight.specs.Curves.{held}
 use Rattle.acas_flight.specs.Values.{IsHeld}
-use Rattle.acas_region_curves.specs.Limits.{IsHeldCurve, AreWhole, IsOneAtMostNotWhole}
+use Rattle.acas_areas.specs.Limits.{IsHeldCurve, AreWhole, IsOneAtMostNotWhole}
 use Rattle.acas_region_curves.specs.Scaling.{IsScaling}
 use Rattle.acas_region_curves.proofs.Sizes.{early_reduces, late_reduces}
 use Rattle.acas_units.specs.declared.limits.TheConstants.{GREATEST_RATE, GREATEST_LIMIT, GREATEST_CLOSING, WINDOW_SECONDS}
-use Rattle.acas_region_curves.specs.declared.fineness.TheConstants.{RATE_PARTS, PULL_PARTS, TIME_PARTS}
-use Rattle.acas_region_curves.specs.Sizes.{shared_parts, rate_size, way_size, gain_size}
+use Rattle.acas_areas.specs.declared.fineness.TheConstants.{RATE_PARTS, PULL_PARTS, TIME_PARTS}
+use Rattle.acas_areas.specs.Sizes.{shared_parts, rate_size, way_size, gain_size}
 
 -- What the limits say of the products of the denominators.
 record IsFine (vd kd bd gd td bn : ℕ) : Type 0 where

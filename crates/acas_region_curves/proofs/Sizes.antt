@@ -7,8 +7,8 @@ use Rattle.acas_frac.specs.Fraction.{ReducesWithinBounds}
 use Rattle.acas_flight.specs.Values.{all_lost, less_or_more}
 use Rattle.acas_frac.proofs.Lowest.{ReducesWithinBounds-over}
 use Rattle.acas_units.specs.declared.limits.TheConstants.{GREATEST_RATE, WINDOW_SECONDS}
-use Rattle.acas_region_curves.specs.declared.fineness.TheConstants.{RATE_PARTS, TIME_PARTS}
-use Rattle.acas_region_curves.specs.Sizes.{rate_size, way_size, gain_size}
+use Rattle.acas_areas.specs.declared.fineness.TheConstants.{RATE_PARTS, TIME_PARTS}
+use Rattle.acas_areas.specs.Sizes.{rate_size, way_size, gain_size}
 
 factor : (r : Bool) (s : ℤ) (l c : ℕ) → less_or_more r (s *ℤ pos c) (l * c) ≡ less_or_more r s l *ℤ pos c
 factor true s l c = ring (s ∷ pos l ∷ pos c ∷ []) ((at 0 ⊗ at 2) ⊖ (at 1 ⊗ at 2)) ((at 0 ⊖ at 1) ⊗ at 2) refl

@@ -1,7 +1,7 @@
 -- Fractions that need not be in lowest terms, small enough for products of 128 bits.
 use Rattle.std.specs.Prelude.{◌*◌, ◌^◌, ◌<◌, ◌≤◌, unsigned_abs}
 use Rattle.acas_frac.specs.Fraction.{Fraction}
-use Rattle.acas_region_curves.specs.Sizes.{shared_parts}
+use Rattle.acas_areas.specs.Sizes.{shared_parts}
 
 -- a fraction with a numerator of at most 2 * 10^30 in size and a denominator from 1 to 10^18
 pub record IsRatio (f : Fraction) : Type 0 where

@@ -4,8 +4,8 @@ use Rattle.acas_units.specs.declared.limits.TheConstants.{WINDOW_SECONDS}
 use Rattle.acas_frac.specs.Fraction.{Fraction, ReducesWithinBounds}
 use Rattle.acas_flight.specs.Curves.{held}
 use Rattle.acas_flight.specs.Values.{IsHeld}
-use Rattle.acas_region_curves.specs.declared.fineness.TheConstants.{TIME_PARTS}
-use Rattle.acas_region_curves.specs.Sizes.{rate_size, gain_size}
+use Rattle.acas_areas.specs.declared.fineness.TheConstants.{TIME_PARTS}
+use Rattle.acas_areas.specs.Sizes.{rate_size, gain_size}
 
 -- The curve's value is that of these whole numbers over den, and it is small enough in lowest terms.
 pub record IsScaling (v k b g t : Fraction) (vn kn : ℤ) (bn gn tn den : ℕ) : Type 0 where

@@ -3,13 +3,13 @@ ghost use Rattle.std.specs.Prelude.{◌≡◌, ◌+◌, ◌-◌, ◌*◌, ◌^�
 ghost use Rattle.acas_frac.specs.Fraction.{Fraction};
 ghost use Rattle.acas_flight.specs.Curves.{held};
 ghost use Rattle.acas_flight.specs.Values.{IsApproach, IsHeld, all_lost, less_or_more};
-ghost use Rattle.acas_region_curves.specs.Limits.{IsCurve, IsHeldCurve, IsHold, IsPull, IsRate, IsTime};
+ghost use Rattle.acas_areas.specs.Limits.{IsCurve, IsHeldCurve, IsHold, IsPull, IsRate, IsTime};
 ghost use Rattle.acas_region_curves.specs.Ratios.{IsRatio};
 ghost use Rattle.acas_region_curves.specs.Scaling.{IsScaling};
-ghost use Rattle.acas_region_curves.specs.Sizes.{gain_size, rate_size, way_size};
+ghost use Rattle.acas_areas.specs.Sizes.{gain_size, rate_size, way_size};
 
-use crate::fineness::{HOLD_PARTS, PULL_PARTS, RATE_PARTS, TIME_PARTS};
 use crate::ratio::Ratio;
+use acas_areas::{HOLD_PARTS, PULL_PARTS, RATE_PARTS, TIME_PARTS};
 use acas_frac::Frac;
 use acas_units::{GREATEST_DELAY, GREATEST_LIMIT, GREATEST_RATE, WINDOW_SECONDS};
 

@@ -8,11 +8,12 @@ use Rattle.acas_cells.specs.Corners.{advisory_cells}
 use Rattle.acas_rulings.specs.Rulings.{IsRuling, IsRulingOfCell, IsWitnessOfCell}
 use Rattle.acas_rulings.specs.declared.ruling.Ruling.{Ruling}
 use Rattle.acas_rulings.specs.declared.ruling.Ruling.TheVariants.{Certified, Reported}
-use Rattle.acas_report_lines.specs.Report.{IsReport, IsReportOn, clear_cells, report_text}
+use Rattle.acas_report_lines.specs.Report.{IsReportOn}
 use Rattle.acas_report_lines.specs.Text.{is_certified}
 use Rattle.acas_report_lines.proofs.Reports.{report-of}
 use Rattle.acas_report_lines.specs.declared.counts.Counts.{Counts}
 use Rattle.acas_report_lines.specs.declared.counts.Which.{Which}
+use Rattle.acas_report_cells.specs.Report.{IsReport, clear_cells, report_text}
 use Rattle.acas_report.specs.Verdicts.{IsVerdict, IsVerdictOnCell}
 
 pub verdict : (m : ModelData) (advisory : ℕ) (IsIn : ℕ → State → Type 0) (IsRule : Witness → Type 0) (ruling : Ruling) → IsRuling m advisory IsIn IsRule ruling → IsVerdict m advisory IsIn ruling

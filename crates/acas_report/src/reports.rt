@@ -6,14 +6,15 @@ ghost use Rattle.acas_outside.specs.Frame.{Emits};
 ghost use Rattle.acas_rulings.specs.Boxes.{AreBoxesOf};
 ghost use Rattle.acas_audit_blocks.specs.Decisions.{AreAuditsDecisions};
 ghost use Rattle.acas_report_lines.specs.Regions.{IsRegionsReport, IsRegionsReportBegun};
-ghost use Rattle.acas_report_lines.specs.Report.{IsReport, IsReportBegun};
+ghost use Rattle.acas_report_cells.specs.Report.{IsReport, IsReportBegun};
 
 use crate::sources::{ByBlocks, OneByOne};
 use acas_audit_blocks::{BlockAudit, Decisions};
 use acas_base::{Advices, Model};
 use acas_outside::Sink;
 use acas_print::PrintFault;
-use acas_report_lines::{Counts, Which, write_regions_by, write_report_by};
+use acas_report_cells::write_report_by;
+use acas_report_lines::{Counts, Which, write_regions_by};
 use acas_rulings::Boxes;
 use std::alloc::Global;
 

@@ -8,7 +8,8 @@ use acas_audit_blocks::{BlockAudit, DecidedBlock, Decisions};
 use acas_base::{Advices, Model};
 use acas_cell::{box_verdict, verdict, witness_of};
 use acas_cells::{AdviceSet, CellName, advices_at};
-use acas_report_lines::{BoxRulings, Rulings};
+use acas_report_cells::Rulings;
+use acas_report_lines::BoxRulings;
 use acas_rulings::{AuditBox, Ruling};
 
 /// The source that gives each cell and each box a verdict of its own. It decides no block.

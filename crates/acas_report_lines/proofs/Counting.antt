@@ -9,6 +9,10 @@ use Rattle.acas_report_lines.specs.Plan.{certified_in, reported_in}
 pub count_by-append : {X : Type 0} (p : X → Bool) (xs ys : List X) → count_by p (xs ++ ys) ≡ count_by p xs + count_by p ys
 count_by-append p xs ys = sum_by-append (λ x. cond (p x) 1 0) xs ys
 
+pub count_by-never : {X : Type 0} (xs : List X) → count_by (λ x. false) xs ≡ 0
+count_by-never [] = refl
+count_by-never (x ∷ xs) = sum_by-cons (λ y. 0) x xs ∙ ap (λ n. 0 + n) (count_by-never xs)
+
 pub certified-append : {N R : Type 0} (certified : R → Bool) (rs ss : List (Ruled N R)) → certified_in certified (rs ++ ss) ≡ certified_in certified rs + certified_in certified ss
 unfolding certified_in
 certified-append certified rs ss = count_by-append (λ r. certified r.ruling) rs ss

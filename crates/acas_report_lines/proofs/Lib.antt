@@ -1,13 +1,11 @@
 pub mod Appending
-pub mod Decided
 pub mod Whole
 pub mod Lengths
+pub mod Below
 pub mod Counting
+pub mod OneLine
 pub mod Ends
-pub mod CellCounts
 pub mod Steps
-pub mod Carry
 pub mod Subjects
 pub mod Begun
 pub mod Reports
-pub mod Certified

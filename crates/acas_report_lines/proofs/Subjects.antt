@@ -1,23 +1,13 @@
--- What reports are on.
-use Rattle.std.proofs.Common.{ℕ, Bool, ◌≡◌, ◌≤◌, ◌<◌, List, [], ◌∷◌, length, refl, ap, ◌*◌, ◌^◌, arith}
-use Rattle.acas_spec.specs.Model.{ModelData}
-use Rattle.acas_base.specs.Advices.{AdvicesData}
+-- What reports of box files are on.
+use Rattle.std.proofs.Common.{Bool, ◌≡◌, ◌≤◌, ◌<◌, ℕ, List, [], ◌∷◌, length, refl, ap, ◌*◌, ◌^◌, arith}
 use Rattle.acas_rulings.specs.Boxes.{AuditedBox}
-use Rattle.acas_cells.specs.Cells.{cells_of}
-use Rattle.acas_cells.specs.Corners.{advisory_cells}
-use Rattle.acas_report_lines.specs.Text.{counts_text, box_counts_text}
-use Rattle.acas_report_lines.specs.Report.{clear_cells, report_text}
+use Rattle.acas_report_lines.specs.Text.{box_counts_text}
 use Rattle.acas_report_lines.specs.Regions.{boxes_text, places}
-use Rattle.acas_report_lines.specs.Plan.{Room, cell_plan, box_plan, names_in, lines_in, clear_in}
+use Rattle.acas_report_lines.specs.Plan.{Room, box_plan, names_in, lines_in, clear_in}
 use Rattle.acas_report_lines.specs.declared.counts.Counts.{Counts}
-use Rattle.acas_report_lines.specs.declared.counts.Which.{Which}
-use Rattle.acas_report_lines.proofs.Carry.{names_eq, count_by-never}
+use Rattle.acas_report_lines.proofs.Below.{length_below, names_eq}
+use Rattle.acas_report_lines.proofs.Counting.{count_by-never}
 use Rattle.acas_report_lines.proofs.Whole.{IsOf}
-use Rattle.acas_report_lines.proofs.CellCounts.{length_below}
-
-pub of_cells : (m : ModelData) (a : AdvicesData) (which : Which) → IsOf (cell_plan m a which) (cells_of m) (advisory_cells m a) (clear_cells m a) (report_text m a which) counts_text
-unfolding names_in lines_in clear_in report_text
-of_cells m a which = record { names_are = refl; clear_are = refl; text_is = λ ruled. refl }
 
 pub of_boxes : {R : Type 0} (IsRulingOf : AuditedBox → R → Type 0) (certified : R → Bool) (text : R → List ℕ) (boxes : List AuditedBox) → IsOf (box_plan IsRulingOf certified text boxes) (places boxes) (places boxes) 0 (boxes_text certified text) box_counts_text
 unfolding names_in lines_in clear_in boxes_text

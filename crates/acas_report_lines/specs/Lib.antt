@@ -1,5 +1,4 @@
 pub mod Report
-pub mod Blocks
 pub mod Regions
 pub mod Meetings
 pub mod Text

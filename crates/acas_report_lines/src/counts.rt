@@ -21,7 +21,7 @@ pub enum Which {
 }
 
 /// Whether the line of a ruling is left out, that is certified or is not.
-pub(crate) fn leaves_out(which: Which, certified: bool) -> bool
+pub fn leaves_out(which: Which, certified: bool) -> bool
     ensures { result ≡ is_left_out which certified }
 {
     match which {
@@ -32,7 +32,7 @@ pub(crate) fn leaves_out(which: Which, certified: bool) -> bool
 
 impl Counts {
     /// Counts a ruling, that is certified or is not.
-    pub(crate) fn count(&mut self, certified: bool)
+    pub fn count(&mut self, certified: bool)
         requires { total self.old + 1 < 2 ^ 64 }
         ensures certified { self.new.certified ≡
             (if certified then self.old.certified + 1 else self.old.certified) }
@@ -48,7 +48,7 @@ impl Counts {
     }
 
     /// Counts a cell, where it is clear.
-    pub(crate) fn count_cell(&mut self, is_clear: bool)
+    pub fn count_cell(&mut self, is_clear: bool)
         requires { is_clear ≡ true → total self.old + 1 < 2 ^ 64 }
         ensures certified { self.new.certified ≡ self.old.certified }
         ensures reported { self.new.reported ≡ self.old.reported }

@@ -20,7 +20,7 @@ pub const COUNTS_BYTES: usize = 88;
 const TOTALS_BYTES: usize = 60;
 
 /// Makes the line of a cell under an advice.
-pub(crate) fn write_cell_line(line: &mut Line, model: &Model, name: &CellName, ruling: &Ruling)
+pub fn write_cell_line(line: &mut Line, model: &Model, name: &CellName, ruling: &Ruling)
     requires present { name.now.present < model.now.grid.advisories }
     requires advice { name.now.advice < model.now.grid.advisories }
     ensures value { line.new ≡ cell_line model.now name.now ruling.now }
@@ -43,7 +43,7 @@ pub(crate) fn write_box_line<V: Said>(line: &mut Line, number: u32, said: &V)
 }
 
 /// Makes the last line of an audit.
-pub(crate) fn write_counts(line: &mut Line, counts: &Counts)
+pub fn write_counts(line: &mut Line, counts: &Counts)
     ensures value { line.new ≡ counts_text counts.now }
     ensures short { length line.new ≤ LINE_BYTES }
 {

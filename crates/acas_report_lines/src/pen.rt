@@ -11,15 +11,15 @@ use std::alloc::{AllocError, Global};
 
 /// A line to build in, the bytes that wait to be written, and the counts so far. Its memory is taken when it is made.
 #[derive(Drop)]
-pub(crate) struct Pen {
-    pub(crate) line: Line,
-    pub(crate) buffer: PrintBuffer,
-    pub(crate) counts: Counts,
+pub struct Pen {
+    pub line: Line,
+    pub buffer: PrintBuffer,
+    pub counts: Counts,
 }
 
 impl Pen {
     /// A pen that has written and counted nothing.
-    pub(crate) fn make(alloc: Global) -> Result<Pen, AllocError>
+    pub fn make(alloc: Global) -> Result<Pen, AllocError>
         ensures empty { IfOk result (λ pen. pen.buffer ≡ []) }
         ensures certified { IfOk result (λ pen. pen.counts.certified ≡ 0) }
         ensures reported { IfOk result (λ pen. pen.counts.reported ≡ 0) }
@@ -40,7 +40,7 @@ impl Pen {
     }
 
     /// Prints the line, and writes out all that waits.
-    pub(crate) fn end<S: Sink>(&mut self, sink: &mut S) -> Result<(), Failed>
+    pub fn end<S: Sink>(&mut self, sink: &mut S) -> Result<(), Failed>
         requires { length self.old.line ≤ LINE_BYTES }
         ensures ok { OnOk result
             (Appends (S.written sink.old) (S.written sink.new) (self.old.buffer ++ self.old.line)) }

@@ -1,94 +1,14 @@
-//! Where rulings come from.
-ghost use Rattle.std.specs.Prelude.{◌≡◌, ◌+◌, ◌<◌, ◌≤◌, ◌^◌, ℕ, true, false};
-ghost use Rattle.acas_spec.specs.Model.{ModelData};
-ghost use Rattle.acas_base.specs.Advices.{AdvicesData, AreAdvicesOf};
+//! Where the rulings of boxes come from.
 ghost use Rattle.acas_rulings.specs.Boxes.{IsBoxOf, audited};
-ghost use Rattle.acas_cells.specs.Cells.{IsCellOf, cell_at};
-ghost use Rattle.acas_cells.specs.Corners.{is_advised};
-ghost use Rattle.acas_cells.specs.DecisionCounts.{most_decisions};
-ghost use Rattle.acas_cells.specs.Order.{cell_of};
-ghost use Rattle.acas_cells.specs.Sets.{holds};
-ghost use Rattle.acas_rulings.specs.Rulings.{IsRulingOfBox, IsRulingOfCell};
-ghost use Rattle.acas_rulings.specs.declared.ruling.Ruling.{Ruling};
+ghost use Rattle.acas_rulings.specs.Rulings.{IsRulingOfBox};
 ghost use Rattle.acas_manoeuvre.specs.Intruder.{RatesFit};
 ghost use Rattle.acas_manoeuvre.specs.View.{may_of};
 ghost use Rattle.acas_meetings.specs.Verdicts.{IsMeetVerdict};
-ghost use Rattle.acas_report_lines.specs.Text.{is_certified};
 
-use acas_base::{Advices, Model};
-use acas_cells::{AdviceSet, CellName};
-use acas_count::Counter;
+use acas_base::Model;
 use acas_manoeuvre::Manoeuvre;
 use acas_meetings::MeetVerdict;
 use acas_rulings::{AuditBox, Ruling};
-
-/// A source of rulings on cells.
-pub trait Rulings {
-    /// The work that is one decision.
-    type Decision;
-
-    /// It was made for a model.
-    ghost fits: { Self → ModelData → Type 0 };
-
-    /// The cells of n seconds and a present advisory are prepared for a model and the advices of its table.
-    ghost ready: { Self → ModelData → AdvicesData → ℕ → ℕ → Type 0 };
-
-    /// So many decisions prepare the cells of n seconds and a present advisory, for a model and the advices of its table.
-    ghost takes: { ModelData → AdvicesData → ℕ → ℕ → ℕ → Type 0 };
-
-    /// Prepares the cells of n seconds and a present advisory. It counts each decision.
-    fn prepare(
-        &mut self,
-        model: &Model,
-        advices: &Advices,
-        n: u32,
-        present: u8,
-        count: &mut Counter<Self::Decision>,
-    )
-        requires fits { fits self.old model.now }
-        requires advices { AreAdvicesOf model.now advices.now }
-        requires n { n < model.now.grid.horizon }
-        requires present { present < model.now.grid.advisories }
-        requires room { count.old + most_decisions model.now < 2 ^ 64 }
-        ensures fits { fits self.new model.now }
-        ensures ready { ready self.new model.now advices.now n present }
-        ensures counted { (number : ℕ) × takes model.now advices.now n present number
-            × (count.new ≡ count.old + number) }
-        ensures most { count.new ≤ count.old + most_decisions model.now }
-        ensures rising { count.old ≤ count.new };
-
-    /// The advices other than clear of conflict that are tabled at the corners of a cell.
-    fn advised(
-        &self,
-        model: &Model,
-        advices: &Advices,
-        n: u32,
-        present: u8,
-        i: u32,
-        j: u32,
-        k: u32,
-    ) -> AdviceSet
-        requires advices { AreAdvicesOf model.now advices.now }
-        requires ready { ready self.now model.now advices.now n present }
-        requires cell { IsCellOf model.now (cell_at n present i j k) }
-        ensures { (a : ℕ) → holds result a ≡ is_advised model.now advices.now (cell_at n present i j k) a };
-
-    /// Whether a cell is certified under an advice.
-    fn certifies(&self, model: &Model, name: &CellName) -> bool
-        requires ready { (a : AdvicesData) × ready self.now model.now a name.now.n name.now.present }
-        requires cell { IsCellOf model.now (cell_of name.now) }
-        requires advice { name.now.advice < model.now.grid.advisories }
-        ensures certified { result ≡ true → IsRulingOfCell model.now name.now Ruling.Certified }
-        ensures reported { result ≡ false → (r : Ruling) → IsRulingOfCell model.now name.now r
-            → is_certified r ≡ false };
-
-    /// The ruling of a cell under an advice.
-    fn ruling(&self, model: &Model, name: &CellName) -> Ruling
-        requires ready { (a : AdvicesData) × ready self.now model.now a name.now.n name.now.present }
-        requires cell { IsCellOf model.now (cell_of name.now) }
-        requires advice { name.now.advice < model.now.grid.advisories }
-        ensures { IsRulingOfCell model.now name.now result };
-}
 
 /// A source of rulings on boxes.
 pub trait BoxRulings {

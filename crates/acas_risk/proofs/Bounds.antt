@@ -7,13 +7,13 @@ use Rattle.acas_spec.specs.Table.{Policy}
 use Rattle.acas_grid.specs.States.{state_present, state_vertex}
 use Rattle.acas_grid.proofs.StateNumbers.{state_present-below}
 use Rattle.acas_units.specs.declared.pair.Pair.{Pair}
-use Rattle.acas_process.specs.Allowed.{SaysAdvisories}
+use Rattle.acas_policies.specs.Allowed.{SaysAdvisories}
 use Rattle.acas_process.specs.Cost.{IsEntry}
-use Rattle.acas_process.specs.Policies.{always_clear, counting_contact}
-use Rattle.acas_process.proofs.ChanceLaws.{chance_bounds}
-use Rattle.acas_process.proofs.PolicyLaws.{policy_bounds}
-use Rattle.acas_step.specs.Layer.{pair_at}
-use Rattle.acas_step.proofs.NumberedStates.{IsVertex-state_vertex}
+use Rattle.acas_policies.specs.Policies.{always_clear, counting_contact}
+use Rattle.acas_policies.proofs.ChanceLaws.{chance_bounds}
+use Rattle.acas_policies.proofs.PolicyLaws.{policy_bounds}
+use Rattle.acas_means.specs.Layer.{pair_at}
+use Rattle.acas_means.proofs.NumberedStates.{IsVertex-state_vertex}
 use Rattle.acas_risk.specs.Pairs.{ArePairsOf, BoundsChance, BoundsCost, policy_pair}
 use Rattle.acas_risk.specs.RiskText.{AreRisks, risk_row}
 

@@ -8,8 +8,8 @@ use Rattle.acas_spec.specs.Model.{ModelData, choices_at}
 use Rattle.acas_spec.specs.declared.parts.Choice.{Choice}
 use Rattle.acas_units.specs.declared.limits.TheConstants.{LEAST_COST, GREATEST_COST}
 use Rattle.acas_process.specs.Cost.{cost_among, cost_of}
-use Rattle.acas_process.specs.Policies.{counting_contact}
-use Rattle.acas_process.proofs.ChanceLaws.{counting_is_model, seconds_are_free}
+use Rattle.acas_policies.specs.Policies.{counting_contact}
+use Rattle.acas_policies.proofs.ChanceLaws.{counting_is_model, seconds_are_free}
 use Rattle.acas_risk.specs.Counts.{AreSecondCosts, model_counting, second_cost}
 use Rattle.acas_risk.specs.Layers.{AreSmall}
 use Rattle.acas_risk.specs.declared.counted.Counted.{Counted}

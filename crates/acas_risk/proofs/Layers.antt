@@ -9,14 +9,14 @@ use Rattle.acas_frac.specs.Rounding.{down, up}
 use Rattle.acas_grid.specs.States.{state_present, state_vertex, vertex_at}
 use Rattle.acas_grid.proofs.StateNumbers.{state_present-below}
 use Rattle.acas_units.specs.declared.pair.Pair.{Pair}
-use Rattle.acas_process.specs.Bounds.{mean_value}
-use Rattle.acas_step.specs.Columns.{AreColumnMeans, columns, pairs_at, vertex_in}
-use Rattle.acas_step.specs.Layer.{AreWithin, layer_values, pair_at, value_of}
-use Rattle.acas_step.specs.Means.{AreMeansAt, AreVertexMeans}
-use Rattle.acas_step.specs.declared.layer.Side.{Side}
-use Rattle.acas_step.specs.declared.layer.Side.TheVariants.{Lower, Upper}
-use Rattle.acas_step.proofs.ColumnPlaces.{column_below}
-use Rattle.acas_step.proofs.TableMeans.{means_bounded}
+use Rattle.acas_process.specs.Values.{mean_value}
+use Rattle.acas_means.specs.Columns.{AreColumnMeans, columns, pairs_at, vertex_in}
+use Rattle.acas_means.specs.Layer.{AreWithin, layer_values, pair_at, value_of}
+use Rattle.acas_means.specs.Means.{AreMeansAt, AreVertexMeans}
+use Rattle.acas_means.specs.declared.layer.Side.{Side}
+use Rattle.acas_means.specs.declared.layer.Side.TheVariants.{Lower, Upper}
+use Rattle.acas_means.proofs.ColumnPlaces.{column_below}
+use Rattle.acas_means.proofs.TableMeans.{means_bounded}
 use Rattle.acas_risk.specs.Layers.{AreOver, AreSmall, IsOver, IsPlanned, LeaveRoom, altitude_at, column_at, cost_at, given_at}
 use Rattle.acas_risk.proofs.Written.{altitude-below, turn_next, vertex_of}
 

@@ -9,19 +9,19 @@ use Rattle.acas_grid.specs.States.{state_present, state_vertex}
 use Rattle.acas_grid.proofs.StateNumbers.{state_present-below, state_present-state_number, state_vertex-state_number}
 use Rattle.acas_grid.proofs.Vertices.{vertices-one_to_one}
 use Rattle.acas_units.specs.declared.pair.Pair.{Pair}
-use Rattle.acas_process.specs.Bounds.{choice_value, mean_value, millionths}
+use Rattle.acas_process.specs.Values.{choice_value, mean_value, millionths}
 use Rattle.acas_process.specs.Cost.{terminal_cost}
-use Rattle.acas_process.specs.Allowed.{SaysAdvisories}
-use Rattle.acas_process.specs.Policies.{counting_contact, policy_values}
+use Rattle.acas_policies.specs.Allowed.{SaysAdvisories}
+use Rattle.acas_policies.specs.Policies.{counting_contact, policy_values}
 use Rattle.acas_process.proofs.SameLaws.{mean_same}
-use Rattle.acas_step.specs.Columns.{columns}
-use Rattle.acas_step.specs.Layer.{AreWithin, layer_values, no_pair, pair_at, value_at}
-use Rattle.acas_step.specs.declared.layer.Side.{Side}
-use Rattle.acas_step.specs.declared.layer.Side.TheVariants.{Lower, Upper}
-use Rattle.acas_step.proofs.ColumnPlaces.{column_below}
-use Rattle.acas_step.proofs.NumberedStates.{layer_values-is, state_number-below}
-use Rattle.acas_step.proofs.PlacedMeans.{below_or_at}
-use Rattle.acas_step.proofs.Written.{each_written}
+use Rattle.acas_means.specs.Columns.{columns}
+use Rattle.acas_means.specs.Layer.{AreWithin, layer_values, no_pair, pair_at, value_at}
+use Rattle.acas_means.specs.declared.layer.Side.{Side}
+use Rattle.acas_means.specs.declared.layer.Side.TheVariants.{Lower, Upper}
+use Rattle.acas_means.proofs.ColumnPlaces.{column_below}
+use Rattle.acas_means.proofs.NumberedStates.{layer_values-is, state_number-below}
+use Rattle.acas_means.proofs.PlacedMeans.{below_or_at}
+use Rattle.acas_means.proofs.Written.{each_written}
 use Rattle.acas_risk.specs.Counts.{AreSecondCosts, model_counting}
 use Rattle.acas_risk.specs.Layers.{AreOver, cost_at, given_at}
 use Rattle.acas_risk.specs.Pairs.{ArePairsOf}

@@ -10,10 +10,10 @@ use Rattle.acas_grid.specs.States.{state_present}
 use Rattle.acas_grid.proofs.StateNumbers.{state_present-state_number}
 use Rattle.acas_grid.proofs.Vertices.{some_width}
 use Rattle.acas_units.specs.declared.pair.Pair.{Pair}
-use Rattle.acas_step.specs.Columns.{columns, pairs_at, vertex_in}
-use Rattle.acas_step.specs.Layer.{no_pair, pair_at}
-use Rattle.acas_step.proofs.ColumnLaws.{all_columns}
-use Rattle.acas_step.proofs.PlacedMeans.{below_or_at}
+use Rattle.acas_means.specs.Columns.{columns, pairs_at, vertex_in}
+use Rattle.acas_means.specs.Layer.{no_pair, pair_at}
+use Rattle.acas_means.proofs.ColumnLaws.{all_columns}
+use Rattle.acas_means.proofs.PlacedMeans.{below_or_at}
 use Rattle.acas_risk.specs.Counts.{second_cost}
 use Rattle.acas_risk.specs.Layers.{IsPlanned, altitude_at, column_at, given_at, with_cost}
 

@@ -1,9 +1,9 @@
 -- What is counted along a flight: contact at its end, or all that it costs.
 use Rattle.std.specs.Prelude.{◌≡◌, ℕ, ◌<◌, ℤ, pos, List, [], get_or}
 use Rattle.acas_spec.specs.Model.{ModelData}
-use Rattle.acas_process.specs.Bounds.{millionths}
+use Rattle.acas_process.specs.Values.{millionths}
 use Rattle.acas_process.specs.Cost.{cost_of}
-use Rattle.acas_process.specs.Policies.{counting_contact}
+use Rattle.acas_policies.specs.Policies.{counting_contact}
 use Rattle.acas_risk.specs.declared.counted.Counted.{Counted}
 use Rattle.acas_risk.specs.declared.counted.Counted.TheVariants.{Contacts, Costs}
 

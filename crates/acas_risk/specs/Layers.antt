@@ -5,11 +5,11 @@ use Rattle.acas_spec.specs.Table.{Policy}
 use Rattle.acas_frac.specs.Rounding.{down, up}
 use Rattle.acas_grid.specs.States.{state_present, state_vertex}
 use Rattle.acas_units.specs.declared.pair.Pair.{Pair}
-use Rattle.acas_process.specs.Bounds.{mean_value}
-use Rattle.acas_step.specs.Columns.{columns}
-use Rattle.acas_step.specs.Layer.{layer_values, pair_at, value_at}
-use Rattle.acas_step.specs.declared.layer.Side.{Side}
-use Rattle.acas_step.specs.declared.layer.Side.TheVariants.{Lower, Upper}
+use Rattle.acas_process.specs.Values.{mean_value}
+use Rattle.acas_means.specs.Columns.{columns}
+use Rattle.acas_means.specs.Layer.{layer_values, pair_at, value_at}
+use Rattle.acas_means.specs.declared.layer.Side.{Side}
+use Rattle.acas_means.specs.declared.layer.Side.TheVariants.{Lower, Upper}
 use Rattle.acas_risk.specs.Counts.{second_cost}
 
 -- the column of the vertex of a state by its number

@@ -6,8 +6,8 @@ use Rattle.acas_frac.specs.Rounding.{down, up}
 use Rattle.acas_grid.specs.States.{state_present, state_vertex}
 use Rattle.acas_units.specs.declared.pair.Pair.{Pair}
 use Rattle.acas_process.specs.Cost.{expected_cost}
-use Rattle.acas_process.specs.Policies.{AreBounds, AreChanceBounds, contact_chance, policy_values}
-use Rattle.acas_step.specs.Layer.{pair_at}
+use Rattle.acas_policies.specs.Policies.{AreBounds, AreChanceBounds, contact_chance, policy_values}
+use Rattle.acas_means.specs.Layer.{pair_at}
 
 -- the values of a policy with n seconds to go in the state of a number
 abbrev pub policy_pair : ModelData → Policy → ℕ → ℕ → Pair

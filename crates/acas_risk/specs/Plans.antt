@@ -4,7 +4,7 @@ use Rattle.acas_spec.specs.Model.{ModelData}
 use Rattle.acas_spec.specs.Table.{Policy}
 use Rattle.acas_grid.specs.Grid.{state_number, vertex_number}
 use Rattle.acas_base.specs.Advices.{AdvicesData, AreAdvicesOf, advice_at}
-use Rattle.acas_process.specs.Policies.{always_clear}
+use Rattle.acas_policies.specs.Policies.{always_clear}
 use Rattle.acas_risk.specs.declared.plan.Plan.{Plan}
 use Rattle.acas_risk.specs.declared.plan.Plan.TheVariants.{AlwaysClear, Tabled}
 

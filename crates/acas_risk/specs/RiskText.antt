@@ -8,7 +8,7 @@ use Rattle.acas_units.specs.declared.pair.Pair.{Pair}
 use Rattle.acas_print.specs.Printing.{below}
 use Rattle.acas_grid.specs.States.{state_present, state_vertex}
 use Rattle.acas_command.specs.Fields.{field, state_fields}
-use Rattle.acas_process.specs.Policies.{always_clear, counting_contact}
+use Rattle.acas_policies.specs.Policies.{always_clear, counting_contact}
 use Rattle.acas_risk.specs.Pairs.{BoundsChance, BoundsCost, policy_pair}
 
 -- what is said of a state: its chance of contact under a policy and under always clear, and what the policy costs

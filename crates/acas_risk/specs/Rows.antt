@@ -2,8 +2,8 @@
 use Rattle.std.specs.Prelude.{◌≡◌, ℕ, length}
 use Rattle.acas_spec.specs.Model.{GridData, ModelData, states}
 use Rattle.acas_spec.specs.Table.{Policy}
-use Rattle.acas_process.specs.Policies.{always_clear, counting_contact}
-use Rattle.acas_step.specs.Layer.{pair_at}
+use Rattle.acas_policies.specs.Policies.{always_clear, counting_contact}
+use Rattle.acas_means.specs.Layer.{pair_at}
 use Rattle.acas_risk.specs.Pairs.{ArePairsOf}
 use Rattle.acas_risk.specs.RiskText.{RiskRow}
 use Rattle.acas_risk.specs.declared.risk_values.RiskValues.{RiskValues}

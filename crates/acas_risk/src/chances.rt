@@ -1,9 +1,9 @@
 //! The chance of contact under a plan, and what a table's policy costs, in every state at the horizon.
 ghost use Rattle.std.specs.Prelude.{ℕ, ◌<◌, IfOk};
 ghost use Rattle.acas_base.specs.Advices.{AreAdvicesOf};
-ghost use Rattle.acas_process.specs.Policies.{counting_contact};
+ghost use Rattle.acas_policies.specs.Policies.{counting_contact};
 ghost use Rattle.acas_spec.specs.Model.{states};
-ghost use Rattle.acas_step.specs.Layer.{pair_at};
+ghost use Rattle.acas_means.specs.Layer.{pair_at};
 ghost use Rattle.acas_risk.specs.Pairs.{ArePairsOf, BoundsChance, BoundsCost};
 ghost use Rattle.acas_risk.specs.Plans.{FitsModel, advised, policy_of};
 
@@ -11,7 +11,7 @@ use crate::counted::Counted;
 use crate::plan::Plan;
 use crate::valuation::plan_values;
 use acas_base::{Advices, Model};
-use acas_step::LayerMeans;
+use acas_means::LayerMeans;
 use acas_units::Pair;
 use std::alloc::{AllocError, Global};
 

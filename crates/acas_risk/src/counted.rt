@@ -2,13 +2,13 @@
 ghost use Rattle.std.specs.Prelude.{◌≡◌, ℕ, ◌<◌, ◌≤◌, ◌^◌, pos, unsigned_abs, get_or};
 ghost use Rattle.acas_spec.specs.Model.{vertices};
 ghost use Rattle.acas_grid.specs.States as numbers;
-ghost use Rattle.acas_process.specs.Bounds.{millionths};
+ghost use Rattle.acas_process.specs.Values.{millionths};
 ghost use Rattle.acas_process.specs.Cost.{cost_of, terminal_cost};
 ghost use Rattle.acas_risk.specs.Counts.{AreSecondCosts, model_counting};
 
 use acas_base::Model;
 use acas_grid::vertex_at;
-use acas_step::{advisory_count, choice_at, choice_count};
+use acas_means::{advisory_count, choice_at, choice_count};
 use acas_units::GREATEST_ADVISORIES;
 
 /// What is counted along a flight.

@@ -3,9 +3,9 @@
 ghost use Rattle.std.specs.Prelude.{◌≡◌, ◌≢◌, ℕ, ◌+◌, ◌%◌, ◌<◌, ◌≤◌, ◌^◌, unsigned_abs, length};
 ghost use Rattle.acas_spec.specs.Model.{states, vertices};
 ghost use Rattle.acas_spec.specs.Table.{Policy};
-ghost use Rattle.acas_step.specs.Columns.{columns, pairs_at};
-ghost use Rattle.acas_step.specs.Layer.{AreWithin, pair_at};
-ghost use Rattle.acas_step.specs.declared.layer.Side.{Side};
+ghost use Rattle.acas_means.specs.Columns.{columns, pairs_at};
+ghost use Rattle.acas_means.specs.Layer.{AreWithin, pair_at};
+ghost use Rattle.acas_means.specs.declared.layer.Side.{Side};
 ghost use Rattle.acas_risk.specs.Counts.{model_counting};
 ghost use Rattle.acas_risk.specs.Layers.{AreOver, AreSmall, IsPlanned, LeaveRoom, altitude_at, column_at, with_cost};
 ghost use Rattle.acas_risk.specs.Pairs.{ArePairsOf};
@@ -14,7 +14,7 @@ ghost use Rattle.acas_risk.specs.Plans.{FitsModel, policy_of};
 use crate::counted::{Counted, SecondCosts, ending};
 use crate::plan::Plan;
 use acas_base::Model;
-use acas_step::{
+use acas_means::{
     ColumnMeans, LayerMeans, VertexMeans, advisory_count, column_count, reach_of, vertex_in_column,
 };
 use acas_units::Pair;

@@ -12,9 +12,9 @@ ghost use Rattle.acas_risk.specs.Rows.{AreOfStates, row_at};
 use crate::risk_lines::{write_risk_line, write_states_line};
 use crate::risk_values::{RiskValues, risk_values};
 use acas_base::{Advices, Model};
+use acas_means::LayerMeans;
 use acas_outside::{Failed, Sink};
 use acas_print::{Pen, PrintFault};
-use acas_step::LayerMeans;
 use acas_units::{LINE_BYTES, Line};
 use std::alloc::{AllocError, Global};
 

@@ -1,6 +1,6 @@
 //! The values that a report of risks is written of.
 ghost use Rattle.std.specs.Prelude.{IfOk, OnOk};
-ghost use Rattle.acas_process.specs.Allowed.{SaysAdvisories};
+ghost use Rattle.acas_policies.specs.Allowed.{SaysAdvisories};
 ghost use Rattle.acas_base.specs.Advices.{AreAdvicesOf};
 ghost use Rattle.acas_risk.specs.Plans.{advised};
 ghost use Rattle.acas_risk.specs.Rows.{AreRiskValues};
@@ -9,7 +9,7 @@ use crate::counted::Counted;
 use crate::plan::Plan;
 use crate::valuation::plan_values;
 use acas_base::{Advices, Model};
-use acas_step::LayerMeans;
+use acas_means::LayerMeans;
 use acas_units::Pair;
 use std::alloc::{AllocError, Global};
 

@@ -1,6 +1,6 @@
 //! The values of a plan, layer by layer over two planes, up to the horizon.
 ghost use Rattle.std.specs.Prelude.{IfOk, OnOk};
-ghost use Rattle.acas_process.specs.Allowed.{SaysAdvisories};
+ghost use Rattle.acas_policies.specs.Allowed.{SaysAdvisories};
 ghost use Rattle.acas_risk.specs.Counts.{model_counting};
 ghost use Rattle.acas_risk.specs.Pairs.{ArePairsOf};
 ghost use Rattle.acas_risk.specs.Plans.{FitsModel, policy_of};
@@ -9,7 +9,7 @@ use crate::counted::{Counted, second_costs};
 use crate::layer::{put_endings, put_over};
 use crate::plan::Plan;
 use acas_base::Model;
-use acas_step::{ColumnMeans, LayerMeans};
+use acas_means::{ColumnMeans, LayerMeans};
 use acas_units::{GREATEST_ADVISORIES, GREATEST_VERTICES, Pair};
 use std::alloc::{AllocError, Global};
 use std::mem::swap;

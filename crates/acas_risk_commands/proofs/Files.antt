@@ -7,8 +7,8 @@ use Rattle.acas_spec.specs.Model.{ModelData}
 use Rattle.acas_grid.specs.Grid.{state_number, vertex_number}
 use Rattle.acas_base.specs.Advices.{AdvicesData}
 use Rattle.acas_outside.specs.Files.{Files, Given}
-use Rattle.acas_process.proofs.BoundLaws.{says_advisories, sound_policy}
-use Rattle.acas_step.proofs.NumberedStates.{state_number-below}
+use Rattle.acas_policies.proofs.BoundLaws.{says_advisories, sound_policy}
+use Rattle.acas_means.proofs.NumberedStates.{state_number-below}
 use Rattle.acas_accept.specs.Accepted.{IsAcceptedTable}
 use Rattle.acas_accept.specs.GivenTable.{given_table}
 use Rattle.acas_accept.proofs.Tables.{given_is_accepted}

@@ -8,11 +8,11 @@ use Rattle.acas_frac.specs.Rounding.{down, up}
 use Rattle.acas_grid.specs.States.{state_present, state_vertex}
 use Rattle.acas_grid.proofs.StateNumbers.{state_present-below}
 use Rattle.acas_print.specs.Printing.{below}
-use Rattle.acas_process.specs.Allowed.{SaysAdvisories}
+use Rattle.acas_policies.specs.Allowed.{SaysAdvisories}
 use Rattle.acas_process.specs.Cost.{IsEntry}
-use Rattle.acas_process.specs.Policies.{counting_contact}
-use Rattle.acas_process.proofs.PolicyLaws.{SayTheSame, same_values}
-use Rattle.acas_step.proofs.NumberedStates.{IsVertex-state_vertex}
+use Rattle.acas_policies.specs.Policies.{counting_contact}
+use Rattle.acas_policies.proofs.PolicyLaws.{SayTheSame, same_values}
+use Rattle.acas_means.proofs.NumberedStates.{IsVertex-state_vertex}
 use Rattle.acas_risk.specs.Pairs.{policy_pair}
 use Rattle.acas_risk.specs.RiskText.{RiskRow, risk_line, risk_row, risk_text}
 

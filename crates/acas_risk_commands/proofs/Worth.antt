@@ -9,7 +9,7 @@ use Rattle.acas_spec.specs.Table.{Table}
 use Rattle.acas_outside.specs.Bytes.{Appends, IsBytes}
 use Rattle.acas_outside.specs.Files.{Files, Given}
 use Rattle.acas_outside.specs.Outside.{Outside}
-use Rattle.acas_process.proofs.BoundLaws.{says_advisories, two_sided_bounds}
+use Rattle.acas_policies.proofs.BoundLaws.{says_advisories, two_sided_bounds}
 use Rattle.acas_accept.specs.Accepted.{IsAcceptedTable}
 use Rattle.acas_accept.specs.GivenTable.{given_table}
 use Rattle.acas_accept.proofs.Tables.{given_is_accepted}

@@ -7,7 +7,7 @@ use Rattle.acas_spec.specs.Table.{Table}
 use Rattle.acas_outside.specs.Bytes.{Appends}
 use Rattle.acas_outside.specs.Files.{Files}
 use Rattle.acas_outside.specs.Outside.{Outside}
-use Rattle.acas_process.specs.Bounds.{HasTwoSidedBounds}
+use Rattle.acas_policies.specs.Bounds.{HasTwoSidedBounds}
 use Rattle.acas_accept.specs.Accepted.{IsAcceptedTable}
 use Rattle.acas_risk.specs.RiskText.{AreRisks, RiskRow, risk_lines}
 use Rattle.acas_table_text.specs.declared.refusal.TableRefusal.{TableRefusal}

@@ -8,10 +8,10 @@ ghost use Rattle.acas_command.specs.Answers.{Answers, ended};
 ghost use Rattle.acas_risk_commands.specs.Calls.{CallsForRisk};
 
 use acas_command::{Cause, read_model_file};
+use acas_means::LayerMeans;
 use acas_outside::{Folder, Sink};
 use acas_print::PrintFault;
 use acas_risk::write_risk;
-use acas_step::LayerMeans;
 use acas_table_file::read_table_file;
 use std::alloc::Global;
 

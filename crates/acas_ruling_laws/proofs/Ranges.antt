@@ -8,7 +8,7 @@ use Rattle.acas_frac.specs.Fraction.{Fraction, whole_of, IsReduced}
 use Rattle.acas_frac.proofs.Reduced.{some_reduced}
 use Rattle.acas_flight.specs.State.{Interval}
 use Rattle.acas_flight.specs.Window.{Times, IsContactTimeOfBox, IsContactTimeOfCell, IsWindowOfBox, IsWindowOfCell}
-use Rattle.acas_region_curves.specs.Limits.{IsFlownInTime}
+use Rattle.acas_areas.specs.Limits.{IsFlownInTime}
 use Rattle.acas_rulings.specs.Ranges.{IsBoxesRange, IsCellsRange, IsContactOfBox, IsContactOfCell}
 use Rattle.acas_witness_response.proofs.CellRanges.{cells_range, contact_of_cell}
 use Rattle.acas_witness_response.proofs.BoxRanges.{during_renamed, pair_at_greater, pair_at_least, pair_renamed, some_time}

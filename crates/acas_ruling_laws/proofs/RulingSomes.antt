@@ -10,7 +10,7 @@ use Rattle.acas_flight.specs.Clear.{area_of_box, area_of_cell}
 use Rattle.acas_flight_laws.proofs.Dangers.{clear_box_is_safe, clear_cell_is_safe}
 use Rattle.acas_flight_laws.proofs.Endangered.{endangered_box, endangered_cell}
 use Rattle.acas_frac.proofs.Orders.{cases_lt_ℤ}
-use Rattle.acas_region_curves.specs.Limits.{IsArea}
+use Rattle.acas_areas.specs.Limits.{IsArea}
 use Rattle.acas_rulings.specs.declared.flight.Witness.{Witness}
 use Rattle.acas_rulings.specs.Boxes.{AuditedBox, IsBoxOf}
 use Rattle.acas_cells.specs.Cells.{IsCellOf}
@@ -23,7 +23,7 @@ use Rattle.acas_cell.proofs.Showing.{reported_box, reported_cell}
 use Rattle.acas_ruling_laws.proofs.Areas.{rates_at, rises_at}
 use Rattle.acas_ruling_laws.proofs.Ranges.{range_of_box, range_of_cell}
 use Rattle.acas_ruling_laws.proofs.Somes.{IsFlyable, clear_or_witness, endangered, time_of}
-use Rattle.acas_region_curves.proofs.EachWindow.{window_of_box, window_of_cell}
+use Rattle.acas_flight_windows.proofs.EachWindow.{window_of_box, window_of_cell}
 
 -- ---- cells
 

@@ -11,7 +11,7 @@ use Rattle.acas_flight.specs.Response.{Demand, demand_of, lasting}
 use Rattle.acas_flight.specs.Window.{Times, IsDuring}
 use Rattle.acas_flight.specs.Clear.{Area, IsClear, IsEndangeredDuring}
 use Rattle.acas_flight_curves.proofs.Models.{demand_can_be_met}
-use Rattle.acas_region_curves.specs.Limits.{AreEnds}
+use Rattle.acas_areas.specs.Limits.{AreEnds}
 use Rattle.acas_passes.specs.Search.{AreRates, CanMeet, IsMoment, IsSearch, unit}
 use Rattle.acas_pass_laws.proofs.Founds.{finds}
 use Rattle.acas_rulings.specs.declared.flight.Flight as printed

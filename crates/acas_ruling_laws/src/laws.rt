@@ -7,7 +7,7 @@ ghost use Rattle.acas_frac.specs.Fraction.{IsReduced};
 ghost use Rattle.acas_flight.specs.Response.{demand_of};
 ghost use Rattle.acas_flight.specs.Window.{Times};
 ghost use Rattle.acas_flight.specs.Clear.{Area, IsClear, area_of_box};
-ghost use Rattle.acas_region_curves.specs.Limits.{AreEnds, IsArea};
+ghost use Rattle.acas_areas.specs.Limits.{AreEnds, IsArea};
 ghost use Rattle.acas_passes.specs.Search.{AreRates};
 ghost use Rattle.acas_rulings.specs.declared.flight.Flight.{Flight};
 ghost use Rattle.acas_rulings.specs.Witness.{IsWitnessOf};

@@ -2,7 +2,7 @@
 use Rattle.std.proofs.Common.{ℕ, ◌*◌, List, ◌++◌, pos, ◌*ℤ◌}
 use Rattle.acas_flight.specs.Response.{Segment}
 use Rattle.acas_flight.specs.Parts.{finer}
-use Rattle.acas_region_curves.proofs.Climbs.{IsOver-finer}
+use Rattle.acas_areas.proofs.Finer.{IsOver-finer}
 use Rattle.acas_rulings.specs.Printed.{AreParts, IsPart, a_part, no_parts}
 use Rattle.acas_rulings.specs.declared.flight.Segment as part
 

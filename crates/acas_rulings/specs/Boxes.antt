@@ -2,7 +2,7 @@
 use Rattle.std.specs.Prelude.{ℕ, ◌<◌, List, length, get_or, pos}
 use Rattle.acas_spec.specs.Model.{ModelData}
 use Rattle.acas_flight.specs.State.{Box, Interval}
-use Rattle.acas_region_curves.specs.Limits.{IsFlownInTime, interval_of}
+use Rattle.acas_areas.specs.Limits.{IsFlownInTime, interval_of}
 use Rattle.acas_rulings.specs.declared.audit_box.AuditBox.{AuditBox}
 
 -- a box of states, and the number of the advisory that is followed from there

@@ -8,7 +8,7 @@ use Rattle.acas_flight.specs.State.{Interval, IsInside, IsSecondsAway}
 use Rattle.acas_flight.specs.Contact.{IsHorizontalContact}
 use Rattle.acas_flight.specs.Window.{IsContactTimeOfBox, IsContactTimeOfCell}
 use Rattle.acas_flight.specs.Values.{IsOver}
-use Rattle.acas_region_curves.specs.Limits.{interval_of}
+use Rattle.acas_areas.specs.Limits.{interval_of}
 
 -- the range of a cell's witness at the time t, over q: the radius, and what the least closing speed flies in the lesser of t and
 -- n + 1 seconds

@@ -10,9 +10,9 @@ use Rattle.acas_flight.specs.Extremes.{IsLowExtreme, IsHighExtreme}
 use Rattle.acas_flight.specs.Values.{IsOver}
 use Rattle.acas_passes.specs.Flights.{Flight}
 use Rattle.acas_passes.specs.Search.{Search, IsFound, unit}
-use Rattle.acas_region_curves.specs.View.{area_of, times_of}
-use Rattle.acas_region_curves.specs.declared.parts.BoxState.{BoxState}
-use Rattle.acas_region_curves.specs.declared.parts.Window.{Window}
+use Rattle.acas_areas.specs.View.{area_of, times_of}
+use Rattle.acas_areas.specs.declared.parts.BoxState.{BoxState}
+use Rattle.acas_areas.specs.declared.parts.Window.{Window}
 use Rattle.acas_rulings.specs.declared.flight.Flight as printed
 use Rattle.acas_rulings.specs.Printed.{Prints, AreParts, segments_of, flight_fractions}
 

@@ -1,13 +1,13 @@
 //! The areas of cells.
 ghost use Rattle.std.specs.Prelude.{◌≡◌, ◌+◌, ◌<◌, length};
 ghost use Rattle.acas_flight.specs.Clear.{area_of_cell};
-ghost use Rattle.acas_region_curves.specs.Limits.{interval_of};
-ghost use Rattle.acas_region_curves.specs.View.{area_of};
+ghost use Rattle.acas_areas.specs.Limits.{interval_of};
+ghost use Rattle.acas_areas.specs.View.{area_of};
 ghost use Rattle.acas_rulings.specs.Spans.{between};
 
+use acas_areas::BoxState;
 use acas_base::Model;
 use acas_grid::Axis;
-use acas_region_curves::BoxState;
 use acas_units::Span;
 
 /// The numbers from a place of an axis to a later one.

@@ -1,5 +1,5 @@
 //! Boxes under an advisory.
-use acas_region_curves::BoxState;
+use acas_areas::BoxState;
 use acas_units::Span;
 
 /// A box of states under an advisory: ranges in ft, closing speeds in ft/s, and an area of altitudes in ticks and rates in ft/min.

@@ -14,10 +14,10 @@ use Rattle.acas_grid.proofs.StateNumbers.{state_present-below, state_present-sta
 use Rattle.acas_grid.proofs.Vertices.{vertices-one_to_one}
 use Rattle.acas_base.specs.Advices.{AdvicesData, AreAdvices, AreAdvicesOf, advice_at}
 use Rattle.acas_outside.specs.Bytes.{IsBytes}
-use Rattle.acas_process.specs.Bounds.{IsSound}
+use Rattle.acas_policies.specs.Bounds.{IsSound}
 use Rattle.acas_process.specs.Cost.{IsEntry}
 use Rattle.acas_process.proofs.ModelLaws.{is_chosen}
-use Rattle.acas_step.proofs.NumberedStates.{IsVertex-state_vertex, state_number-below}
+use Rattle.acas_means.proofs.NumberedStates.{IsVertex-state_vertex, state_number-below}
 use Rattle.acas_accept.specs.Answers.{HasAdvices}
 use Rattle.acas_accept.specs.GivenTable.{given_table}
 use Rattle.acas_accept.specs.Refusals.{first_refusal}

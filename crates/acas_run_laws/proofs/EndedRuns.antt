@@ -14,14 +14,15 @@ use Rattle.acas_rulings.specs.Boxes.{AuditedBox}
 use Rattle.acas_manoeuvre.specs.Intruder.{Manoeuvre as Intruder}
 use Rattle.acas_report_lines.specs.Meetings.{IsMeetingsBegun}
 use Rattle.acas_report_lines.specs.Regions.{IsRegionsReportBegun}
-use Rattle.acas_report_lines.specs.Report.{IsReportBegun}
 use Rattle.acas_report_lines.specs.declared.counts.Which.{Which}
+use Rattle.acas_report_cells.specs.Report.{IsReportBegun}
 use Rattle.acas_command.specs.Answers.{Agrees, Completes}
 use Rattle.acas_command.specs.Called.{Called, IsReportOutcome, MayPrint, PrintsPart, calls_for_report}
 use Rattle.acas_command.specs.Outcome.{Outcome, prints, with_file}
 use Rattle.acas_command.specs.declared.status.Cause.{Cause}
 use Rattle.acas_command.specs.declared.status.Cause.TheVariants.{Output}
-use Rattle.acas_audit_commands.specs.Calls.{AreAuditedBoxes, IsAuditBegun, IsAuditText, IsRegionsBegun, IsRegionsText, audit_looks_at, regions_looks_at}
+use Rattle.acas_audit_commands.specs.Calls.{IsAuditBegun, IsAuditText, audit_looks_at}
+use Rattle.acas_region_commands.specs.Calls.{AreAuditedBoxes, IsRegionsBegun, IsRegionsText, regions_looks_at}
 use Rattle.acas_command.proofs.Completed.{completed}
 use Rattle.acas_drill.specs.Calls.{IsDrillBegun, IsDrillText}
 use Rattle.acas_drill_model.specs.DrilledModel.{drilled_model}
@@ -30,7 +31,8 @@ use Rattle.acas_manoeuvre_commands.specs.Calls.{AreMetBoxes, IsManoeuvreBegun, I
 use Rattle.acas_risk_commands.specs.Calls.{risk_of}
 use Rattle.acas_safeable_commands.specs.Calls.{IsSafeableText, IsSafeableTextBegun, safeable_looks_at}
 use Rattle.acas_safeable.specs.SafeableText.{IsSafeableBegun}
-use Rattle.acas_table_commands.specs.Calls.{check_of, compile_of, migrate_of, values_of}
+use Rattle.acas_table_commands.specs.Calls.{compile_of, values_of}
+use Rattle.acas_check_commands.specs.Calls.{check_of, migrate_of}
 use Rattle.acas_cli.specs.Calls.{CallsFor}
 use Rattle.acas_cli_words.specs.Words.{Form, Values, Compile, Check, Risk, Audit, Regions, Manoeuvre, Safeable, Replay, Migrate, Drill}
 use Rattle.acas_run_laws.specs.Forms.{HasIntruder}

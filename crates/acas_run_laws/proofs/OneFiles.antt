@@ -11,7 +11,7 @@ use Rattle.acas_grid.specs.Grid.{state_number, vertex_number}
 use Rattle.acas_grid.specs.States.{state_present, state_vertex}
 use Rattle.acas_grid.proofs.StateNumbers.{state_number-parts, state_present-below}
 use Rattle.acas_process.specs.Cost.{IsEntry}
-use Rattle.acas_step.proofs.NumberedStates.{IsVertex-state_vertex}
+use Rattle.acas_means.proofs.NumberedStates.{IsVertex-state_vertex}
 use Rattle.acas_table_text.specs.Shape.{shape_of}
 use Rattle.acas_table_text.specs.Text.{entry_at}
 use Rattle.acas_accept.specs.GivenTable.{entry_place}

@@ -15,11 +15,11 @@ use Rattle.acas_rulings.specs.Boxes.{AuditedBox}
 use Rattle.acas_manoeuvre.specs.Intruder.{Manoeuvre as Intruder}
 use Rattle.acas_report_lines.specs.Meetings.{IsMeetingsReport}
 use Rattle.acas_report_lines.specs.Regions.{IsRegionsReport}
-use Rattle.acas_report_lines.specs.Report.{IsReport}
 use Rattle.acas_report_lines.specs.declared.counts.Counts.{Counts}
 use Rattle.acas_report_lines.specs.declared.counts.Which.{Which}
 use Rattle.acas_report_lines.specs.declared.counts.Which.TheVariants.{All}
 use Rattle.acas_report_lines.specs.declared.meet_counts.MeetCounts.{MeetCounts}
+use Rattle.acas_report_cells.specs.Report.{IsReport}
 use Rattle.acas_replay.specs.Replay.{IsReplay}
 use Rattle.acas_replay.proofs.Texts.{texts_same}
 use Rattle.acas_command.specs.Called.{IsRefusal, IsReportOutcome, MayPrint, calls_for_report}
@@ -33,7 +33,8 @@ use Rattle.acas_command.proofs.Says.{file-says}
 use Rattle.acas_table_file.specs.AcceptedFile.{IsTableOf}
 use Rattle.acas_table_file.specs.Calls.{with_table}
 use Rattle.acas_table_file.proofs.Files.{with_table-file}
-use Rattle.acas_audit_commands.specs.Calls.{AreAuditedBoxes, IsAuditBegun, IsAuditText, IsRegionsBegun, IsRegionsText, audit_looks_at, regions_looks_at}
+use Rattle.acas_audit_commands.specs.Calls.{IsAuditBegun, IsAuditText, audit_looks_at}
+use Rattle.acas_region_commands.specs.Calls.{AreAuditedBoxes, IsRegionsBegun, IsRegionsText, regions_looks_at}
 use Rattle.acas_drill.specs.Calls.{IsDrillBegun, IsDrillText}
 use Rattle.acas_drill_model.specs.DrilledModel.{drilled_model}
 use Rattle.acas_drill.specs.Text.{drill_text}

@@ -5,17 +5,17 @@ use Rattle.acas_spec.specs.Model.{ModelData}
 use Rattle.acas_base.specs.Advices.{AdvicesData}
 use Rattle.acas_outside.specs.Bytes.{AppendsPart}
 use Rattle.acas_flight.specs.Clear.{area_of_box}
-use Rattle.acas_region_curves.specs.Limits.{IsArea}
+use Rattle.acas_areas.specs.Limits.{IsArea}
 use Rattle.acas_passes.specs.Search.{fastest}
 use Rattle.acas_manoeuvre.specs.Intruder.{Manoeuvre}
 use Rattle.acas_rulings.specs.Boxes.{AreBoxesOf, AuditedBox, box_at}
 use Rattle.acas_boxes.specs.Rates.{AllRatesFit}
 use Rattle.acas_report_lines.specs.Meetings.{IsMeetingsBegun, IsMeetingsReport}
 use Rattle.acas_report_lines.specs.Regions.{IsRegionsReport, IsRegionsReportBegun}
-use Rattle.acas_report_lines.specs.Report.{IsReport, IsReportBegun}
 use Rattle.acas_report_lines.specs.declared.counts.Counts.{Counts}
 use Rattle.acas_report_lines.specs.declared.counts.Which.{Which}
 use Rattle.acas_report_lines.specs.declared.meet_counts.MeetCounts.{MeetCounts}
+use Rattle.acas_report_cells.specs.Report.{IsReport, IsReportBegun}
 use Rattle.acas_meeting_laws.proofs.Ones.{verdict-one}
 use Rattle.acas_meeting_laws.proofs.Somes.{verdict-some}
 use Rattle.acas_report_laws.proofs.Reports.{begun_audit, begun_meetings, begun_regions, one_audit, one_meetings, one_regions, some_audit, some_meetings, some_regions}

@@ -12,7 +12,7 @@ use Rattle.acas_spec.specs.Model.{ModelData}
 use Rattle.acas_base.specs.Advices.{AdvicesData}
 use Rattle.acas_outside.specs.Files.{Files}
 use Rattle.acas_flight.specs.Clear.{area_of_box}
-use Rattle.acas_region_curves.specs.Limits.{IsArea, IsSmall}
+use Rattle.acas_areas.specs.Limits.{IsArea, IsSmall}
 use Rattle.acas_input.specs.declared.fault.InputFault.{InputFault}
 use Rattle.acas_boxes.specs.Rates.{fitting_boxes_of}
 use Rattle.acas_boxes.specs.Text.{IsBoxesText}
@@ -44,7 +44,8 @@ use Rattle.acas_command.proofs.Refused.{IsBehindModel, behind-model, no_file_cau
 use Rattle.acas_table_file.specs.AcceptedFile.{IsTableOf}
 use Rattle.acas_table_file.specs.Calls.{with_table}
 use Rattle.acas_table_file.proofs.Files.{behind-table, with_table-accepted}
-use Rattle.acas_audit_commands.specs.Calls.{IsAuditBegun, IsAuditText, IsRegionsBegun, IsRegionsText, audit_looks_at, regions_looks_at}
+use Rattle.acas_audit_commands.specs.Calls.{IsAuditBegun, IsAuditText, audit_looks_at}
+use Rattle.acas_region_commands.specs.Calls.{IsRegionsBegun, IsRegionsText, regions_looks_at}
 use Rattle.acas_drill.specs.Calls.{IsDrillBegun, IsDrillText}
 use Rattle.acas_drill_model.specs.DrilledModel.{drilled_model}
 use Rattle.acas_drill.specs.Text.{drill_text}
@@ -52,7 +53,8 @@ use Rattle.acas_encounter_commands.specs.Calls.{IsReplayBegun, IsReplayText, enc
 use Rattle.acas_manoeuvre_commands.specs.Calls.{IsManoeuvreBegun, IsManoeuvreText, manoeuvre_looks_at}
 use Rattle.acas_risk_commands.specs.Calls.{risk_of}
 use Rattle.acas_safeable_commands.specs.Calls.{IsSafeableText, IsSafeableTextBegun, safeable_looks_at}
-use Rattle.acas_table_commands.specs.Calls.{check_of, compile_of, migrate_of, values_of}
+use Rattle.acas_table_commands.specs.Calls.{compile_of, values_of}
+use Rattle.acas_check_commands.specs.Calls.{check_of, migrate_of}
 use Rattle.acas_cli.specs.Calls.{CallsFor}
 use Rattle.acas_cli_words.specs.Words.{Form, Values, Compile, Check, Risk, Audit, Regions, Manoeuvre, Safeable, Replay, Migrate, Drill}
 use Rattle.acas_run_laws.specs.Forms.{HasIntruder}

@@ -8,9 +8,10 @@ use Rattle.acas_outside.specs.Files.{Files}
 use Rattle.acas_outside.specs.Outside.{Outside}
 use Rattle.acas_table_text.specs.Shape.{shape_of}
 use Rattle.acas_table_text.specs.Tables.{as_layered}
-use Rattle.acas_table_commands.specs.Calls.{CallsForCompile, CallsForMigrate, compile_of, migrate_of}
-use Rattle.acas_table_commands.specs.StoredLine.{compiled_line, migrated_line}
-use Rattle.acas_table_commands.proofs.MigratedTables.{rest_of_migrate, rest_of_table}
+use Rattle.acas_table_commands.specs.Calls.{CallsForCompile, compile_of}
+use Rattle.acas_check_commands.specs.Calls.{CallsForMigrate, migrate_of}
+use Rattle.acas_table_rows.specs.StoredLine.{compiled_line, migrated_line}
+use Rattle.acas_check_commands.proofs.MigratedTables.{rest_of_migrate, rest_of_table}
 use Rattle.acas_table_rows.specs.TableFile.{compiled_text}
 use Rattle.acas_command.specs.Answers.{Agrees}
 use Rattle.acas_command.specs.Called.{MayPrint}

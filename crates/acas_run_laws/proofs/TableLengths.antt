@@ -7,10 +7,10 @@ use Rattle.acas_table_text.specs.Text.{chain, groups_of, header, text_of_layers}
 use Rattle.acas_table_text.specs.declared.format.Format.{Format}
 use Rattle.acas_table_text.specs.declared.format.Format.TheVariants.{Layered, Whole}
 use Rattle.acas_table_text.specs.declared.shape.TableShape.{TableShape}
-use Rattle.acas_table_text.proofs.Chains.{length-chain}
+use Rattle.acas_table_text_laws.proofs.Chains.{length-chain}
 use Rattle.acas_table_text.proofs.Groups.{all_groups}
 use Rattle.acas_table_text.proofs.Joined.{HaveLength, length-joined}
-use Rattle.acas_table_text.proofs.TextLaws.{length_header}
+use Rattle.acas_table_text_laws.proofs.TextLaws.{length_header}
 
 -- layers of one length, in groups
 layers_even : (n : ℕ) (layers : List (List Entry)) → All (λ layer. length layer ≡ n) layers → HaveLength n layers

@@ -6,7 +6,7 @@ use Rattle.acas_units.specs.declared.limits.TheConstants.{GREATEST_LIMIT, GREATE
 use Rattle.acas_flight.proofs.Between.{test_ge}
 use Rattle.acas_flight.specs.Response.{Demand}
 use Rattle.acas_flight.specs.State.{Interval}
-use Rattle.acas_region_curves.specs.Chases.{IsAsked}
+use Rattle.acas_areas.specs.Chases.{IsAsked}
 use Rattle.acas_safeable.specs.Reached.{greatest_rate, least_rate}
 
 least : (r lo s : ℤ) (limit : ℕ) → unsigned_abs lo ≤ unsigned_abs GREATEST_RATE → unsigned_abs s ≤ unsigned_abs GREATEST_RATE → limit ≤ GREATEST_LIMIT →

@@ -9,7 +9,7 @@ use Rattle.acas_flight_curves.proofs.Models.{demand_can_be_met}
 use Rattle.acas_flight.specs.Clear.{Area, IsClear}
 use Rattle.acas_flight.specs.Response.{Demand, demand_of}
 use Rattle.acas_flight.specs.Window.{IsDuring, IsWindowOfCell, Times}
-use Rattle.acas_region_curves.proofs.EachWindow.{window_of_cell}
+use Rattle.acas_flight_windows.proofs.EachWindow.{window_of_cell}
 use Rattle.acas_cells.specs.Cells.{Cell, IsCellOf}
 use Rattle.acas_safeable.specs.Firsts.{IsFound}
 use Rattle.acas_safeable.specs.Outlooks.{IsOutlook, IsShown, candidates}

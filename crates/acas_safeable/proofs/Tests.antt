@@ -12,10 +12,10 @@ use Rattle.acas_flight.specs.Curves.{high_hold, high_pull, low_hold, low_pull}
 use Rattle.acas_flight.specs.Parts.{CanBeMet}
 use Rattle.acas_flight.specs.Response.{Demand}
 use Rattle.acas_flight.specs.Window.{Times}
-use Rattle.acas_region_curves.specs.Chases.{StaysOver}
-use Rattle.acas_region_curves.specs.Limits.{AreEnds}
-use Rattle.acas_region_curves.proofs.LeastGaps.{natural}
-use Rattle.acas_region.proofs.NearestTimes.{nearest}
+use Rattle.acas_areas.specs.Chases.{StaysOver}
+use Rattle.acas_areas.specs.Limits.{AreEnds}
+use Rattle.acas_flight_curves.proofs.Numbers.{natural}
+use Rattle.acas_flight_windows.proofs.NearestTimes.{nearest}
 use Rattle.acas_region.proofs.Clears.{above_by, below_by, both_decide, either_decides, first_decides, nearest_decides}
 
 -- a test says whether it holds

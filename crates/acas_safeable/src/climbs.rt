@@ -1,12 +1,13 @@
 //! How much may be climbed within a second, and how far above the intruder is then.
 ghost use Rattle.std.specs.Prelude.{◌≡◌, ◌*◌, ◌^◌, ◌<◌, ◌≤◌, pos, ◌+ℤ◌, ◌-ℤ◌, ◌*ℤ◌, unsigned_abs};
 ghost use Rattle.acas_flight.specs.Curves.{held, high_pull, highest, low_pull, lowest};
-ghost use Rattle.acas_region_curves.specs.Sizes.{altitude_size};
-ghost use Rattle.acas_region_curves.specs.View.{demand_in};
+ghost use Rattle.acas_areas.specs.Sizes.{altitude_size};
+ghost use Rattle.acas_areas.specs.View.{demand_in};
 ghost use Rattle.acas_safeable.specs.Climbs.{IsClimb};
 
+use acas_areas::Asked;
 use acas_frac::Rounding;
-use acas_region_curves::{Asked, numerator};
+use acas_region_curves::numerator;
 use acas_units::{GREATEST_LIMIT, GREATEST_RATE};
 
 /// A climb within a second in ticks, times the pull of its curve, and that pull.

@@ -3,16 +3,16 @@ ghost use Rattle.std.specs.Prelude.{◌<◌};
 ghost use Rattle.acas_cells.specs.Cells.{IsCellOf};
 ghost use Rattle.acas_flight.specs.Clear.{IsClear};
 ghost use Rattle.acas_flight.specs.Response.{demand_of};
-ghost use Rattle.acas_region_curves.specs.View.{area_of, times_of};
+ghost use Rattle.acas_areas.specs.View.{area_of, times_of};
 ghost use Rattle.acas_safeable.specs.Firsts.{IsFound};
 ghost use Rattle.acas_safeable.specs.Outlooks.{IsOutlook, candidates};
 ghost use Rattle.acas_safeable.specs.View.{cell_of};
 
 use crate::outlook::{ClearCell, Outlook};
 use crate::reaching::reached;
+use acas_areas::{BoxState, Window};
 use acas_base::Model;
 use acas_region::{is_clear, window_of_cell};
-use acas_region_curves::{BoxState, Window};
 
 // The first choice of clear of conflict, clear left out, under which the area is clear in the window.
 fn first_clear(model: &Model, area: &BoxState, window: &Window) -> Outlook

@@ -2,17 +2,17 @@
 ghost use Rattle.std.specs.Prelude.{◌≡◌, ◌<◌, ◌≤◌, IfSome, None, unsigned_abs};
 ghost use Rattle.acas_cells.specs.Cells.{IsCellOf};
 ghost use Rattle.acas_flight.specs.Response.{demand_of};
-ghost use Rattle.acas_region_curves.specs.Limits.{interval_of};
-ghost use Rattle.acas_region_curves.specs.Sizes.{altitude_size};
-ghost use Rattle.acas_region_curves.specs.View.{area_of, demand_in};
+ghost use Rattle.acas_areas.specs.Limits.{interval_of};
+ghost use Rattle.acas_areas.specs.Sizes.{altitude_size};
+ghost use Rattle.acas_areas.specs.View.{area_of, demand_in};
 ghost use Rattle.acas_safeable.specs.Reached.{IsWithinAltitudes, greatest_altitude, greatest_rate, least_altitude, least_rate, reached_area, reached_from};
 ghost use Rattle.acas_safeable.specs.View.{cell_of};
 
 use crate::climbs::{altitude_after, highest, lowest};
 use crate::outlook::ClearCell;
+use acas_areas::{Asked, BoxState};
 use acas_base::Model;
 use acas_frac::{Down, Up};
-use acas_region_curves::{Asked, BoxState};
 use acas_rulings::area_of_cell;
 use acas_units::{GREATEST_ALTITUDE, GREATEST_RATE, Span, TICKS_PER_FOOT};
 

@@ -73,3 +73,7 @@ at_both e f = pos e.lower *ℤ f e.cell +ℤ pos e.upper *ℤ f (suc e.cell)
 -- the same on three axes: a sum over the corners of a cell by their weights
 abbrev pub over_ends : Cell → (ℕ → ℕ → ℕ → ℤ) → ℤ
 over_ends t z = at_both t.h (λ i. at_both t.v0 (λ j. at_both t.v1 (λ k. z i j k)))
+
+-- the number of the column at the lower corner of a cell
+abbrev pub column_of : GridData → Cell → ℕ
+column_of g t = t.v0.cell * length g.v1 + t.v1.cell

@@ -2,10 +2,3 @@ pub mod Sizes
 pub mod Second
 pub mod Ends
 pub mod Corners
-pub mod Layer
-pub mod Entries
-pub mod Means
-pub mod Choices
-pub mod Values
-pub mod Reach
-pub mod Columns

@@ -4,22 +4,16 @@ ghost use Rattle.std.specs.Prelude.{◌≡◌, ℕ, ◌<◌, ◌≤◌, length, 
 ghost use Rattle.acas_spec.specs.Model.{states, vertices};
 ghost use Rattle.acas_spec.specs.Table.{Table};
 ghost use Rattle.acas_grid.specs.States as numbers;
-ghost use Rattle.acas_step.specs.Layer.{AreValuesOf, AreWithin, value_of};
-ghost use Rattle.acas_step.specs.Means.{AreMeansAt, AreMeansOf, AreVertexMeans};
-ghost use Rattle.acas_step.specs.declared.layer.Side.{Side};
+ghost use Rattle.acas_means.specs.Layer.{AreValuesOf, AreWithin, value_of};
+ghost use Rattle.acas_means.specs.Means.{AreMeansAt, AreMeansOf, AreVertexMeans};
+ghost use Rattle.acas_means.specs.declared.layer.Side.{Side};
 
-use crate::layer::Side;
 use crate::values::mean;
 use acas_base::Model;
 use acas_frac::{Down, Up};
 use acas_grid::state_present;
-use acas_units::{GREATEST_ADVISORIES, GREATEST_VERTICES, Pair};
-
-/// Both means at a vertex, under each advisory by its number.
-pub type VertexMeans = [Pair; GREATEST_ADVISORIES as usize];
-
-/// Those at the vertices of a column, by the place of the altitude.
-pub type ColumnMeans = [VertexMeans; GREATEST_VERTICES as usize];
+use acas_means::{Side, VertexMeans, advisory_count};
+use acas_units::{GREATEST_ADVISORIES, Pair};
 
 // Both means at a vertex under an advisory.
 fn mean_pair(model: &Model, vertex: u32, advisory: u8, below: &[Pair]) -> Pair
@@ -34,14 +28,6 @@ fn mean_pair(model: &Model, vertex: u32, advisory: u8, below: &[Pair]) -> Pair
         upper: mean::<Up>(model, vertex, advisory, Side::Upper, below),
         lower: mean::<Down>(model, vertex, advisory, Side::Lower, below),
     }
-}
-
-// How many advisories the model has.
-pub fn advisory_count(model: &Model) -> u8
-    ensures value { result ≡ model.now.grid.advisories }
-    ensures few { result ≤ GREATEST_ADVISORIES }
-{
-    model.grid().advisories as u8
 }
 
 /// Both means of a layer at a vertex, under each advisory of the model by its number.

@@ -5,7 +5,7 @@ ghost use Rattle.acas_spec.specs.Model.{advisory_at, sigma_at, vertices};
 ghost use Rattle.acas_grid.specs.Grid.{IsInside, IsVertex};
 ghost use Rattle.acas_process.specs.Step as process;
 ghost use Rattle.acas_grid.specs.States as numbers;
-ghost use Rattle.acas_step.specs.Reach.{change_from, own_rate};
+ghost use Rattle.acas_means.specs.Reach.{change_from, own_rate};
 ghost use Rattle.acas_step.specs.Second.{IsAltitude, IsAxisPoint, IsNoise, IsOwnChange, IsPull, IsRate, IsRateChange, led_past};
 
 use acas_base::Model;

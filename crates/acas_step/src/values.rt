@@ -1,30 +1,21 @@
 //! The mean of a layer's values over the points to which a second leads.
-ghost use Rattle.std.specs.Prelude.{◌≡◌, ℕ, ◌+◌, ◌*◌, ◌<◌, ◌≤◌, pos, ◌≤ℤ◌, length, unsigned_abs};
+ghost use Rattle.std.specs.Prelude.{◌≡◌, ℕ, ◌<◌, ◌≤◌, pos, ◌≤ℤ◌, length, unsigned_abs};
 ghost use Rattle.acas_spec.specs.Limits.{IsModel};
 ghost use Rattle.acas_spec.specs.Model.{states, total_weight, vertices};
 ghost use Rattle.acas_spec.specs.declared.place.Point.{Point};
-ghost use Rattle.acas_process.specs.Bounds.{interpolated};
+ghost use Rattle.acas_process.specs.Values.{interpolated};
 ghost use Rattle.acas_process.specs.Step as process;
 ghost use Rattle.acas_step.specs.Corners.{IsInterpolation, IsWeighting};
-ghost use Rattle.acas_step.specs.Layer.{AreWithin, layer_values};
-ghost use Rattle.acas_step.specs.Values.{layer_mean};
+ghost use Rattle.acas_means.specs.Layer.{AreWithin, layer_values};
+ghost use Rattle.acas_means.specs.Values.{layer_mean};
 
 use crate::cell::CornerSet;
-use crate::layer::{Side, weighted, weighted_sum};
 use crate::led_to::{CellSearch, LedTo};
+use crate::weighted::{weighted, weighted_sum};
 use acas_base::Model;
 use acas_frac::Rounding;
-use acas_grid::Grid;
+use acas_means::{Side, first_state};
 use acas_units::{GREATEST_TOTAL_WEIGHT, GREATEST_WEIGHT, Pair};
-
-// The number of the first state of an advisory.
-pub fn first_state(grid: &Grid, advisory: u8) -> usize
-    requires { advisory < grid.now.advisories }
-    ensures value { result ≡ advisory * vertices grid.now }
-    ensures room { result + vertices grid.now ≤ states grid.now }
-{
-    usize::from(advisory) * grid.vertices() as usize
-}
 
 // The values of the layer below under an advisory, interpolated by the corners of a point's cell and rounded.
 fn interpolated<R: Rounding>(

@@ -9,18 +9,18 @@ use Rattle.acas_spec.specs.declared.place.Vertex.{Vertex}
 use Rattle.acas_frac.specs.Rounding.{down, up}
 use Rattle.acas_units.specs.declared.pair.Entry.{Entry}
 use Rattle.acas_units.specs.declared.pair.Pair.{Pair}
-use Rattle.acas_process.specs.Bounds.{choice_value, millionths}
+use Rattle.acas_process.specs.Values.{choice_value, millionths}
 use Rattle.acas_process.specs.Cost.{MayChoose, cost_of}
 use Rattle.acas_process.proofs.Least.{first_least-same, least-same}
 use Rattle.acas_process.proofs.ModelLaws.{is_chosen}
 use Rattle.acas_step_choices.specs.Best.{AreBest, AreBestUnder, AreColumnBest, AreColumnEntries, AreVertexEntries, ColumnLeavesRoom, IsBest, IsOver, LeaveColumnOthers, LeaveOthers, LeaveRoom, entries_in, entry_at}
-use Rattle.acas_step.specs.Choices.{value_by_mean}
-use Rattle.acas_step.specs.Columns.{AreColumnMeans, pairs_at, vertex_in}
-use Rattle.acas_step.specs.Layer.{AreWithin, layer_values, pair_at, value_at}
-use Rattle.acas_step.specs.Means.{AreVertexMeans}
-use Rattle.acas_step.specs.declared.layer.Side.{Side}
-use Rattle.acas_step.specs.declared.layer.Side.TheVariants.{Upper, Lower}
-use Rattle.acas_step.proofs.TableMeans.{means_bounded}
+use Rattle.acas_means.specs.Choices.{value_by_mean}
+use Rattle.acas_means.specs.Columns.{AreColumnMeans, pairs_at, vertex_in}
+use Rattle.acas_means.specs.Layer.{AreWithin, layer_values, pair_at, value_at}
+use Rattle.acas_means.specs.Means.{AreVertexMeans}
+use Rattle.acas_means.specs.declared.layer.Side.{Side}
+use Rattle.acas_means.specs.declared.layer.Side.TheVariants.{Upper, Lower}
+use Rattle.acas_means.proofs.TableMeans.{means_bounded}
 
 -- ---- by the means
 

@@ -8,9 +8,9 @@ use Rattle.acas_spec.specs.declared.parts.Choice.{Choice}
 use Rattle.acas_process.specs.Compiled.{first_least, least}
 use Rattle.acas_process.proofs.Least.{first_at}
 use Rattle.acas_units.specs.declared.pair.Pair.{Pair}
-use Rattle.acas_step.specs.Choices.{no_choice, value_by_mean}
-use Rattle.acas_step.specs.Layer.{value_at}
-use Rattle.acas_step.specs.declared.layer.Side.TheVariants.{Upper, Lower}
+use Rattle.acas_means.specs.Choices.{no_choice, value_by_mean}
+use Rattle.acas_means.specs.Layer.{value_at}
+use Rattle.acas_means.specs.declared.layer.Side.TheVariants.{Upper, Lower}
 use Rattle.acas_step_choices.specs.Best.{IsLeast, IsValued}
 
 -- ---- the least value so far

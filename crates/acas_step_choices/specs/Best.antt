@@ -7,13 +7,13 @@ use Rattle.acas_frac.specs.Rounding.{down, up}
 use Rattle.acas_grid.specs.States.{vertex_at}
 use Rattle.acas_units.specs.declared.pair.Entry.{Entry}
 use Rattle.acas_units.specs.declared.pair.Pair.{Pair}
-use Rattle.acas_process.specs.Bounds.{choice_value}
+use Rattle.acas_process.specs.Values.{choice_value}
 use Rattle.acas_process.specs.Compiled.{first_least, least}
-use Rattle.acas_step.specs.Choices.{value_by_mean}
-use Rattle.acas_step.specs.Columns.{pairs_at, vertex_in}
-use Rattle.acas_step.specs.Layer.{layer_values, no_pair, value_at}
-use Rattle.acas_step.specs.declared.layer.Side.{Side}
-use Rattle.acas_step.specs.declared.layer.Side.TheVariants.{Upper, Lower}
+use Rattle.acas_means.specs.Choices.{value_by_mean}
+use Rattle.acas_means.specs.Columns.{pairs_at, vertex_in}
+use Rattle.acas_means.specs.Layer.{layer_values, no_pair, value_at}
+use Rattle.acas_means.specs.declared.layer.Side.{Side}
+use Rattle.acas_means.specs.declared.layer.Side.TheVariants.{Upper, Lower}
 
 -- an entry has the least values of the choices over the layer below, and the first choice that has the least upper value
 pub record IsOver (m : ModelData) (below : List Pair) (p : ℕ) (x : Vertex) (e : Entry) : Type 0 where

@@ -1,9 +1,9 @@
 -- The choices under a present advisory with their costs in millionths, as they are made once for the entries of a column under it.
 use Rattle.std.specs.Prelude.{◌≡◌, ℕ, pos, ◌<◌, ◌≤◌, ◌^◌, unsigned_abs, length, get_or}
 use Rattle.acas_spec.specs.Model.{ModelData, choices_at}
-use Rattle.acas_process.specs.Bounds.{millionths}
+use Rattle.acas_process.specs.Values.{millionths}
 use Rattle.acas_process.specs.Cost.{cost_of}
-use Rattle.acas_step.specs.Choices.{listed_choice}
+use Rattle.acas_means.specs.Choices.{listed_choice}
 use Rattle.acas_step_choices.specs.declared.priced.PricedChoice.{PricedChoice}
 use Rattle.acas_step_choices.specs.declared.priced.PricedList.{PricedList}
 

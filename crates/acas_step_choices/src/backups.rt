@@ -1,17 +1,14 @@
 //! The value of a choice, and how many upper ones were formed. One such value is a backup of dynamic programming, as in ATC-371
 //! (Kochenderfer and Chryssanthacopoulos, MIT Lincoln Laboratory, 2011).
-ghost use Rattle.std.specs.Prelude.{◌≡◌, ℕ, ◌+◌, ◌*◌, ◌<◌, ◌≤◌, ◌^◌, ◌+ℤ◌, length, unsigned_abs};
-ghost use Rattle.acas_spec.specs.Model.{states, vertices};
-ghost use Rattle.acas_grid.specs.States as numbers;
-ghost use Rattle.acas_process.specs.Bounds.{millionths};
-ghost use Rattle.acas_step.specs.Layer.{AreWithin, layer_values};
-ghost use Rattle.acas_step.specs.Values.{counted, value_with_cost};
+ghost use Rattle.std.specs.Prelude.{◌≡◌, ◌+◌, ◌<◌, ◌^◌, ◌+ℤ◌};
+ghost use Rattle.acas_process.specs.Values.{millionths};
+ghost use Rattle.acas_means.specs.Values.{counted};
 
 use acas_base::Model;
 use acas_count::Counter;
 use acas_frac::Rounding;
+use acas_means::{Side, with_cost};
 use acas_spec::Choice;
-use acas_step::{CellSearch, LedTo, Side, mean_by, with_cost};
 use acas_units::Pair;
 
 /// Work that only the calls here do: the upper value of a choice, formed of its mean.
@@ -32,9 +29,9 @@ pub(crate) fn count_formed(count: &mut Backups, formed: usize)
     count.raise(formed as u64, &FormedValue { formed: () });
 }
 
-// The value of a choice by the mean under its advisory, in millionths: its action value. It counts one backup for the upper side and
-// none for the lower.
-fn value_of_choice(mean: i64, choice: &Choice, side: Side, count: &mut Backups) -> i128
+/// The value of a choice by the mean under its advisory, in millionths: its action value. It counts one backup for the upper side and
+/// none for the lower.
+pub fn value_of_choice(mean: i64, choice: &Choice, side: Side, count: &mut Backups) -> i128
     requires { count.old + counted side < 2 ^ 64 }
     ensures value { result ≡ mean +ℤ millionths choice.now.cost }
     ensures count { count.new ≡ count.old + counted side }
@@ -43,57 +40,4 @@ fn value_of_choice(mean: i64, choice: &Choice, side: Side, count: &mut Backups) 
         count_formed(count, 1);
     }
     with_cost(mean, choice.cost)
-}
-
-/// The value of a choice as `backup` gives it, by what gives the corners. It counts one backup for the upper side and none for the
-/// lower.
-pub fn backup_by<R: Rounding, L: LedTo>(
-    model: &Model,
-    led_to: &L,
-    vertex: u32,
-    choice: &Choice,
-    side: Side,
-    below: &[Pair],
-    count: &mut Backups,
-) -> i128
-    requires serves { L.serves led_to.now model.now }
-    requires vertex { vertex < vertices model.now.grid }
-    requires advisory { choice.now.advisory < model.now.grid.advisories }
-    requires below { length below.now ≡ states model.now.grid }
-    requires count { count.old + counted side < 2 ^ 64 }
-    ensures value { let x = numbers.vertex_at model.now.grid vertex in
-        result ≡ value_with_cost R.round model.now (layer_values side model.now.grid below.now) x choice.now }
-
-    // It is at most the cost of the choice larger than the largest value below.
-    ensures bounded { (most : ℕ) → AreWithin most side below.now
-        → unsigned_abs result ≤ most + 1_000_000 * unsigned_abs choice.now.cost }
-    ensures count { count.new ≡ count.old + counted side }
-{
-    let mean = mean_by::<R, L>(model, led_to, vertex, choice.advisory, side, below);
-    value_of_choice(mean, choice, side, count)
-}
-
-/// The value of a choice at a vertex by the layer below, in millionths, whose pairs stand in the order of the states' numbers.
-/// It counts one backup for the upper side and none for the lower.
-pub fn backup<R: Rounding>(
-    model: &Model,
-    vertex: u32,
-    choice: &Choice,
-    side: Side,
-    below: &[Pair],
-    count: &mut Backups,
-) -> i128
-    requires vertex { vertex < vertices model.now.grid }
-    requires advisory { choice.now.advisory < model.now.grid.advisories }
-    requires below { length below.now ≡ states model.now.grid }
-    requires count { count.old + counted side < 2 ^ 64 }
-    ensures value { let x = numbers.vertex_at model.now.grid vertex in
-        result ≡ value_with_cost R.round model.now (layer_values side model.now.grid below.now) x choice.now }
-
-    // It is at most the cost of the choice larger than the largest value below.
-    ensures bounded { (most : ℕ) → AreWithin most side below.now
-        → unsigned_abs result ≤ most + 1_000_000 * unsigned_abs choice.now.cost }
-    ensures count { count.new ≡ count.old + counted side }
-{
-    backup_by::<R, CellSearch>(model, &CellSearch, vertex, choice, side, below, count)
 }

@@ -5,14 +5,14 @@ ghost use Rattle.acas_spec.specs.Model.{choices_at};
 ghost use Rattle.acas_process.specs.Compiled.{first_least, least};
 ghost use Rattle.acas_step_choices.specs.Best.{IsBest, IsLeast, IsValued, LeaveRoom};
 ghost use Rattle.acas_step_choices.specs.Priced.{IsPriced, IsPricedList};
-ghost use Rattle.acas_step.specs.Choices.{value_by_mean};
-ghost use Rattle.acas_step.specs.Layer.{value_at};
-ghost use Rattle.acas_step.specs.declared.layer.Side.TheVariants.{Upper};
+ghost use Rattle.acas_means.specs.Choices.{value_by_mean};
+ghost use Rattle.acas_means.specs.Layer.{value_at};
+ghost use Rattle.acas_means.specs.declared.layer.Side.TheVariants.{Upper};
 
 use crate::backups::{Backups, count_formed};
 use crate::priced::{PricedChoice, PricedList};
 use acas_base::Model;
-use acas_step::VertexMeans;
+use acas_means::VertexMeans;
 use acas_units::{Entry, Pair};
 
 // Both values of a choice, by its means and its cost in millionths.

@@ -1,21 +1,20 @@
 //! The best entries over a layer: those at a vertex under each present advisory, by the means of the layer there.
-ghost use Rattle.std.specs.Prelude.{◌≡◌, ℕ, ◌+◌, ◌*◌, ◌<◌, ◌≤◌, ◌^◌, length};
-ghost use Rattle.acas_spec.specs.Model.{choices_at, states, vertices};
-ghost use Rattle.acas_grid.specs.States.{vertex_at};
-ghost use Rattle.acas_step_choices.specs.Best.{AreBest, AreBestUnder, AreColumnEntries, AreVertexEntries, ColumnLeavesRoom, IsBest, LeaveColumnOthers, LeaveOthers, LeaveRoom, entry_at};
+ghost use Rattle.std.specs.Prelude.{◌≡◌, ◌+◌, ◌*◌, ◌<◌, ◌≤◌, ◌^◌, length};
+ghost use Rattle.acas_spec.specs.Model.{choices_at, states};
+ghost use Rattle.acas_step_choices.specs.Best.{AreBest, AreBestUnder, AreColumnEntries, ColumnLeavesRoom, IsBest, LeaveColumnOthers, LeaveOthers, LeaveRoom, entry_at};
 ghost use Rattle.acas_step_choices.specs.Priced.{IsPricedList};
-ghost use Rattle.acas_step.specs.Choices.{choice_count};
-ghost use Rattle.acas_step.specs.Columns.{columns};
-ghost use Rattle.acas_step.specs.Layer.{AreWithin};
-ghost use Rattle.acas_step.specs.Reach.{IsReach};
-ghost use Rattle.acas_step.specs.declared.layer.Side.{Side};
+ghost use Rattle.acas_means.specs.Choices.{choice_count};
+ghost use Rattle.acas_means.specs.Columns.{columns};
+ghost use Rattle.acas_means.specs.Layer.{AreWithin};
+ghost use Rattle.acas_means.specs.Reach.{IsReach};
+ghost use Rattle.acas_means.specs.declared.layer.Side.{Side};
 
 use crate::backups::Backups;
 use crate::best::best_choice;
 use crate::priced::{PricedList, priced_list};
 use crate::two::best_of_two;
 use acas_base::Model;
-use acas_step::{ColumnMeans, LayerMeans, Reach, VertexMeans, advisory_count, means_at};
+use acas_means::{ColumnMeans, LayerMeans, Reach, VertexMeans, advisory_count};
 use acas_units::{Entry, GREATEST_ADVISORIES, GREATEST_VERTICES, Pair};
 
 /// An entry for each present advisory by its number.
@@ -56,8 +55,8 @@ fn write_best(
     put_entry(present, entry, entries);
 }
 
-// Writes the best entries at a vertex, by the means there, with one list of choices at a time. It counts a backup for each choice.
-fn fill_best(
+/// Writes the best entries at a vertex, by the means there, with one list of choices at a time. It counts a backup for each choice.
+pub fn fill_best(
     model: &Model,
     vertex_means: &VertexMeans,
     entries: &mut VertexEntries,
@@ -169,28 +168,8 @@ fn fill_present(
     }
 }
 
-/// The best entries at a vertex over the layer below, under each present advisory by its number. It counts a backup for each choice.
-pub fn entries_at(model: &Model, vertex: u32, below: &[Pair], count: &mut Backups) -> VertexEntries
-    requires vertex { vertex < vertices model.now.grid }
-    requires below { length below.now ≡ states model.now.grid }
-    requires small { (side : Side) → AreWithin (2 ^ 62) side below.now }
-    requires count { count.old + choice_count model.now < 2 ^ 64 }
-    ensures entries { AreVertexEntries model.now below.now (vertex_at model.now.grid vertex) result }
-    ensures count { count.new ≡ count.old + choice_count model.now }
-{
-    let _ = model.grid();
-    let means = means_at(model, vertex, below);
-    let none = Entry {
-        pair: Pair { upper: 0, lower: 0 },
-        advice: 0,
-    };
-    let mut entries = [none; GREATEST_ADVISORIES as usize];
-    fill_best(model, &means, &mut entries, count);
-    entries
-}
-
 /// Writes the best entries at the vertices of a column over the layer below, and the means that they are formed of, by what forms the
-/// model's means and the layer's reach. The entries are those of `entries_at`. It counts a backup for each vertex and choice, and takes
+/// model's means and the layer's reach. It counts a backup for each vertex and choice, and takes
 /// no memory.
 pub fn fill_entries<M: LayerMeans>(
     model: &Model,

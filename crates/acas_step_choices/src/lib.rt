@@ -7,5 +7,5 @@ mod entries;
 mod priced;
 mod two;
 
-pub use backups::{Backups, backup, backup_by};
-pub use entries::{ColumnEntries, VertexEntries, entries_at, fill_entries};
+pub use backups::{Backups, value_of_choice};
+pub use entries::{ColumnEntries, VertexEntries, fill_best, fill_entries};

@@ -5,8 +5,8 @@ ghost use Rattle.acas_process.specs.Cost.{IsKnownChoice};
 ghost use Rattle.acas_step_choices.specs.Priced.{IsPriced, IsPricedList};
 
 use acas_base::Model;
+use acas_means::{choice_at, choice_count};
 use acas_spec::Choice;
-use acas_step::{choice_at, choice_count};
 use acas_units::GREATEST_ADVISORIES;
 
 /// A choice with its cost in millionths.

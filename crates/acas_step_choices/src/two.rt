@@ -8,7 +8,7 @@ use crate::backups::{Backups, count_formed};
 use crate::best::{first_choice, least_of, valued_choice};
 use crate::priced::PricedList;
 use acas_base::Model;
-use acas_step::VertexMeans;
+use acas_means::VertexMeans;
 use acas_units::{Entry, Pair};
 
 /// The pairs at two vertices.

@@ -5,16 +5,17 @@ use Rattle.acas_spec.specs.Model.{GridData, ModelData, states, vertices}
 use Rattle.acas_spec.specs.declared.place.Point.{Point}
 use Rattle.acas_frac.specs.Rounding.{IsRounding}
 use Rattle.acas_units.specs.declared.pair.Pair.{Pair}
-use Rattle.acas_process.specs.Bounds.{interpolated}
-use Rattle.acas_step.specs.Columns.{column_of, vertex_in}
+use Rattle.acas_process.specs.Values.{interpolated}
+use Rattle.acas_means.specs.Columns.{vertex_in}
+use Rattle.acas_step.specs.Ends.{column_of}
 use Rattle.acas_step.specs.Ends.{FitsGrid, weight_of_cell}
-use Rattle.acas_step.specs.Layer.{AreWithin, layer_values, value_at}
+use Rattle.acas_means.specs.Layer.{AreWithin, layer_values, value_at}
 use Rattle.acas_step_narrow.specs.Narrow.{sum_over}
 use Rattle.acas_step_narrow.specs.Raised.{along_v0, blended, raised_at}
 use Rattle.acas_grid_units.specs.Units.{AreUnits}
 use Rattle.acas_step_stencils.specs.Cells.{IsUnitCell}
 use Rattle.acas_step.specs.declared.cell.Cell.{Cell}
-use Rattle.acas_step.specs.declared.layer.Side.{Side}
+use Rattle.acas_means.specs.declared.layer.Side.{Side}
 use Rattle.acas_step_stencils.specs.declared.stencils.UnitCell.{UnitCell}
 use Rattle.acas_grid_units.specs.declared.units.Units.{Units}
 use Rattle.acas_step_stencils.proofs.ColumnVertices.{vertex_in-vertex_number}

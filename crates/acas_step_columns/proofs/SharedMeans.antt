@@ -7,14 +7,14 @@ use Rattle.acas_frac.specs.Rounding.{down, up}
 use Rattle.acas_grid.specs.Grid.{IsVertex, clamp_point, vertex_number}
 use Rattle.acas_grid.proofs.Vertices.{vertices-one_to_one}
 use Rattle.acas_units.specs.declared.pair.Pair.{Pair}
-use Rattle.acas_process.specs.Bounds.{interpolated, mean_value}
+use Rattle.acas_process.specs.Values.{interpolated, mean_value}
 use Rattle.acas_process.specs.Step.{after_second, over_sigmas, sigma_weight, vertex_point}
 use Rattle.acas_process.proofs.SameLaws.{mean_same}
-use Rattle.acas_step.specs.Layer.{layer_values, value_of}
-use Rattle.acas_step.specs.Means.{AreMeansAt}
-use Rattle.acas_step.specs.Reach.{AreAlike, AreChanges, AreLikes, change_from, own_rate}
-use Rattle.acas_step.specs.declared.layer.Side.{Side}
-use Rattle.acas_step.specs.declared.layer.Side.TheVariants.{Lower, Upper}
+use Rattle.acas_means.specs.Layer.{layer_values, value_of}
+use Rattle.acas_means.specs.Means.{AreMeansAt}
+use Rattle.acas_means.specs.Reach.{AreAlike, AreChanges, AreLikes, change_from, own_rate}
+use Rattle.acas_means.specs.declared.layer.Side.{Side}
+use Rattle.acas_means.specs.declared.layer.Side.TheVariants.{Lower, Upper}
 
 -- an advisory enters a mean by its change of the own rate and by the values under it
 pub mean_shared : (round : ℤ → ℤ → ℤ) (m : ModelData) (below : Values) (x : Vertex) (a b : ℕ) → change_from m (own_rate m.grid x) a ≡ change_from m (own_rate m.grid x) b → ((y : Vertex) → IsVertex m.grid y → below a y ≡ below b y)

@@ -4,9 +4,9 @@ use Rattle.acas_spec.specs.Model.{GridData, ModelData}
 use Rattle.acas_spec.specs.declared.place.Vertex.{Vertex}
 use Rattle.acas_grid.specs.States.{vertex_at}
 use Rattle.acas_units.specs.declared.pair.Pair.{Pair}
-use Rattle.acas_step.specs.Columns.{columns, vertex_in}
-use Rattle.acas_step.specs.Means.{AreMeansAt}
-use Rattle.acas_step.specs.Reach.{AreChanges, AreLikes, own_rate}
+use Rattle.acas_means.specs.Columns.{columns, vertex_in}
+use Rattle.acas_means.specs.Means.{AreMeansAt}
+use Rattle.acas_means.specs.Reach.{AreChanges, AreLikes, own_rate}
 use Rattle.acas_step_stencils.proofs.ColumnVertices.{vertex_at-vertex_in, vertex_in-lowest}
 use Rattle.acas_step_columns.proofs.SharedMeans.{means_shared}
 

@@ -9,16 +9,16 @@ use Rattle.acas_frac.proofs.RoundingLaws.{round-mul_both}
 use Rattle.acas_frac.proofs.SignedProducts.{mul_assoc_ℤ}
 use Rattle.acas_grid.specs.Grid.{vertex_number}
 use Rattle.acas_units.specs.declared.pair.Pair.{Pair}
-use Rattle.acas_process.specs.Bounds.{interpolated}
+use Rattle.acas_process.specs.Values.{interpolated}
 use Rattle.acas_process.proofs.CellLaws.{two_scaled}
 use Rattle.acas_step.specs.Ends.{at_both, over_ends, weight_of_cell}
-use Rattle.acas_step.specs.Layer.{layer_values, value_at}
+use Rattle.acas_means.specs.Layer.{layer_values, value_at}
 use Rattle.acas_step_narrow.specs.Narrow.{sum_over}
 use Rattle.acas_grid_units.specs.Units.{AreUnits}
 use Rattle.acas_step_stencils.specs.Cells.{IsRoundIn}
 use Rattle.acas_step.specs.declared.cell.Cell.{Cell}
 use Rattle.acas_step.specs.declared.cell.Ends.{Ends}
-use Rattle.acas_step.specs.declared.layer.Side.{Side}
+use Rattle.acas_means.specs.declared.layer.Side.{Side}
 use Rattle.acas_grid_units.specs.declared.units.Units.{Units}
 use Rattle.acas_step_narrow.proofs.RaisedMeans.{interpolated_is}
 use Rattle.acas_step_stencils.proofs.UnitLaws.{exact, exact-IsRound, exact_ends, unit_product}

@@ -2,15 +2,15 @@
 use Rattle.std.specs.Prelude.{◌≡◌, ℕ, ◌+◌, ◌*◌, ◌^◌, ◌<◌, ◌≤◌, ℤ, pos, List, length, get_or}
 use Rattle.acas_spec.specs.Model.{ModelData, states, total_weight}
 use Rattle.acas_units.specs.declared.pair.Pair.{Pair}
-use Rattle.acas_step.specs.Columns.{columns}
-use Rattle.acas_step.specs.Reach.{IsReach}
+use Rattle.acas_means.specs.Columns.{columns}
+use Rattle.acas_means.specs.Reach.{IsReach}
 use Rattle.acas_step_narrow.specs.ColumnBlends.{AreColumnSums}
 use Rattle.acas_step_narrow.specs.declared.wide_sums.TheConstants.{WIDE_SIZE}
 use Rattle.acas_step_stencils.specs.Stencils.{AreStencilsOf}
 use Rattle.acas_step_stencils.specs.declared.stencils.Stencils.{Stencils}
 use Rattle.acas_step_columns.specs.declared.columns.Source.{Source}
 use Rattle.acas_step_columns.specs.declared.columns.Source.TheVariants.{Twin, Sums, Wide, Layer}
-use Rattle.acas_step.specs.declared.reach.Reach.{Reach}
+use Rattle.acas_means.specs.declared.reach.Reach.{Reach}
 
 -- stencils are those of a model, with a second to go, a layer below has its reach, and there are the column and the advisory
 pub record HasColumn (m : ModelData) (s : Stencils) (layer : List Pair) (r : Reach) (j a : ℕ) : Type 0 where

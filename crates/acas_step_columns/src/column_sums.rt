@@ -5,19 +5,20 @@ ghost use Rattle.std.specs.Prelude.{◌≡◌, ◌+◌, ◌*◌, ◌^◌, ◌<�
 ghost use Rattle.acas_spec.specs.Model.{states, total_weight, vertices};
 ghost use Rattle.acas_grid.specs.States as numbers;
 ghost use Rattle.acas_process.specs.Step as process;
-ghost use Rattle.acas_step.specs.Columns.{columns, vertex_in};
+ghost use Rattle.acas_means.specs.Columns.{columns, vertex_in};
 ghost use Rattle.acas_step_columns.specs.ColumnSums.{HasColumn};
 ghost use Rattle.acas_step_stencils.specs.Cells.{HoldsRates};
-ghost use Rattle.acas_step.specs.Layer.{AreWithin};
+ghost use Rattle.acas_means.specs.Layer.{AreWithin};
 ghost use Rattle.acas_step_narrow.specs.ColumnBlends.{AreBlends, AreBlendsWithin, AreColumnSums, AreSumsWithin};
 ghost use Rattle.acas_step_narrow.specs.Narrow.{IsRaisedPoint};
 ghost use Rattle.acas_step_narrow.specs.Raised.{AreRaisedWithin};
 ghost use Rattle.acas_step_stencils.specs.Stencils.{AreStencilsOf, HaveStencil, IsRise};
-ghost use Rattle.acas_step.specs.declared.layer.Side.TheVariants.{Upper, Lower};
+ghost use Rattle.acas_means.specs.declared.layer.Side.TheVariants.{Upper, Lower};
 ghost use Rattle.acas_units.specs.declared.pair.Pair.{Pair};
 
 use acas_base::Model;
-use acas_step::{Cell, Reach, first_state, sigma_count};
+use acas_means::{Reach, first_state};
+use acas_step::{Cell, sigma_count};
 use acas_step_narrow::{
     Raised, SideColumn, along_h, clear_sums, fill_blends, narrow_weight, quotient_down,
     quotient_up, with_point,

@@ -2,21 +2,19 @@
 //! advisories lead to the same means from a column they are formed once.
 ghost use Rattle.std.specs.Prelude.{◌≡◌, ◌≢◌, ℕ, ◌+◌, ◌<◌, ◌≤◌, length, unsigned_abs};
 ghost use Rattle.acas_spec.specs.Model.{states};
-ghost use Rattle.acas_step.specs.Columns.{AreAllWithin, AreColumnChanges, AreColumnMeans, AreMeansIn, columns, pairs_at};
+ghost use Rattle.acas_means.specs.Columns.{AreAllWithin, AreColumnChanges, AreColumnMeans, AreMeansIn, columns, pairs_at};
 ghost use Rattle.acas_step_columns.specs.ColumnSums.{HasColumn, IsSource};
-ghost use Rattle.acas_step.specs.Layer.{AreWithin, pair_at, value_of};
-ghost use Rattle.acas_step.specs.Reach.{IsReach};
+ghost use Rattle.acas_means.specs.Layer.{AreWithin, pair_at, value_of};
+ghost use Rattle.acas_means.specs.Reach.{IsReach};
 ghost use Rattle.acas_step_stencils.specs.Stencils.{AreStencilsOf};
-ghost use Rattle.acas_step.specs.declared.layer.Side.{Side};
+ghost use Rattle.acas_means.specs.declared.layer.Side.{Side};
 
 use crate::column_sums::fill_sums;
 use crate::wide_means::wide_means;
 use acas_base::Model;
 use acas_frac::{Down, Up};
-use acas_step::{
-    Changes, ColumnMeans, Reach, Side, VertexMeans, advisory_count, changes_from, first_twin,
-    mean_by, own_rate_at, vertex_in_column,
-};
+use acas_means::{ColumnMeans, Reach, Side, VertexMeans, advisory_count, vertex_in_column};
+use acas_step::{Changes, changes_from, first_twin, mean_by, own_rate_at};
 use acas_step_narrow::{Raised, SideColumn, WIDE_SIZE, means_of_sums};
 use acas_step_stencils::Stencils;
 use acas_units::{GREATEST_ADVISORIES, GREATEST_VERTICES, Pair};

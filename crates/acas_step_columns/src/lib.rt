@@ -3,10 +3,8 @@
 
 mod column_sums;
 mod columns;
-mod stencil_backups;
 mod stencil_means;
 mod wide_means;
 
 pub use columns::fill_column;
-pub use stencil_backups::backup_with;
 pub use stencil_means::StencilMeans;

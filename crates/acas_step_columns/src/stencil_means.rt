@@ -3,7 +3,7 @@ ghost use Rattle.acas_step_stencils.specs.Stencils.{AreStencilsOf};
 
 use crate::columns::fill_column;
 use acas_base::Model;
-use acas_step::{ColumnMeans, LayerMeans, Reach};
+use acas_means::{ColumnMeans, LayerMeans, Reach};
 use acas_step_stencils::Stencils;
 use acas_units::Pair;
 use std::alloc::{AllocError, Global};

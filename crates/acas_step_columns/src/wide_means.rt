@@ -3,13 +3,14 @@
 ghost use Rattle.std.specs.Prelude.{◌≡◌, ◌+◌, ◌*◌, ◌^◌, ◌<◌, ◌≤◌, length};
 ghost use Rattle.acas_grid.specs.States as numbers;
 ghost use Rattle.acas_process.specs.Step as process;
-ghost use Rattle.acas_step.specs.Columns.{AreMeansIn, vertex_in};
+ghost use Rattle.acas_means.specs.Columns.{AreMeansIn, vertex_in};
 ghost use Rattle.acas_step_columns.specs.ColumnSums.{HasColumn};
 ghost use Rattle.acas_step_narrow.specs.Narrow.{AreRaisedSums, IsRaisedPoint};
 ghost use Rattle.acas_step_narrow.specs.WideSums.{as_raised};
 
 use acas_base::Model;
-use acas_step::{Reach, column_count, first_state, sigma_count};
+use acas_means::{Reach, column_count, first_state};
+use acas_step::sigma_count;
 use acas_step_narrow::{
     Raised, WIDE_SIZE, WideSums, corner_sums, down_wide, lowered, narrow_weight, up_wide,
 };

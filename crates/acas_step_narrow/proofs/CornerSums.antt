@@ -12,10 +12,10 @@ use Rattle.acas_process.specs.Step.{sigma_weight}
 use Rattle.acas_units.specs.declared.limits.TheConstants.{GREATEST_TOTAL_WEIGHT}
 use Rattle.acas_units.specs.declared.pair.Pair.{Pair}
 use Rattle.acas_step.specs.Ends.{FitsGrid, weight_of_cell}
-use Rattle.acas_step.specs.Layer.{AreWithin, value_at}
+use Rattle.acas_means.specs.Layer.{AreWithin, value_at}
 use Rattle.acas_step.specs.Sizes.{greatest_weight}
 use Rattle.acas_step.specs.declared.cell.Cell.{Cell}
-use Rattle.acas_step.specs.declared.layer.Side.{Side}
+use Rattle.acas_means.specs.declared.layer.Side.{Side}
 use Rattle.acas_step_narrow.specs.declared.wide_sums.TheConstants.{WIDE_SIZE}
 use Rattle.acas_step_narrow.specs.Narrow.{sum_over, weights_below}
 use Rattle.acas_step_narrow.specs.Raised.{along_h, along_v0, along_v1, raised, raised_at, width}

@@ -13,18 +13,18 @@ use Rattle.acas_frac.specs.Rounding.{IsRounding, down, up}
 use Rattle.acas_frac.proofs.SignedProducts.{mul-add_ℤ}
 use Rattle.acas_grid.specs.Grid.{vertex_number}
 use Rattle.acas_units.specs.declared.pair.Pair.{Pair}
-use Rattle.acas_process.specs.Bounds.{interpolated}
+use Rattle.acas_process.specs.Values.{interpolated}
 use Rattle.acas_process.specs.Step.{grid_product, moved, over_vertices, share, sigma_weight}
 use Rattle.acas_process.proofs.MeanLaws.{grid_product_pos}
 use Rattle.acas_process.specs.Sums.{sum_below}
 use Rattle.acas_step.specs.Ends.{IsRound, weight_of_cell}
-use Rattle.acas_step.specs.Layer.{layer_values, value_at}
-use Rattle.acas_step.specs.Means.{AreMeansAt}
+use Rattle.acas_means.specs.Layer.{layer_values, value_at}
+use Rattle.acas_means.specs.Means.{AreMeansAt}
 use Rattle.acas_step_narrow.specs.Narrow.{AreRaisedSums, IsRaisedPoint, point_sum, sum_over, weights_below}
 use Rattle.acas_step_narrow.specs.Raised.{AreRaisedWithin}
 use Rattle.acas_step.specs.declared.cell.Cell.{Cell}
-use Rattle.acas_step.specs.declared.layer.Side.{Side}
-use Rattle.acas_step.specs.declared.layer.Side.TheVariants.{Upper, Lower}
+use Rattle.acas_means.specs.declared.layer.Side.{Side}
+use Rattle.acas_means.specs.declared.layer.Side.TheVariants.{Upper, Lower}
 use Rattle.acas_step_narrow.specs.declared.raised.Raised.{Raised}
 use Rattle.acas_step.proofs.CornerLaws.{ends_interpolate, weight_of_cell-pos}
 use Rattle.acas_step.proofs.Quotients.{quotient_is}

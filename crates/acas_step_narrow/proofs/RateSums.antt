@@ -3,9 +3,9 @@ use Rattle.std.proofs.Common.{◌≡◌, ℕ, ◌+◌, ◌*◌, ◌<◌, ◌≤�
 use Rattle.std.proofs.lemmas.Int.{ints, unsigned_abs-mul}
 use Rattle.acas_frac.proofs.SignedProducts.{mul-add_ℤ}
 use Rattle.acas_units.specs.declared.pair.Pair.{Pair}
-use Rattle.acas_step.specs.Layer.{AreWithin, value_at}
+use Rattle.acas_means.specs.Layer.{AreWithin, value_at}
 use Rattle.acas_step.specs.declared.cell.Cell.{Cell}
-use Rattle.acas_step.specs.declared.layer.Side.{Side}
+use Rattle.acas_means.specs.declared.layer.Side.{Side}
 use Rattle.acas_step_narrow.proofs.RaisedLaws.{raised-pos}
 use Rattle.acas_step_narrow.specs.Raised.{AreRateWeights, AreSummed, along_v0, blended, raised, raised_at, weighted_sum}
 use Rattle.acas_step_narrow.specs.declared.raised.RateWeights.{RateWeights}

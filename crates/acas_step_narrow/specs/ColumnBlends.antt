@@ -3,11 +3,12 @@ use Rattle.std.specs.Prelude.{◌≡◌, ℕ, ◌+◌, ◌*◌, ◌<◌, List, l
 use Rattle.acas_spec.specs.Model.{GridData, ModelData}
 use Rattle.acas_grid.specs.States.{vertex_at}
 use Rattle.acas_units.specs.declared.pair.Pair.{Pair}
-use Rattle.acas_step.specs.Columns.{column_of, vertex_in}
+use Rattle.acas_means.specs.Columns.{vertex_in}
+use Rattle.acas_step.specs.Ends.{column_of}
 use Rattle.acas_step_narrow.specs.Narrow.{AreRaisedSums, weights_below}
 use Rattle.acas_step_narrow.specs.Raised.{AreAllRaisedWithin, along_v0, raised_at, raised_in, width}
 use Rattle.acas_step.specs.declared.cell.Cell.{Cell}
-use Rattle.acas_step.specs.declared.layer.Side.TheVariants.{Upper, Lower}
+use Rattle.acas_means.specs.declared.layer.Side.TheVariants.{Upper, Lower}
 
 -- at each place of the altitudes, the values of a layer blended on both rates of a cell, raised, where those of an advisory begin at `first`
 pub record AreBlends (g : GridData) (t : Cell) (first by : ℕ) (below : List Pair) (uppers lowers : List ℕ) : Type 0 where

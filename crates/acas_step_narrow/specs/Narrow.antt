@@ -6,16 +6,16 @@ use Rattle.acas_spec.specs.declared.place.Point.{Point}
 use Rattle.acas_spec.specs.declared.place.Vertex.{Vertex}
 use Rattle.acas_frac.specs.Rounding.{down, up}
 use Rattle.acas_grid.specs.Grid.{vertex_number}
-use Rattle.acas_process.specs.Bounds.{interpolated}
+use Rattle.acas_process.specs.Values.{interpolated}
 use Rattle.acas_process.specs.Step.{moved, sigma_weight}
 use Rattle.acas_process.specs.Sums.{sum_below}
 use Rattle.acas_units.specs.declared.pair.Pair.{Pair}
 use Rattle.acas_step.specs.Ends.{over_ends}
-use Rattle.acas_step.specs.Layer.{layer_values, value_at}
+use Rattle.acas_means.specs.Layer.{layer_values, value_at}
 use Rattle.acas_step_narrow.specs.Raised.{AreRaisedWithin}
 use Rattle.acas_step.specs.declared.cell.Cell.{Cell}
-use Rattle.acas_step.specs.declared.layer.Side.{Side}
-use Rattle.acas_step.specs.declared.layer.Side.TheVariants.{Upper, Lower}
+use Rattle.acas_means.specs.declared.layer.Side.{Side}
+use Rattle.acas_means.specs.declared.layer.Side.TheVariants.{Upper, Lower}
 use Rattle.acas_step_narrow.specs.declared.raised.Raised.{Raised}
 
 -- the sum of a side's values at the corners of a cell by their weights, where the states of an advisory begin at `first`

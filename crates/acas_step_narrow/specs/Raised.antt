@@ -1,10 +1,10 @@
 -- Values raised by a number so that none is below 0, and their sums over a cell in 64 bits.
 use Rattle.std.specs.Prelude.{◌≡◌, ℕ, ◌+◌, ◌*◌, ◌^◌, ◌<◌, ◌≤◌, ℤ, pos, ◌+ℤ◌, ◌*ℤ◌, unsigned_abs, List, get_or}
 use Rattle.acas_units.specs.declared.pair.Pair.{Pair}
-use Rattle.acas_step.specs.Layer.{value_at}
+use Rattle.acas_means.specs.Layer.{value_at}
 use Rattle.acas_step.specs.declared.cell.Cell.{Cell}
 use Rattle.acas_step.specs.declared.cell.Ends.{Ends}
-use Rattle.acas_step.specs.declared.layer.Side.{Side}
+use Rattle.acas_means.specs.declared.layer.Side.{Side}
 use Rattle.acas_step_narrow.specs.declared.raised.Raised.{Raised}
 use Rattle.acas_step_narrow.specs.declared.raised.RateWeights.{RateWeights}
 

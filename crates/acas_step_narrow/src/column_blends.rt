@@ -3,15 +3,16 @@
 ghost use Rattle.std.specs.Prelude.{◌≡◌, ℕ, ◌+◌, ◌*◌, ◌<◌, ◌≤◌, length};
 ghost use Rattle.acas_spec.specs.Model.{vertices};
 ghost use Rattle.acas_step.specs.Ends.{FitsGrid};
-ghost use Rattle.acas_step.specs.Layer.{AreWithin};
-ghost use Rattle.acas_step.specs.declared.layer.Side.TheVariants.{Upper, Lower};
+ghost use Rattle.acas_means.specs.Layer.{AreWithin};
+ghost use Rattle.acas_means.specs.declared.layer.Side.TheVariants.{Upper, Lower};
 ghost use Rattle.acas_step_narrow.specs.ColumnBlends.{AreBlends, AreBlendsWithin};
 ghost use Rattle.acas_step_narrow.specs.Raised.{HasRoom, raised_in};
 
 use crate::raised::{SideColumn, along_rates, rate_weights};
 use acas_base::Model;
 use acas_grid::Grid;
-use acas_step::{Cell, column_count, column_of_cell};
+use acas_means::column_count;
+use acas_step::{Cell, column_of_cell};
 use acas_units::Pair;
 
 /// Writes the values of a layer in millionths, raised by a size that none exceeds and blended on both rates of a cell, for each place of

@@ -1,11 +1,11 @@
 //! The values of a layer at the corners of a cell, in 64 bits and both sides at once: they are blended on the two rates, raised by as
 //! much as the blends can be, so that none is below 0, and blended on the altitude. The weights on the rates are multiplied out once.
 ghost use Rattle.std.specs.Prelude.{◌≡◌, ℕ, ◌+◌, ◌*◌, ◌^◌, ◌<◌, ◌≤◌, length, unsigned_abs};
-ghost use Rattle.acas_step.specs.Layer.{AreWithin};
+ghost use Rattle.acas_means.specs.Layer.{AreWithin};
 ghost use Rattle.acas_step.specs.Sizes.{rate_gap};
 ghost use Rattle.acas_step.specs.declared.cell.Cell.{Cell as CellValue};
 ghost use Rattle.acas_step_narrow.specs.Raised.{AreRaisedWithin, AreRateWeights, AreSummed, HasRoom, HaveRoom, along_v0, blended, raised, raised_at, raised_in, weighted_sum, width};
-ghost use Rattle.acas_step.specs.declared.layer.Side.TheVariants.{Upper, Lower};
+ghost use Rattle.acas_means.specs.declared.layer.Side.TheVariants.{Upper, Lower};
 
 use acas_step::{Cell, Ends};
 use acas_units::{GREATEST_VERTICES, Pair};

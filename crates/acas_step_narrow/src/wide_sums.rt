@@ -2,9 +2,9 @@
 //! once, raised so that none is below 0, and their quotients.
 ghost use Rattle.std.specs.Prelude.{◌≡◌, ◌+◌, ◌-◌, ◌*◌, ◌/◌, ◌^◌, ◌<◌, ◌≤◌, pos, ◌-ℤ◌, length, unsigned_abs};
 ghost use Rattle.acas_frac.specs.Divisor.{IsDivisor};
-ghost use Rattle.acas_step.specs.Layer.{AreWithin};
+ghost use Rattle.acas_means.specs.Layer.{AreWithin};
 ghost use Rattle.acas_step.specs.Sizes.{altitude_gap, greatest_weight, rate_gap};
-ghost use Rattle.acas_step.specs.declared.layer.Side.TheVariants.{Upper, Lower};
+ghost use Rattle.acas_means.specs.declared.layer.Side.TheVariants.{Upper, Lower};
 ghost use Rattle.acas_step_narrow.specs.Raised.{along_h, along_v0, raised, raised_at, width};
 
 use crate::raised::raise;

@@ -10,7 +10,7 @@ use Rattle.acas_grid.specs.Axis.{IsCell}
 use Rattle.acas_grid.specs.States.{vertex_at}
 use Rattle.acas_process.specs.Step.{moved}
 use Rattle.acas_process.proofs.AxisLaws.{distance-add}
-use Rattle.acas_step.specs.Columns.{columns, vertex_in}
+use Rattle.acas_means.specs.Columns.{columns, vertex_in}
 use Rattle.acas_grid_units.specs.Units.{AreUnits, IsGapIn}
 use Rattle.acas_step_stencils.specs.Stencils.{IsStencil}
 use Rattle.acas_step_stencils.specs.Cells.{AreVertexCells, HoldsRates, IsEndsIn, IsRoundIn, IsUnitCell, IsVertexCell}

@@ -8,7 +8,7 @@ use Rattle.acas_spec.specs.declared.place.Vertex.{Vertex}
 use Rattle.acas_grid.specs.Axis.{clamp_to}
 use Rattle.acas_grid.specs.States.{vertex_at}
 use Rattle.acas_process.specs.Step.{command, moved}
-use Rattle.acas_step.specs.Columns.{columns, vertex_in}
+use Rattle.acas_means.specs.Columns.{columns, vertex_in}
 use Rattle.acas_step.specs.Second.{led_past}
 use Rattle.acas_grid_units.specs.Units.{AreUnits, IsAbove}
 use Rattle.acas_grid_units.specs.Heights.{AreHeights, IsLedTo}

@@ -8,7 +8,7 @@ use Rattle.acas_grid.specs.States.{vertex_at}
 use Rattle.acas_grid.proofs.StateNumbers.{vertex_at-vertex_number}
 use Rattle.acas_grid.proofs.Vertices.{some_width}
 use Rattle.acas_process.specs.Step.{moved}
-use Rattle.acas_step.specs.Columns.{columns, vertex_in}
+use Rattle.acas_means.specs.Columns.{columns, vertex_in}
 
 -- ---- the vertices of a column
 

@@ -5,7 +5,7 @@ use Rattle.acas_spec.specs.Limits.{IsGrid}
 use Rattle.acas_spec.specs.Model.{GridData}
 use Rattle.acas_spec.specs.declared.place.Vertex.{Vertex}
 use Rattle.acas_grid.specs.States.{vertex_at}
-use Rattle.acas_step.specs.Columns.{columns, vertex_in}
+use Rattle.acas_means.specs.Columns.{columns, vertex_in}
 use Rattle.acas_grid_units.specs.Heights.{AreHeights, IsEvenGap}
 use Rattle.acas_grid_units.specs.Units.{AreUnits}
 use Rattle.acas_step_stencils.specs.Cells.{IsVertexCell}

@@ -14,7 +14,8 @@ use Rattle.acas_grid.proofs.StateNumbers.{vertex_at-vertex_number}
 use Rattle.acas_grid.proofs.Vertices.{row_below}
 use Rattle.acas_process.specs.Axis.{distance, gap}
 use Rattle.acas_process.proofs.AxisLaws.{distance-add}
-use Rattle.acas_step.specs.Columns.{column_of, columns}
+use Rattle.acas_means.specs.Columns.{columns}
+use Rattle.acas_step.specs.Ends.{column_of}
 use Rattle.acas_step.specs.Ends.{FitsGrid, IsEnds, IsRound}
 use Rattle.acas_grid_units.specs.Units.{IsAbove}
 use Rattle.acas_step_stencils.specs.Stencils.{IsColumnStencil, IsStencilNumbered, IsStencilOf, stencil_count}

@@ -9,7 +9,7 @@ use Rattle.acas_grid.specs.States.{vertex_at}
 use Rattle.acas_process.specs.Step.{moved}
 use Rattle.acas_frac.specs.Divisor.{IsDivisor}
 use Rattle.acas_frac.specs.declared.divisor.Divisor.{Divisor}
-use Rattle.acas_step.specs.Columns.{columns}
+use Rattle.acas_means.specs.Columns.{columns}
 use Rattle.acas_step.specs.Second.{led_past}
 use Rattle.acas_grid_units.specs.Heights.{AreHeights, IsEvenGap, IsInGaps}
 use Rattle.acas_grid_units.specs.Units.{AreUnits, IsAbove}

@@ -3,7 +3,7 @@
 ghost use Rattle.std.specs.Prelude.{◌≡◌, ℕ, ◌*◌, ◌<◌, ◌≤◌, pos, ◌*ℤ◌, unsigned_abs, length, get_or};
 ghost use Rattle.std.specs.Int.{◌∣◌};
 ghost use Rattle.acas_grid.specs.Grid.{IsVertex};
-ghost use Rattle.acas_step.specs.Columns.{columns};
+ghost use Rattle.acas_means.specs.Columns.{columns};
 ghost use Rattle.acas_grid_units.specs.Units.{AreUnits, DivideGaps, DivideUnits};
 ghost use Rattle.acas_step_stencils.specs.Stencils.{AreStencils, IsStencilNumbered, IsStencilOf, climb_from, stencil_count, DivideOffsets, IsCountedIn};
 ghost use Rattle.acas_step_stencils.specs.declared.column_stencils.ColumnStencil.{ColumnStencil};
@@ -11,7 +11,8 @@ ghost use Rattle.acas_step_stencils.specs.declared.column_stencils.ColumnStencil
 use acas_base::Model;
 use acas_grid::{Grid, Vertex, vertex_at};
 use acas_grid_units::{Units, common, grid_units, in_unit};
-use acas_step::{cell_near, column_count, column_of_cell, led_past, moved_from};
+use acas_means::column_count;
+use acas_step::{cell_near, column_of_cell, led_past, moved_from};
 
 /// The number of the column at the lower corner of a cell, how far above that corner a point is on both rates, and how far a second
 /// leads up, in the units of the axes. It takes 16 bytes.

@@ -6,7 +6,7 @@ ghost use Rattle.acas_spec.specs.Model.{vertices};
 ghost use Rattle.acas_spec.specs.declared.place.Point.{Point};
 ghost use Rattle.acas_grid.specs.States as numbers;
 ghost use Rattle.acas_process.specs.Step as process;
-ghost use Rattle.acas_step.specs.Columns.{columns, vertex_in};
+ghost use Rattle.acas_means.specs.Columns.{columns, vertex_in};
 ghost use Rattle.acas_step.specs.Corners.{AreCorners, IsInterpolation, IsWeighting};
 ghost use Rattle.acas_step.specs.Ends.{FitsGrid, IsEnds, IsRound};
 ghost use Rattle.acas_grid_units.specs.Units.{IsAbove, AreUnits};
@@ -23,7 +23,8 @@ use acas_grid_units::{
     ClimbInGaps, HeightPlace, Units, climb_in_gaps, even_gap, gap_at, heights_of, place_after,
     place_by_search,
 };
-use acas_step::{Cell, CornerSet, Ends, column_count, corner_set, total_weight, vertex_in_column};
+use acas_means::{column_count, vertex_in_column};
+use acas_step::{Cell, CornerSet, Ends, corner_set, total_weight};
 use std::alloc::{AllocError, Global};
 
 /// The number of the vertex at the lower corner of a cell, and how far above that corner a point is on each axis, in the units of

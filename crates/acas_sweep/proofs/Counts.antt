@@ -5,8 +5,8 @@ use Rattle.std.proofs.lemmas.List.Sums.{sum_by-cons}
 use Rattle.acas_spec.specs.Limits.{IsModel}
 use Rattle.acas_spec.specs.Model.{ModelData, vertices}
 use Rattle.acas_spec.specs.declared.parts.Choice.{Choice}
-use Rattle.acas_step.proofs.ChoiceLists.{choices-few}
-use Rattle.acas_step.specs.Choices.{choice_count}
+use Rattle.acas_means.proofs.ChoiceLists.{choices-few}
+use Rattle.acas_means.specs.Choices.{choice_count}
 use Rattle.acas_sweep.specs.Layers.{backup_count, layer_backups}
 
 sum-few : (lists : List (List Choice)) (most : ℕ) → ((p : ℕ) → p < length lists → length (get_or lists p []) ≤ most) → sum_by (λ choices. length choices) lists ≤ length lists * most

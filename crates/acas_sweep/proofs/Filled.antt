@@ -11,7 +11,7 @@ use Rattle.acas_grid.proofs.Vertices.{row_below}
 use Rattle.acas_units.specs.declared.pair.Pair.{Pair}
 use Rattle.acas_plane.specs.Plane.{IsFree, Plane, missing_in, with_pair}
 use Rattle.acas_plane.proofs.Masks.{missing_in-none, missing_in-set}
-use Rattle.acas_step.specs.Layer.{no_pair}
+use Rattle.acas_means.specs.Layer.{no_pair}
 use Rattle.acas_sweep.specs.Filled.{IsAhead, IsFilledTo, pairs_in}
 use Rattle.acas_sweep.specs.Turns.{turn}
 

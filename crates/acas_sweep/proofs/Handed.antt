@@ -6,8 +6,8 @@ use Rattle.acas_spec.specs.Limits.{IsModel}
 use Rattle.acas_spec.specs.Model.{ModelData, states, vertices}
 use Rattle.acas_units.specs.declared.pair.Pair.{Pair}
 use Rattle.acas_process.specs.Compiled.{compiled}
-use Rattle.acas_step.specs.Entries.{IsStateEntry}
-use Rattle.acas_step.specs.Layer.{IsLayer, no_pair}
+use Rattle.acas_means.specs.Entries.{IsStateEntry}
+use Rattle.acas_means.specs.Layer.{IsLayer, no_pair}
 use Rattle.acas_sweep.specs.Entries.{AreOver, listed_entry}
 use Rattle.acas_sweep.specs.Handed.{AddsBelow, LayerData, compiled_layer, state_advice, state_pair}
 use Rattle.acas_sweep.proofs.Below.{ArePairs, next_entry}

@@ -1,6 +1,6 @@
-mod Below
-mod Over
-mod Written
+pub mod Below
+pub mod Over
+pub mod Written
 pub mod Counts
 pub mod Filled
 pub mod Handed

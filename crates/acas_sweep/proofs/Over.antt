@@ -7,9 +7,9 @@ use Rattle.acas_grid.specs.States.{vertex_at}
 use Rattle.acas_units.specs.declared.pair.Entry.{Entry}
 use Rattle.acas_units.specs.declared.pair.Pair.{Pair}
 use Rattle.acas_step_choices.specs.Best.{AreVertexEntries, IsOver, entry_at}
-use Rattle.acas_step.specs.Layer.{AreWithin}
-use Rattle.acas_step.specs.declared.layer.Side.{Side}
-use Rattle.acas_step.specs.declared.layer.Side.TheVariants.{Upper, Lower}
+use Rattle.acas_means.specs.Layer.{AreWithin}
+use Rattle.acas_means.specs.declared.layer.Side.{Side}
+use Rattle.acas_means.specs.declared.layer.Side.TheVariants.{Upper, Lower}
 use Rattle.acas_sweep.specs.Entries.{AreOver, AreSmall, AreWritten, SameElsewhere}
 use Rattle.acas_sweep.specs.Turns.{turn}
 use Rattle.acas_sweep.proofs.Placed.{entries_next, states_next}

@@ -10,7 +10,7 @@ use Rattle.acas_grid.proofs.Vertices.{some_width}
 use Rattle.acas_units.specs.declared.pair.Entry.{Entry}
 use Rattle.acas_units.specs.declared.pair.Pair.{Pair}
 use Rattle.acas_process.specs.Compiled.{compiled}
-use Rattle.acas_step.specs.Entries.{IsEntryOf, IsStateEntry}
+use Rattle.acas_means.specs.Entries.{IsEntryOf, IsStateEntry}
 use Rattle.acas_sweep.specs.Entries.{SameElsewhere, listed_entry}
 use Rattle.acas_sweep.specs.Filled.{AreEndings}
 use Rattle.acas_sweep.specs.Turns.{turn}

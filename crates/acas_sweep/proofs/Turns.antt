@@ -3,8 +3,8 @@ use Rattle.std.proofs.Common.{◌≡◌, ℕ, ◌+◌, ◌*◌, ◌/◌, ◌%◌
 use Rattle.std.proofs.lemmas.Nat.{div-add-mod', div-mul-add, div_below, mod-mul-add, mod_below, same_from_place}
 use Rattle.acas_spec.specs.Model.{GridData, vertices}
 use Rattle.acas_grid.proofs.Vertices.{row_below, some_width}
-use Rattle.acas_step.specs.Columns.{columns, vertex_in}
-use Rattle.acas_step.proofs.ColumnLaws.{all_columns}
+use Rattle.acas_means.specs.Columns.{columns, vertex_in}
+use Rattle.acas_means.proofs.ColumnLaws.{all_columns}
 use Rattle.acas_sweep.specs.Turns.{turn}
 
 -- the place of a vertex among the altitudes

@@ -4,7 +4,7 @@ use Rattle.std.proofs.lemmas.List.{get_or-set_other, get_or-set_same}
 use borrow.Author.Count.{below_more}
 use Rattle.acas_units.specs.declared.pair.Entry.{Entry}
 use Rattle.acas_units.specs.declared.pair.Pair.{Pair}
-use Rattle.acas_step.specs.Layer.{no_pair}
+use Rattle.acas_means.specs.Layer.{no_pair}
 use Rattle.acas_sweep.specs.Entries.{listed_entry}
 
 pub listed_entry-written : (pairs : List Pair) (advice : List ℕ) (i : ℕ) (e : Entry) → i < length pairs → i < length advice → listed_entry (set pairs i e.pair) (set advice i e.advice) i ≡ e

@@ -6,21 +6,14 @@ use Rattle.acas_grid.specs.Grid.{state_number}
 use Rattle.acas_grid.specs.States.{state_present, state_vertex}
 use Rattle.acas_units.specs.declared.pair.Entry.{Entry}
 use Rattle.acas_units.specs.declared.pair.Pair.{Pair}
-use Rattle.acas_process.specs.Compiled.{compiled}
 use Rattle.acas_step_choices.specs.Best.{IsOver, entry_at}
-use Rattle.acas_step.specs.Entries.{IsStateEntry}
-use Rattle.acas_step.specs.Layer.{AreWithin, pair_at}
-use Rattle.acas_step.specs.declared.layer.Side.TheVariants.{Upper, Lower}
+use Rattle.acas_means.specs.Layer.{AreWithin, pair_at}
+use Rattle.acas_means.specs.declared.layer.Side.TheVariants.{Upper, Lower}
 use Rattle.acas_sweep.specs.Turns.{turn}
 
 -- the pair and the advice at a place
 abbrev pub listed_entry : List Pair → List ℕ → ℕ → Entry
 listed_entry pairs advice place = record { pair = pair_at pairs place; advice = get_or advice place 0 }
-
--- the layers below a number of seconds to go are those of the compiled table
-pub record AreBelow (m : ModelData) (n : ℕ) (pairs : List Pair) (advice : List ℕ) : Type 0 where
-  pub entry : (k s : ℕ) → k < n → s < states m.grid
-      → IsStateEntry m (compiled m) k s (listed_entry pairs advice (k * states m.grid + s))
 
 -- the largest value of a compiled table, up or down, in millionths: the largest cost at the end and of each second
 abbrev pub greatest_value : ℕ

@@ -6,8 +6,8 @@ use Rattle.acas_grid.specs.States.{vertex_at}
 use Rattle.acas_units.specs.declared.pair.Pair.{Pair}
 use Rattle.acas_plane.specs.Plane.{IsFree, Plane, missing_in}
 use Rattle.acas_process.specs.Compiled.{compiled}
-use Rattle.acas_step.specs.Entries.{IsEntryOf}
-use Rattle.acas_step.specs.Layer.{no_pair}
+use Rattle.acas_means.specs.Entries.{IsEntryOf}
+use Rattle.acas_means.specs.Layer.{no_pair}
 use Rattle.acas_sweep.specs.Entries.{listed_entry}
 use Rattle.acas_sweep.specs.Turns.{turn}
 

@@ -3,8 +3,8 @@ use Rattle.std.specs.Prelude.{◌≡◌, ◌≢◌, ℕ, ◌+◌, ◌*◌, ◌<�
 use Rattle.acas_spec.specs.Model.{GridData, ModelData, states, vertices}
 use Rattle.acas_layers.specs.Layers.{LayersData, advice_of, pairs_of}
 use Rattle.acas_process.specs.Compiled.{compiled}
-use Rattle.acas_step.specs.Choices.{choice_count}
-use Rattle.acas_step.specs.Layer.{IsLayer}
+use Rattle.acas_means.specs.Choices.{choice_count}
+use Rattle.acas_means.specs.Layer.{IsLayer}
 
 -- all layers stand, and they are those of the model's compiled table
 pub record AreLayers (m : ModelData) (layers : LayersData) : Type 0 where

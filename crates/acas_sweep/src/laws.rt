@@ -4,7 +4,7 @@ ghost use Rattle.acas_spec.specs.Limits.{IsModel};
 ghost use Rattle.acas_spec.specs.Model.{ModelData};
 ghost use Rattle.acas_units.specs.declared.pair.Pair.{Pair};
 ghost use Rattle.acas_process.specs.Compiled.{compiled};
-ghost use Rattle.acas_step.specs.Layer.{IsLayer};
+ghost use Rattle.acas_means.specs.Layer.{IsLayer};
 ghost use Rattle.acas_sweep.specs.Layers.{IsAdvised, backup_count};
 
 /// In a layer of the compiled table above layer 0, each advice is an advisory of the model.

@@ -3,19 +3,18 @@
 //! from both sides.
 #![tactic(auto)]
 
+mod ending;
 mod laws;
-mod layer;
-mod list;
 mod order;
 mod plane;
 mod room;
 mod sink;
 mod stream;
-mod vertex;
 
 pub use acas_layers::Layers;
+pub use ending::terminal_entry;
 pub use laws::{advices_are_advisories, backups_are_few};
-pub use list::sweep_list;
+pub use order::vertex_after;
 pub use room::{SweepRoom, sweep_to};
 pub use sink::{LayerFailed, LayerSink};
 pub use stream::{SweepFault, sweep};

@@ -4,10 +4,10 @@ ghost use Rattle.acas_spec.specs.Model.{vertices};
 ghost use Rattle.acas_sweep.specs.Turns.{turn};
 
 use acas_grid::Grid;
-use acas_step::vertex_in_column;
+use acas_means::vertex_in_column;
 
 /// The vertex that is written after so many others, where a layer is written column by column.
-pub(crate) fn vertex_after(grid: &Grid, count: u32) -> u32
+pub fn vertex_after(grid: &Grid, count: u32) -> u32
     requires { count < vertices grid.now }
     ensures turn { turn grid.now result ≡ count }
     ensures below { result < vertices grid.now }

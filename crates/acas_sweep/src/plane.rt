@@ -4,18 +4,18 @@ ghost use Rattle.std.specs.Prelude.{◌≡◌, ℕ, ◌+◌, ◌*◌, ◌<◌, �
 ghost use Rattle.acas_spec.specs.Model.{states, vertices};
 ghost use Rattle.acas_process.specs.Compiled.{compiled};
 ghost use Rattle.acas_step_choices.specs.Best.{AreColumnEntries};
-ghost use Rattle.acas_step.specs.Columns.{columns};
-ghost use Rattle.acas_step.specs.Entries.{IsStateEntry};
+ghost use Rattle.acas_means.specs.Columns.{columns};
+ghost use Rattle.acas_means.specs.Entries.{IsStateEntry};
 ghost use Rattle.acas_sweep.specs.Entries.{AreOver, AreWritten, IsWhole, SameElsewhere, listed_entry};
 ghost use Rattle.acas_sweep.specs.Filled.{AreEndings, IsFilledTo, pairs_in};
 ghost use Rattle.acas_sweep.specs.Layers.{layer_backups};
 ghost use Rattle.acas_sweep.specs.Turns.{turn};
 
-use crate::layer::terminal_entry;
+use crate::ending::terminal_entry;
 use crate::order::vertex_after;
 use acas_base::Model;
+use acas_means::{ColumnMeans, LayerMeans, column_count, reach_of, state_among, vertex_in_column};
 use acas_plane::PlaneBlock;
-use acas_step::{ColumnMeans, LayerMeans, column_count, reach_of, state_among, vertex_in_column};
 use acas_step_choices::{Backups, ColumnEntries, VertexEntries, fill_entries};
 
 // Writes the entries of a vertex with no second to go, under all present advisories.

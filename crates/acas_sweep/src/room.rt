@@ -10,8 +10,8 @@ use crate::laws::backups_are_few;
 use crate::sink::LayerSink;
 use crate::stream::{SweepFault, sweep};
 use acas_base::Model;
+use acas_means::LayerMeans;
 use acas_plane::{PlaneBlock, Turned};
-use acas_step::LayerMeans;
 use acas_step_choices::Backups;
 use std::alloc::{AllocError, Global};
 

@@ -10,8 +10,8 @@ ghost use Rattle.acas_sweep.specs.Layers.{backup_count};
 use crate::plane::{put_first, put_over};
 use crate::sink::{LayerFailed, LayerSink};
 use acas_base::Model;
+use acas_means::{ColumnMeans, LayerMeans};
 use acas_plane::{PlaneBlock, Turned};
-use acas_step::{ColumnMeans, LayerMeans};
 use acas_step_choices::{Backups, ColumnEntries};
 use acas_units::{Entry, GREATEST_ADVISORIES, GREATEST_VERTICES, Pair};
 

@@ -11,7 +11,7 @@ use Rattle.acas_table_text.specs.declared.shape.TableShape.{TableShape}
 use Rattle.acas_table_text.specs.declared.fault.TableFault.{TableFault}
 use Rattle.acas_table_text.specs.declared.fault.TableFault.TheVariants.{Magic, Version, OtherModel, Shape, Length, Advice, Digest, LayerDigest, Failed, Absent, Memory}
 use Rattle.acas_table_text.proofs.Backward.{good_is_text}
-use Rattle.acas_table_text.proofs.Cuts.{first_one}
+use Rattle.acas_table_text.proofs.Nones.{first_one}
 use Rattle.acas_table.specs.declared.source.Source.{Source}
 use Rattle.acas_table.specs.declared.reader.TableReader.{TableReader}
 use Rattle.acas_table.specs.Source.{IsAtFile, IsOfFormat, Checks, Finds}

@@ -13,7 +13,7 @@ use Rattle.acas_table_text.specs.declared.format.Format.{Format}
 use Rattle.acas_table_text.specs.declared.format.Format.TheVariants.{Layered, Whole}
 use Rattle.acas_table_text.specs.declared.shape.TableShape.{TableShape}
 use Rattle.acas_table_text.specs.declared.fault.TableFault.{TableFault}
-use Rattle.acas_table_text.proofs.Cuts.{first_one}
+use Rattle.acas_table_text.proofs.Nones.{first_one}
 use Rattle.acas_table_text.proofs.Parts.{end_none}
 use Rattle.acas_table.specs.declared.source.Source.{Source}
 use Rattle.acas_table.specs.Source.{Blames, Checks, IsAt, IsAtFile}

@@ -1,5 +1,3 @@
-pub mod Growing
-pub mod Written
 pub mod Ahead
 pub mod Passed
 pub mod Front

@@ -8,7 +8,7 @@ use Rattle.acas_outside.specs.Files.{Files, Given}
 use Rattle.acas_table_text.specs.Faults.{first, unless, end_fault, width_of, fault_in, fault_at, widths, fields_fault}
 use Rattle.acas_table_text.specs.Format.{part}
 use Rattle.acas_table.specs.Source.{IsAt, IsAtFile, Blames, Checks, Steps}
-use Rattle.acas_table_text.proofs.Cuts.{first_none, first_one}
+use Rattle.acas_table_text.proofs.Nones.{first_none, first_one}
 use Rattle.acas_table_text.specs.declared.field.Field.{Field}
 use Rattle.acas_table_text.specs.declared.field.Field.TheVariants as fields
 use Rattle.acas_table.specs.declared.source.Source.{Source}

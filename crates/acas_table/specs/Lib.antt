@@ -1,5 +1,3 @@
-pub mod Pieces
-pub mod Writer
 pub mod Source
 pub mod Standing
 pub mod Reader

@@ -1,16 +1,12 @@
-//! The table file: its writer and its reader, of both formats.
+//! The reader of table files, in both formats.
 #![tactic(auto)]
 
 mod body;
-mod encoding;
+mod decoding;
 mod header;
-mod parts;
-mod pieces;
 mod place;
 mod reader;
 mod source;
-mod writer;
 
 pub use acas_table_text::{Format, TableFault, TableRefusal, TableShape};
 pub use reader::TableReader;
-pub use writer::{Phase, TableWriter};

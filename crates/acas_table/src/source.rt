@@ -3,7 +3,7 @@
 //! The digest takes in large pieces: what was read stays in the buffer until more bytes are wanted or the digest is.
 ghost use Rattle.std.specs.Prelude.{◌≡◌, ◌≤◌, ◌<◌, ◌+◌, ◌-◌, ◌^◌, length, IfOk};
 
-use crate::encoding::{decode_entry, decode_number};
+use crate::decoding::{decode_entry, decode_number};
 use acas_outside::{Folder, ReadMiss};
 use acas_table_text::{Field, Format, TableFault};
 use acas_units::Entry;

@@ -1,3 +1,2 @@
 mod Swept
 pub mod Worth
-pub mod MigratedTables

@@ -1,14 +1,10 @@
 -- What each command on tables calls for, by the files of the folder.
 use Rattle.std.specs.Prelude.{ℕ, List, Option}
 use Rattle.std.specs.FinMap.{get}
-use Rattle.acas_table_text.specs.Shape.{shape_of}
-use Rattle.acas_table_text.specs.Tables.{as_layered}
 use Rattle.acas_command.specs.Called.{Called, calls_for}
 use Rattle.acas_command.specs.Calls.{with_model}
-use Rattle.acas_table_file.specs.Calls.{with_table}
 use Rattle.acas_command.specs.Outcome.{Outcome, prints, stores}
-use Rattle.acas_table_commands.specs.AcceptedLine.{accepted_line}
-use Rattle.acas_table_commands.specs.StoredLine.{compiled_line, migrated_line}
+use Rattle.acas_table_rows.specs.StoredLine.{compiled_line}
 use Rattle.acas_table_rows.specs.TableFile.{compiled_text}
 use Rattle.acas_table_lines.specs.ValuesText.{values_text}
 
@@ -20,25 +16,9 @@ values_of file = with_model file (λ digest model. prints (values_text model))
 abbrev pub compile_of : Option (List ℕ) → List ℕ → Outcome
 compile_of file name = with_model file (λ digest model. stores name (compiled_text digest model) (compiled_line model.grid))
 
--- `check M T` prints how large the accepted table is
-abbrev pub check_of : Option (List ℕ) → Option (List ℕ) → Outcome
-check_of file table = with_model file (λ digest model. with_table model digest table (λ bytes. prints (accepted_line model.grid)))
-
--- `migrate M T1 T2` stores the text in version 2 of the accepted table, and prints how large it is
-abbrev pub migrate_of : Option (List ℕ) → Option (List ℕ) → List ℕ → Outcome
-migrate_of file table name =
-    with_model file (λ digest model. with_table model digest table (λ bytes.
-    stores name (as_layered digest (shape_of model.grid) bytes) (migrated_line model.grid)))
-
 -- the same, by the names of the files
 abbrev pub CallsForValues : List ℕ → Called
 CallsForValues model = calls_for (λ files. values_of (get files model))
 
 abbrev pub CallsForCompile : List ℕ → List ℕ → Called
 CallsForCompile model table = calls_for (λ files. compile_of (get files model) table)
-
-abbrev pub CallsForCheck : List ℕ → List ℕ → Called
-CallsForCheck model table = calls_for (λ files. check_of (get files model) (get files table))
-
-abbrev pub CallsForMigrate : List ℕ → List ℕ → List ℕ → Called
-CallsForMigrate model table target = calls_for (λ files. migrate_of (get files model) (get files table) target)

@@ -6,15 +6,14 @@ ghost use Rattle.acas_command.specs.Answers.{Answers, ended};
 ghost use Rattle.acas_table_commands.specs.Calls.{CallsForCompile};
 ghost use Rattle.acas_table_commands.specs.Work.{CountsSweep};
 
-use crate::stored_line::write_stored_line;
 use acas_command::{Cause, read_model_file};
+use acas_means::LayerMeans;
 use acas_outside::{Folder, Sink, emit};
 use acas_plane::Turned;
-use acas_step::LayerMeans;
 use acas_step_choices::Backups;
 use acas_sweep::SweepRoom;
-use acas_table::TableWriter;
-use acas_table_rows::store_swept;
+use acas_table_rows::{store_swept, write_stored_line};
+use acas_table_writer::TableWriter;
 use acas_units::Line;
 use std::alloc::Global;
 

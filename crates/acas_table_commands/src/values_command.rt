@@ -7,9 +7,9 @@ ghost use Rattle.acas_table_commands.specs.Calls.{CallsForValues};
 ghost use Rattle.acas_table_commands.specs.Work.{CountsSweep};
 
 use acas_command::{Cause, read_model_file};
+use acas_means::LayerMeans;
 use acas_outside::{Folder, Sink};
 use acas_plane::Turned;
-use acas_step::LayerMeans;
 use acas_step_choices::Backups;
 use acas_sweep::SweepRoom;
 use acas_table_lines::{Pen, print_table};

@@ -1,6 +1,6 @@
 -- What a command calls for, behind the file of a table, and the file of a command that is not refused, or refused, by it.
 use Rattle.std.proofs.Common.{◌≡◌, ℕ, List, Option, None, Some, refl, subst, ap, ◌∙◌, sym}
-use Rattle.std.specs.Prelude.{IfSome}
+use Rattle.std.specs.Prelude.{IfSome, IsSomeAnd}
 use Rattle.std.specs.FinMap.{get}
 use Rattle.sha2.specs.Sha256.{sha256}
 use Rattle.sha2.proofs.Facts256.{length-sha256}
@@ -9,7 +9,8 @@ use Rattle.acas_spec.specs.Table.{Table}
 use Rattle.acas_grid.specs.Grid.{state_number, vertex_number}
 use Rattle.acas_base.specs.Advices.{AdvicesData}
 use Rattle.acas_layers.specs.Layers.{LayersData}
-use Rattle.acas_step.proofs.NumberedStates.{state_number-below}
+use Rattle.acas_means.proofs.NumberedStates.{state_number-below}
+use Rattle.acas_outside.specs.Bytes.{IsBytes}
 use Rattle.acas_outside.specs.Files.{Files, Given}
 use Rattle.acas_table_text.specs.declared.refusal.TableRefusal.{TableRefusal}
 use Rattle.acas_accept.specs.Answers.{HasLayers}
@@ -139,3 +140,7 @@ read-table files model table bytes given m t rest says there accepted =
     read-model files model bytes m (λ digest n. with_table n digest (get files table) (rest digest n)) says
     ∙ ap (λ (file : Option (List ℕ)). with_table m (sha256 bytes) file (rest (sha256 bytes) m)) there
     ∙ with_table-accepted m (sha256 bytes) given (rest (sha256 bytes) m) (accepted_has_none m (sha256 bytes) given t says.text.within (length-sha256 bytes) accepted)
+
+-- a file that is told to be bytes
+pub bytes-of : (file : Option (List ℕ)) (bytes : List ℕ) → file ≡ Some bytes → IsSomeAnd file IsBytes → IsBytes bytes
+bytes-of file bytes there h = let some : IsSomeAnd (Some bytes) IsBytes = subst (λ (f : Option (List ℕ)). IsSomeAnd f IsBytes) there h in some

@@ -10,8 +10,8 @@ ghost use Rattle.acas_command.specs.Outside.{beside};
 use acas_accept::{AcceptFault, accept};
 use acas_base::Advices;
 use acas_command::{Cause, FileRole, ModelFile};
+use acas_means::LayerMeans;
 use acas_outside::Folder;
-use acas_step::LayerMeans;
 use std::alloc::Global;
 
 /// Reads and checks the file of a table and gives its advices, or gives the cause that ends every command that reads

@@ -10,8 +10,8 @@ ghost use Rattle.acas_command.specs.Outside.{beside};
 use acas_accept::{AcceptFault, accept_layers};
 use acas_command::{Cause, FileRole, ModelFile};
 use acas_layers::Layers;
+use acas_means::LayerMeans;
 use acas_outside::Folder;
-use acas_step::LayerMeans;
 use std::alloc::Global;
 
 /// Reads and checks the file of a table and gives its layers, or gives the cause that ends every command that reads

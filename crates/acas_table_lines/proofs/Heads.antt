@@ -6,7 +6,7 @@ use Rattle.acas_spec.specs.Model.{ModelData, states, vertices}
 use Rattle.acas_spec.specs.declared.place.Vertex.{Vertex}
 use Rattle.acas_command.specs.Fields.{state_fields}
 use Rattle.acas_grid.specs.States.{state_present, state_vertex}
-use Rattle.acas_step.specs.Layer.{pair_at}
+use Rattle.acas_means.specs.Layer.{pair_at}
 use Rattle.acas_sweep.specs.Handed.{LayerData}
 use Rattle.acas_table_lines.specs.Heads.{BeginsLine, HasHead, line_behind, line_head}
 use Rattle.acas_table_lines.specs.ValuesText.{entry_line, listed_line}

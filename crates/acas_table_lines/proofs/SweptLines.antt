@@ -12,7 +12,7 @@ use Rattle.acas_outside.specs.declared.sink.Sink.{Ghosts as SinkMeanings}
 use Rattle.acas_print.specs.Printing.{Prints, below}
 use Rattle.acas_print.proofs.PrintedPieces.{part_of_below, prints_both, prints_nothing}
 use Rattle.acas_process.specs.Compiled.{compiled}
-use Rattle.acas_step.specs.Layer.{no_pair, pair_at}
+use Rattle.acas_means.specs.Layer.{no_pair, pair_at}
 use Rattle.acas_sweep.specs.Handed.{AddsBelow, CutBelow, compiled_layer, state_advice, state_pair}
 use Rattle.acas_table_lines.specs.LineRows.{AddsLines, CutsLines}
 use Rattle.acas_table_lines.specs.ValuesText.{entry_line, layer_lines, listed_line, listed_lines, state_line}

@@ -9,7 +9,7 @@ use Rattle.acas_grid.specs.States.{state_present, state_vertex}
 use Rattle.acas_spec.specs.declared.place.Vertex.{Vertex}
 use Rattle.acas_spec.specs.Table.{Table}
 use Rattle.acas_process.specs.Compiled.{compiled}
-use Rattle.acas_step.specs.Layer.{pair_at}
+use Rattle.acas_means.specs.Layer.{pair_at}
 use Rattle.acas_sweep.specs.Handed.{LayerData}
 
 -- the advice by name; there is none with no second to go, and where its number is no advisory's

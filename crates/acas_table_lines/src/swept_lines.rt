@@ -12,9 +12,9 @@ ghost use Rattle.acas_table_lines.specs.ValuesText.{table_lines, values_text};
 use crate::line_rows::LineRows;
 use crate::table_lines::Pen;
 use acas_base::Model;
+use acas_means::LayerMeans;
 use acas_outside::{Failed, Sink};
 use acas_plane::Turned;
-use acas_step::LayerMeans;
 use acas_step_choices::Backups;
 use acas_sweep::{SweepFault, SweepRoom, sweep_to};
 

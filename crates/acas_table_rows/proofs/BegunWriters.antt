@@ -4,10 +4,10 @@ use Rattle.std.proofs.Math.Logic.{∥∥₁_map}
 use Rattle.std.specs.Prelude.{IsSome, OnOk, Result, is_ok, if◌then◌else◌}
 use Rattle.acas_units.specs.declared.pair.Entry.{Entry}
 use Rattle.acas_outside.specs.Files.{Files, Given}
-use Rattle.acas_table.specs.Writer.{HasWritten, WriterState, writer_state}
-use Rattle.acas_table.specs.declared.writer.Phase.{Phase}
-use Rattle.acas_table.specs.declared.writer.Phase.TheVariants.{New, Started, Finished, Failed}
-use Rattle.acas_table.specs.declared.writer.TableWriter.{TableWriter}
+use Rattle.acas_table_writer.specs.Writer.{HasWritten, WriterState, writer_state}
+use Rattle.acas_table_writer.specs.declared.writer.Phase.{Phase}
+use Rattle.acas_table_writer.specs.declared.writer.Phase.TheVariants.{New, Started, Finished, Failed}
+use Rattle.acas_table_writer.specs.declared.writer.TableWriter.{TableWriter}
 use Rattle.acas_table_rows.specs.BegunWriter.{HasBegun, is_held}
 use Rattle.acas_table_rows.specs.TableRows.{takes_layers}
 

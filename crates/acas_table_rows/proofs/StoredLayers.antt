@@ -10,11 +10,11 @@ use Rattle.acas_table_text.specs.Growth.{base, front, layer_bytes, text_behind}
 use Rattle.acas_table_text.specs.Text.{header}
 use Rattle.acas_table_text.specs.declared.format.Format.TheVariants.{Layered}
 use Rattle.acas_table_text.specs.declared.shape.TableShape.{TableShape}
-use Rattle.acas_table.specs.Writer.{HasWritten, WriterState, last_bytes, new_writer, next_bytes, writer_state}
-use Rattle.acas_table.specs.declared.writer.Phase.TheVariants.{Failed, Started}
-use Rattle.acas_table.specs.declared.writer.TableWriter.{TableWriter}
-use Rattle.acas_table_text.proofs.Chains.{text-chain}
-use Rattle.acas_table_text.proofs.Stored.{front-none, part_of_end, part_of_header, part_of_layer, stored_end, stored_layer}
+use Rattle.acas_table_writer.specs.Writer.{HasWritten, WriterState, last_bytes, new_writer, next_bytes, writer_state}
+use Rattle.acas_table_writer.specs.declared.writer.Phase.TheVariants.{Failed, Started}
+use Rattle.acas_table_writer.specs.declared.writer.TableWriter.{TableWriter}
+use Rattle.acas_table_text_laws.proofs.Chains.{text-chain}
+use Rattle.acas_table_text_laws.proofs.Stored.{front-none, part_of_end, part_of_header, part_of_layer, stored_end, stored_layer}
 use Rattle.acas_table_rows.specs.TableFile.{IsWriting, first_layers, first_part, text_of_all}
 
 -- the layers behind the first n and one more

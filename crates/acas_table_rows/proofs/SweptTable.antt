@@ -13,8 +13,8 @@ use Rattle.acas_process.specs.Compiled.{compiled}
 use Rattle.acas_sweep.specs.Handed.{AddsBelow, CutBelow, LayerData, compiled_layer, state_advice, state_pair}
 use Rattle.acas_table_text.specs.Shape.{shape_of}
 use Rattle.acas_table_text.specs.Text.{layer_of}
-use Rattle.acas_table.specs.Writer.{next_bytes, writer_state}
-use Rattle.acas_table.specs.declared.writer.TableWriter.{TableWriter}
+use Rattle.acas_table_writer.specs.Writer.{next_bytes, writer_state}
+use Rattle.acas_table_writer.specs.declared.writer.TableWriter.{TableWriter}
 use Rattle.acas_table_rows.specs.TableFile.{IsCompiling, compiled_entries, compiled_part, compiled_text, first_layers}
 use Rattle.acas_table_rows.specs.TableRows.{AddsRow, CutsRow}
 use Rattle.acas_table_rows.specs.declared.table_rows.TableRows.{TableRows}

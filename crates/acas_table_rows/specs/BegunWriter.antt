@@ -3,9 +3,9 @@ use Rattle.std.specs.Prelude.{◌≡◌, ℕ, Bool, true, List, Option, Some, No
 use Rattle.std.specs.FinMap.{get}
 use Rattle.acas_units.specs.declared.pair.Entry.{Entry}
 use Rattle.acas_outside.specs.Files.{Files}
-use Rattle.acas_table.specs.Writer.{HasWritten, writer_state}
-use Rattle.acas_table.specs.declared.writer.Phase.TheVariants.{Started}
-use Rattle.acas_table.specs.declared.writer.TableWriter.{TableWriter}
+use Rattle.acas_table_writer.specs.Writer.{HasWritten, writer_state}
+use Rattle.acas_table_writer.specs.declared.writer.Phase.TheVariants.{Started}
+use Rattle.acas_table_writer.specs.declared.writer.TableWriter.{TableWriter}
 
 -- unless a call has failed or the table is finished, it was given some layers
 abbrev pub HasBegun : TableWriter → Type 0

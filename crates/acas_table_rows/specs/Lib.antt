@@ -1,3 +1,4 @@
 pub mod BegunWriter
 pub mod TableRows
 pub mod TableFile
+pub mod StoredLine

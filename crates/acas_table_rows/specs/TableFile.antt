@@ -11,9 +11,9 @@ use Rattle.acas_table_text.specs.Growth.{front}
 use Rattle.acas_table_text.specs.Text.{header, layer_of, text_of_layers}
 use Rattle.acas_table_text.specs.declared.format.Format.TheVariants.{Layered}
 use Rattle.acas_table_text.specs.declared.shape.TableShape.{TableShape}
-use Rattle.acas_table.specs.Writer.{HasWritten, new_writer, writer_state}
-use Rattle.acas_table.specs.declared.writer.Phase.TheVariants.{Started}
-use Rattle.acas_table.specs.declared.writer.TableWriter.{TableWriter}
+use Rattle.acas_table_writer.specs.Writer.{HasWritten, new_writer, writer_state}
+use Rattle.acas_table_writer.specs.declared.writer.Phase.TheVariants.{Started}
+use Rattle.acas_table_writer.specs.declared.writer.TableWriter.{TableWriter}
 
 -- the text of the compiled table of a model whose text has this digest
 abbrev pub compiled_text : List ℕ → ModelData → List ℕ

@@ -6,9 +6,9 @@ use Rattle.acas_outside.specs.Frame.{OnlyWrites}
 use Rattle.acas_outside.specs.declared.folder.Folder.{Ghosts as FolderMeanings}
 use Rattle.acas_sweep.specs.Handed.{LayerData}
 use Rattle.acas_table_text.specs.Text.{layer_of}
-use Rattle.acas_table.specs.Writer.{HasWritten, next_bytes, writer_state}
-use Rattle.acas_table.specs.declared.writer.Phase.{Phase}
-use Rattle.acas_table.specs.declared.writer.Phase.TheVariants.{Started}
+use Rattle.acas_table_writer.specs.Writer.{HasWritten, next_bytes, writer_state}
+use Rattle.acas_table_writer.specs.declared.writer.Phase.{Phase}
+use Rattle.acas_table_writer.specs.declared.writer.Phase.TheVariants.{Started}
 use Rattle.acas_table_rows.specs.BegunWriter.{is_held}
 use Rattle.acas_table_rows.specs.declared.table_rows.TableRows.{TableRows}
 

@@ -2,7 +2,7 @@
 ghost use Rattle.acas_table_rows.specs.BegunWriter.{HasBegun};
 
 use acas_outside::{Failed, Folder};
-use acas_table::TableWriter;
+use acas_table_writer::TableWriter;
 use acas_units::Pair;
 
 /// A writer of a table that has begun.
@@ -18,8 +18,8 @@ impl BegunWriter {
     ghost use Rattle.acas_outside.specs.Files.{Given, Grows, GrowsPart};
     ghost use Rattle.acas_outside.specs.Frame.{OnlyWrites};
     ghost use Rattle.acas_table_text.specs.Text.{layer_of};
-    ghost use Rattle.acas_table.specs.Writer.{HasWritten, next_bytes, writer_state};
-    ghost use Rattle.acas_table.specs.declared.writer.Phase.TheVariants.{Started};
+    ghost use Rattle.acas_table_writer.specs.Writer.{HasWritten, next_bytes, writer_state};
+    ghost use Rattle.acas_table_writer.specs.declared.writer.Phase.TheVariants.{Started};
     ghost use Rattle.acas_table_rows.specs.BegunWriter.{is_held};
 
     /// Appends the next layer. The name still holds a file then.

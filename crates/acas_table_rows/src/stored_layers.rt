@@ -6,13 +6,13 @@ ghost use Rattle.acas_spec.specs.Model.{states};
 ghost use Rattle.acas_table_text.specs.Shape.{shape_of};
 ghost use Rattle.acas_table_text.specs.Format.{length_of};
 ghost use Rattle.acas_table_text.specs.declared.format.Format.TheVariants.{Layered};
-ghost use Rattle.acas_table.specs.Writer.{HasWritten, new_writer, writer_state};
+ghost use Rattle.acas_table_writer.specs.Writer.{HasWritten, new_writer, writer_state};
 ghost use Rattle.acas_table_rows.specs.TableFile.{entries_of, text_of_all};
 
 use acas_command::ModelFile;
 use acas_layers::Layers;
 use acas_outside::{Failed, Folder};
-use acas_table::TableWriter;
+use acas_table_writer::TableWriter;
 
 /// Stores a table of a model in version 2, whose layers are all at hand, and answers its length. Where it fails, the
 /// name holds what it held, or a proper prefix of the table's text. It takes no memory.

@@ -7,19 +7,19 @@ ghost use Rattle.acas_sweep.specs.Layers.{backup_count};
 ghost use Rattle.acas_table_text.specs.Shape.{shape_of};
 ghost use Rattle.acas_table_text.specs.Format.{length_of};
 ghost use Rattle.acas_table_text.specs.declared.format.Format.TheVariants.{Layered};
-ghost use Rattle.acas_table.specs.Writer.{HasWritten, new_writer, writer_state};
+ghost use Rattle.acas_table_writer.specs.Writer.{HasWritten, new_writer, writer_state};
 ghost use Rattle.acas_sweep.specs.Room.{IsRoomFor};
 ghost use Rattle.acas_table_rows.specs.TableFile.{IsCompiling, compiled_part, compiled_text};
 
 use crate::begun_writer::BegunWriter;
 use crate::table_rows::TableRows;
 use acas_command::ModelFile;
+use acas_means::LayerMeans;
 use acas_outside::{Failed, Folder};
 use acas_plane::Turned;
-use acas_step::LayerMeans;
 use acas_step_choices::Backups;
 use acas_sweep::{SweepFault, SweepRoom, sweep_to};
-use acas_table::TableWriter;
+use acas_table_writer::TableWriter;
 
 /// Stores the compiled table of a model, layer by layer as the sweep goes, and answers its length. Where it fails, the
 /// name holds what it held, or a proper prefix of the table's text. It takes no memory. It counts the backups and the

@@ -13,7 +13,7 @@ pub(crate) struct TableRows<'a, F: Folder> {
 }
 
 impl<F: Folder> LayerSink for TableRows<'_, F> {
-    ghost use Rattle.acas_table.specs.Writer.{writer_state};
+    ghost use Rattle.acas_table_writer.specs.Writer.{writer_state};
     ghost use Rattle.acas_table_rows.specs.TableRows.{AddsRow, CutsRow, rows_left};
 
     ghost left = { rows_left F.Folder };

@@ -24,8 +24,7 @@ use Rattle.acas_table_text.specs.declared.fault.TableFault.{TableFault}
 use Rattle.acas_table_text.specs.declared.field.Field.{Field}
 use Rattle.acas_table_text.specs.declared.field.Field.TheVariants as fields
 use Rattle.acas_table_text.proofs.Parts.{length-part, part-join}
-use Rattle.acas_table_text.proofs.Cuts.{first_none}
-use Rattle.acas_table_text.proofs.Nones.{each_none}
+use Rattle.acas_table_text.proofs.Nones.{each_none, first_none}
 use Rattle.acas_table_text.proofs.Fields.{field_text, header_is}
 use Rattle.acas_table_text.proofs.Formats.{bytes_as, digest_as, ended_as, entry_as, entry_behind, faults_as, first_is, format_long, hashed_part, header_as, more_none, tail_as, version_is}
 use Rattle.acas_table_text.proofs.Groups.{all_groups, ended-at, some_group}

@@ -1,46 +1,24 @@
 -- The format of bytes, and the faults of bytes that are read in a format.
-use Rattle.std.proofs.Common.{◌≡◌, ℕ, zero, suc, ◌+◌, ◌-◌, ◌<◌, ◌≤◌, Bool, true, false, cond, eqb, ltb, List, [], ◌∷◌, ◌++◌, length, take, Option, None, Some, refl, sym, ◌∙◌, ap, subst, arith, append_assoc}
-use Rattle.std.proofs.lemmas.Bool.{le-ltb, lt-ltb, ltb-false, eqb-true}
-use Rattle.std.proofs.lemmas.List.{length-take-le}
+use Rattle.std.proofs.Common.{◌≡◌, ℕ, zero, suc, ◌+◌, ◌-◌, ◌≤◌, Bool, true, false, cond, eqb, ltb, List, [], ◌∷◌, length, Option, None, Some, refl, ◌∙◌, ap, subst}
+use Rattle.std.proofs.lemmas.Bool.{le-ltb, ltb-false, eqb-true}
 use Rattle.std.specs.Prelude.{is_some}
 use Rattle.sha2.specs.Sha256.{sha256}
 use Rattle.byteorder.specs.Endian.{little_number}
-use Rattle.acas_units.specs.declared.pair.Entry.{Entry}
 use Rattle.acas_table_text.specs.Shape.{entry_count}
 use Rattle.acas_table_text.specs.Format.{digest_start, ended_group, entry_start, format_of, hashed_from, last_group, length_of, part, version_of}
-use Rattle.acas_table_text.specs.Text.{chain, entry_of, groups_of, header, text_of_layers}
+use Rattle.acas_table_text.specs.Text.{entry_of}
 use Rattle.acas_table_text.specs.Faults.{advice_fault, bytes_fault, digest_fault, digest_field, ended_fault, entry_fault, fault_in, field_fault, fields_fault, first, first_below, first_fault, header_fault, header_fields, kept_fault, more_fault, rest_fault, tail_fault, unless, version_fault, width_of}
 use Rattle.acas_table_text.specs.declared.format.Format.{Format}
 use Rattle.acas_table_text.specs.declared.format.Format.TheVariants.{Layered, Whole}
 use Rattle.acas_table_text.specs.declared.shape.TableShape.{TableShape}
 use Rattle.acas_table_text.specs.declared.fault.TableFault.{TableFault}
 use Rattle.acas_table_text.specs.declared.fault.TableFault.TheVariants.{Length, Version}
-use Rattle.acas_table_text.proofs.Parts.{part-take}
 
 -- ---- the format
 
 -- bytes that have a version
 pub format_long : (bytes : List ℕ) → 8 ≤ length bytes → format_of bytes ≡ cond (eqb (little_number 4 (part bytes 4 4)) 1) Whole Layered
 format_long bytes long = ap (λ (b : Bool). cond b Layered (cond (eqb (little_number 4 (part bytes 4 4)) 1) Whole Layered)) (le-ltb (length bytes) 8 long)
-
-pub format_short : (bytes : List ℕ) → length bytes < 8 → format_of bytes ≡ Layered
-format_short bytes short = ap (λ (b : Bool). cond b Layered (cond (eqb (little_number 4 (part bytes 4 4)) 1) Whole Layered)) (lt-ltb (length bytes) 8 short)
-
--- bytes that are cut behind their version
-pub format_of_take : (bytes : List ℕ) (n : ℕ) → n ≤ length bytes → 8 ≤ n → format_of (take n bytes) ≡ format_of bytes
-format_of_take bytes n within long =
-    format_long (take n bytes) (omega (arith, length-take-le n bytes within))
-    ∙ ap (λ (p : List ℕ). cond (eqb (little_number 4 p) 1) Whole Layered) (part-take bytes n 4 4 (omega arith))
-    ∙ sym (format_long bytes (omega arith))
-
--- what begins with a header has its format
-pub format-header : (f : Format) (digest : List ℕ) (s : TableShape) (rest : List ℕ) → format_of (header f digest s ++ rest) ≡ f
-unfolding header
-format-header Whole digest s rest = format_long (header Whole digest s ++ rest) (omega arith)
-format-header Layered digest s rest = format_long (header Layered digest s ++ rest) (omega arith)
-
-pub format-text : (f : Format) (digest : List ℕ) (s : TableShape) (layers : List (List Entry)) → format_of (text_of_layers f digest s layers) ≡ f
-format-text f digest s layers = format-header f digest s (chain (header f digest s) (groups_of f layers))
 
 version_by : (v : ℕ) (one two : Bool) → eqb v 1 ≡ one → eqb v 2 ≡ two → unless (is_some (cond one (Some Whole) (cond two (Some Layered) None))) (Version v) ≡ None → v ≡ version_of (cond one Whole Layered)
 version_by v true two is_one is_two none = eqb-true v 1 is_one

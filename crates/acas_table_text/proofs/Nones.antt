@@ -1,9 +1,16 @@
--- No fault among many.
+-- The first fault of many, or none.
 use Rattle.std.proofs.Common.{◌≡◌, ℕ, zero, suc, ◌<◌, List, [], ◌∷◌, Option, None, Some, refl, ◌∙◌, ap, subst, inl, inr, arith}
 use Rattle.std.proofs.lemmas.Bool.{cases_lt}
 use Rattle.std.specs.Option.{option_map}
 use Rattle.acas_table_text.specs.Faults.{first, first_below}
-use Rattle.acas_table_text.proofs.Cuts.{first_none}
+
+pub first_none : {A : Type 0} (o : Option A) (rest : List (Option A)) → first (o ∷ rest) ≡ None → (o ≡ None) × (first rest ≡ None)
+first_none None rest e = (refl, e)
+first_none (Some x) rest e = absurd (cc e)
+
+pub first_one : {A : Type 0} (o : Option A) → first (o ∷ []) ≡ o
+first_one None = refl
+first_one (Some x) = refl
 
 pub first-cons : {A : Type 0} (o : Option A) (rest : List (Option A)) → o ≡ None → first rest ≡ None → first (o ∷ rest) ≡ None
 first-cons {A = A} o rest here after = ap (λ (x : Option A). first (x ∷ rest)) here ∙ after

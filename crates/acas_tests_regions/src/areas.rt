@@ -3,9 +3,9 @@ ghost use Rattle.std.specs.Prelude.{◌≤◌};
 
 use crate::print::{seen_in, with_no_witness, with_witness};
 use crate::rows::span;
+use acas_areas::BoxState;
 use acas_base::Model;
 use acas_region::{window_of_box, window_of_cell};
-use acas_region_curves::BoxState;
 use acas_tests_data::{model_of, numbers};
 use acas_units::Span;
 use acas_witness::contact_in;

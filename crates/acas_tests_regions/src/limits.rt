@@ -1,10 +1,10 @@
 //! Tests of what the curves take. Each fraction is in lowest terms.
 ghost use Rattle.std.specs.Prelude.{◌≤◌, ◌⊎◌, IsTrue};
 ghost use Rattle.acas_frac.specs.Fraction.{Fraction};
-ghost use Rattle.acas_region_curves.specs.Limits.{AreWhole, IsCurve, IsHeldCurve, IsHold, IsOneAtMostNotWhole, IsPull, IsRate, IsStart, IsTime, IsWhole};
+ghost use Rattle.acas_areas.specs.Limits.{AreWhole, IsCurve, IsHeldCurve, IsHold, IsOneAtMostNotWhole, IsPull, IsRate, IsStart, IsTime, IsWhole};
 
+use acas_areas::{HOLD_PARTS, PULL_PARTS, RATE_PARTS, TIME_PARTS};
 use acas_frac::Frac;
-use acas_region_curves::{HOLD_PARTS, PULL_PARTS, RATE_PARTS, TIME_PARTS};
 
 fn is_whole(value: &Frac) -> bool
     ensures { IsTrue result → IsWhole value.now }

@@ -1,7 +1,9 @@
 //! Entries that are held against the layer below, by its values and by its means. More of them are cases of `acas_cases`.
 use self::Wanted::{Allows, Needs, NotAllowed, Sound};
 use crate::models::{COSTLY, NOISY};
-use acas_bounds::{BoundFault, check_by_means, check_entry, fill_means};
+use acas_bounds::BoundFault;
+use acas_plain::{check_by_means, check_entry};
+use acas_step::fill_means;
 use acas_tests_data::model_of;
 use acas_units::{Entry, Pair};
 use std::alloc::Global;

@@ -1,10 +1,10 @@
 //! Tables of three layers of 16 states, as the writer makes them.
 ghost use Rattle.std.specs.Prelude.{◌≡◌, [], IsTrue};
-ghost use Rattle.acas_table.specs.Writer.{writer_state, HasWritten};
+ghost use Rattle.acas_table_writer.specs.Writer.{writer_state, HasWritten};
 
 use acas_base::Model;
 use acas_outside::{Failed, Folder, MemoryFolder};
-use acas_table::{Phase, TableWriter};
+use acas_table_writer::{Phase, TableWriter};
 use acas_units::Pair;
 use std::alloc::{AllocError, Global};
 

@@ -1,5 +1,5 @@
-//! Tests of what tables are made of: the public calls of `acas_step`, `acas_sweep`, `acas_bounds`, `acas_table` and
-//! `acas_accept`, with values worked out by hand or apart from the program.
+//! Tests of what tables are made of: the public calls of `acas_step`, `acas_sweep`, `acas_bounds`, `acas_plain`, `acas_table`,
+//! `acas_table_writer` and `acas_accept`, with values worked out by hand or apart from the program.
 #![tactic(auto)]
 
 #[cfg(test)]

@@ -1,18 +1,17 @@
 //! One second of small models.
 ghost use Rattle.std.specs.Prelude.{◌≡◌, ◌<◌, length};
 ghost use Rattle.acas_spec.specs.Model.{states};
-ghost use Rattle.acas_step.specs.Columns.{columns};
+ghost use Rattle.acas_means.specs.Columns.{columns};
 ghost use Rattle.acas_step_stencils.specs.Stencils.{AreStencilsOf};
 
 use crate::models::{FOUR, NOISY, WIDE};
 use acas_base::{Choice, Model};
 use acas_frac::{Down, Up};
 use acas_grid::{Point, state_present};
-use acas_step::{
-    ColumnMeans, Corner, CornerSet, Side, column_count, corners, mean, means_at, moved, reach_of,
-    terminal, vertex_in_column,
-};
-use acas_step_choices::{Backups, backup};
+use acas_means::{ColumnMeans, Side, column_count, reach_of, terminal, vertex_in_column};
+use acas_plain::backup;
+use acas_step::{Corner, CornerSet, corners, mean, means_at, moved};
+use acas_step_choices::Backups;
 use acas_step_columns::fill_column;
 use acas_step_stencils::Stencils;
 use acas_tests_data::model_of;

@@ -3,11 +3,12 @@ ghost use Rattle.std.specs.Prelude.{⊤};
 
 use crate::models::{FOUR, NOISY, TIED};
 use acas_base::Model;
+use acas_means::LayerMeans;
+use acas_plain::sweep_list;
 use acas_plane::{PlaneBlock, Turned};
-use acas_step::LayerMeans;
 use acas_step_choices::Backups;
 use acas_step_columns::StencilMeans;
-use acas_sweep::{LayerFailed, LayerSink, sweep, sweep_list};
+use acas_sweep::{LayerFailed, LayerSink, sweep};
 use acas_tests_data::model_of;
 use acas_units::Pair;
 use std::alloc::Global;

@@ -8,7 +8,7 @@ use Rattle.acas_spec.specs.declared.place.Vertex.{Vertex}
 use Rattle.acas_grid.specs.Grid.{IsVertex}
 use Rattle.acas_frac.proofs.SignedProducts.{le-trans_ℤ, mul-le_ℤ}
 use Rattle.acas_process.specs.Step.{over_vertices}
-use Rattle.acas_process.specs.Bounds.{HasTwoSidedBounds}
+use Rattle.acas_policies.specs.Bounds.{HasTwoSidedBounds}
 use Rattle.acas_process.specs.Compiled.{first_least, least}
 use Rattle.acas_process.specs.Cost.{IsEntry, IsPolicy, MayChoose, cost_of, expected_cost, terminal_cost, transition_total, transition_weight}
 use Rattle.acas_process.proofs.Least.{IsLeastOf, first_least_is, least-le}

@@ -6,8 +6,8 @@ use Rattle.acas_spec.specs.Model.{ModelData}
 use Rattle.acas_spec.specs.Table.{Policy}
 use Rattle.acas_spec.specs.declared.place.Vertex.{Vertex}
 use Rattle.acas_process.specs.Cost.{cost_of}
-use Rattle.acas_process.specs.Policies.{contact_chance, counting_contact, in_contact}
-use Rattle.acas_process.proofs.ChanceLaws.{chance_is_cost, counting_is_model, seconds_are_free}
+use Rattle.acas_policies.specs.Policies.{contact_chance, counting_contact, in_contact}
+use Rattle.acas_policies.proofs.ChanceLaws.{chance_is_cost, counting_is_model, seconds_are_free}
 use Rattle.acas_trajectories.specs.Memory.{without_memory}
 use Rattle.acas_trajectories.specs.Trajectories.{Transition, end_of, over_trajectories, sum_along, trajectory_weight, transitions}
 use Rattle.acas_trajectories.proofs.RecursionLaws.{costs_without_memory}

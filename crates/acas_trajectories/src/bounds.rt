@@ -4,7 +4,7 @@ ghost use Rattle.acas_spec.specs.Limits.{IsModel};
 ghost use Rattle.acas_spec.specs.Model.{ModelData, choices_at};
 ghost use Rattle.acas_spec.specs.Table.{Policy, Table};
 ghost use Rattle.acas_spec.specs.declared.place.Vertex.{Vertex};
-ghost use Rattle.acas_process.specs.Bounds.{HasTwoSidedBounds, IsSound};
+ghost use Rattle.acas_policies.specs.Bounds.{HasTwoSidedBounds, IsSound};
 ghost use Rattle.acas_process.specs.Compiled.{compiled};
 ghost use Rattle.acas_process.specs.Cost.{IsEntry, IsPolicy, advisories_of, expected_cost, transition_total};
 ghost use Rattle.acas_trajectories.specs.Memory.{GridState, IsMemoryPolicy, MemoryPolicy, without_memory};

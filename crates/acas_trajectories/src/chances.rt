@@ -4,7 +4,7 @@ ghost use Rattle.acas_spec.specs.Limits.{IsModel};
 ghost use Rattle.acas_spec.specs.Model.{ModelData};
 ghost use Rattle.acas_spec.specs.Table.{Policy};
 ghost use Rattle.acas_spec.specs.declared.place.Vertex.{Vertex};
-ghost use Rattle.acas_process.specs.Policies.{contact_chance, in_contact};
+ghost use Rattle.acas_policies.specs.Policies.{contact_chance, in_contact};
 ghost use Rattle.acas_trajectories.specs.Memory.{without_memory};
 ghost use Rattle.acas_trajectories.specs.Trajectories.{end_of, over_trajectories, trajectory_weight};
 

@@ -10,7 +10,7 @@ use Rattle.acas_flight.specs.Window.{Times, IsDuring}
 use Rattle.acas_flight.specs.Values.{IsOver}
 use Rattle.acas_frac.proofs.IntRing.{at, ◌⊗◌, ring, mul_swapped_ℤ}
 use Rattle.acas_flight_curves.proofs.Rising.{scaled_le}
-use Rattle.acas_region_curves.specs.Limits.{IsHeldCurve, IsOneAtMostNotWhole, IsEnd}
+use Rattle.acas_areas.specs.Limits.{IsHeldCurve, IsOneAtMostNotWhole, IsEnd}
 use Rattle.acas_passes.specs.Value.{thinnest}
 use Rattle.acas_passes.specs.Flights.{Flight}
 use Rattle.acas_passes.specs.Search.{Search, IsSearch, IsTimed, IsFound, CanMeet, unit}
@@ -23,7 +23,7 @@ use Rattle.acas_rulings.specs.Witness.{search_between, IsFlightInContact}
 use Rattle.acas_witness.specs.FoundPlans.{IsPlanIn}
 use Rattle.acas_rulings.specs.Printed.{Prints, hold_part, some_part, flight_fractions}
 use Rattle.acas_rulings.proofs.Parts.{AreParts-append}
-use Rattle.acas_region_curves.proofs.Climbs.{IsOver-finer}
+use Rattle.acas_areas.proofs.Finer.{IsOver-finer}
 
 pub unit_positive : (a : Demand) (area : Area) (low high : Fraction) → IsEnd low → IsEnd high → 0 < unit (search_between a area low high)
 unit_positive a area low high l h = mul-pos (omega arith) (mul-pos l.some h.some)

@@ -9,10 +9,10 @@ use Rattle.acas_flight.specs.Extremes.{IsLowExtreme, IsHighExtreme}
 use Rattle.acas_passes.specs.Value.{thinnest}
 use Rattle.acas_passes.specs.Flights.{Flight}
 use Rattle.acas_passes.specs.Search.{Search, IsSearch, IsFound, CanMeet, unit}
-use Rattle.acas_region_curves.specs.Limits.{IsEnd}
-use Rattle.acas_region_curves.specs.View.{area_of, times_of}
-use Rattle.acas_region_curves.specs.declared.parts.BoxState.{BoxState}
-use Rattle.acas_region_curves.specs.declared.parts.Window.{Window}
+use Rattle.acas_areas.specs.Limits.{IsEnd}
+use Rattle.acas_areas.specs.View.{area_of, times_of}
+use Rattle.acas_areas.specs.declared.parts.BoxState.{BoxState}
+use Rattle.acas_areas.specs.declared.parts.Window.{Window}
 use Rattle.acas_witness_plans.specs.declared.plan.Plan.{Plan}
 use Rattle.acas_witness_plans.specs.Plans.{IsPlanOf}
 use Rattle.acas_rulings.specs.Witness.{search_between}

@@ -4,14 +4,14 @@ ghost use Rattle.acas_flight.specs.State.{Box};
 ghost use Rattle.acas_flight.specs.Contact.{IsEndangeredBox, IsEndangeredCell};
 ghost use Rattle.acas_flight.specs.Window.{IsWindowOfBox, IsWindowOfCell};
 ghost use Rattle.acas_flight.specs.Clear.{area_of_box, area_of_cell};
-ghost use Rattle.acas_region_curves.specs.Limits.{IsTime};
-ghost use Rattle.acas_region_curves.specs.View.{area_of, times_of};
+ghost use Rattle.acas_areas.specs.Limits.{IsTime};
+ghost use Rattle.acas_areas.specs.View.{area_of, times_of};
 ghost use Rattle.acas_rulings.specs.Witness.{IsClearIn, IsEndangeredIn, IsInContactIn, IsTimeOf, IsWitnessIn};
 
 use crate::finding::find;
+use acas_areas::{BoxState, Window};
 use acas_base::Model;
 use acas_region::is_clear;
-use acas_region_curves::{BoxState, Window};
 use acas_rulings::Flight;
 
 /// The flight into the puck of an area, if the area is not clear in the window. So an area is clear exactly where no flight from it

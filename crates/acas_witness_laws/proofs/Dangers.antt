@@ -8,10 +8,10 @@ use Rattle.acas_flight.specs.Response.{Demand, demand_of}
 use Rattle.acas_flight.specs.Parts.{CanBeMet}
 use Rattle.acas_flight.specs.Window.{Times}
 use Rattle.acas_flight.specs.Clear.{Area, IsClear, IsEndangeredDuring}
-use Rattle.acas_region_curves.specs.Limits.{AreEnds}
-use Rattle.acas_region_curves.specs.View.{area_of, times_of}
-use Rattle.acas_region_curves.specs.declared.parts.BoxState.{BoxState}
-use Rattle.acas_region_curves.specs.declared.parts.Window.{Window}
+use Rattle.acas_areas.specs.Limits.{AreEnds}
+use Rattle.acas_areas.specs.View.{area_of, times_of}
+use Rattle.acas_areas.specs.declared.parts.BoxState.{BoxState}
+use Rattle.acas_areas.specs.declared.parts.Window.{Window}
 use Rattle.acas_passes.specs.Value.{thinnest}
 use Rattle.acas_passes.specs.Search.{IsSearch, IsMoment}
 use Rattle.acas_pass_laws.proofs.Founds.{endangers}

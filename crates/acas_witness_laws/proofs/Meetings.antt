@@ -5,7 +5,7 @@ use Rattle.acas_frac.proofs.SignedProducts.{mul-neg_ℤ}
 use Rattle.acas_frac.proofs.IntRing.{at, num, ◌⊕◌, ◌⊖◌, ◌⊗◌, ring}
 use Rattle.acas_frac.proofs.Orders.{cases_lt_ℤ, neg-lt_ℤ}
 use Rattle.acas_flight_curves.proofs.Gaps.{low_pull-border, high_pull-border, least_gap-border, greatest_gap-border}
-use Rattle.acas_flight_curves.proofs.GapScales.{over_at_other}
+use Rattle.acas_flight_windows.proofs.GapScales.{over_at_other}
 use Rattle.acas_flight_laws.proofs.Endangered.{IsDuring-finer}
 use Rattle.acas_frac.specs.Fraction.{Fraction, Same}
 use Rattle.acas_passes.specs.Value.{is_below, IsWithinHalf}
@@ -20,7 +20,7 @@ use Rattle.acas_passes.specs.Flights.{value}
 use Rattle.acas_passes.specs.Search.{Search, unit, low_time, high_time, low_flight, high_flight, CanMeet}
 use Rattle.acas_rulings.specs.Witness.{search_between}
 use Rattle.acas_witness_plans.proofs.Overs.{low_over, high_over}
-use Rattle.acas_region_curves.proofs.Climbs.{IsOver-finer}
+use Rattle.acas_areas.proofs.Finer.{IsOver-finer}
 
 -- the value of a flight and the gap
 value_gap : (z : ℤ) (b q t : ℕ) (h w : ℤ) → z -ℤ (pos b *ℤ ((h *ℤ pos (q * q * q)) +ℤ ((pos 2 *ℤ (w *ℤ pos (q * q))) *ℤ pos t)))

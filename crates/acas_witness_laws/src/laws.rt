@@ -2,8 +2,8 @@
 ghost use Rattle.std.specs.Prelude.{ℕ, ◌<◌};
 ghost use Rattle.acas_spec.specs.Model.{ModelData};
 ghost use Rattle.acas_spec.specs.Limits.{IsModel};
-ghost use Rattle.acas_region_curves.specs.declared.parts.BoxState.{BoxState};
-ghost use Rattle.acas_region_curves.specs.declared.parts.Window.{Window};
+ghost use Rattle.acas_areas.specs.declared.parts.BoxState.{BoxState};
+ghost use Rattle.acas_areas.specs.declared.parts.Window.{Window};
 ghost use Rattle.acas_rulings.specs.Witness.{IsClearIn, IsEndangeredIn};
 
 /// An area that is not clear in the window is endangered: some flight from it that meets the advisory ends within the half height at

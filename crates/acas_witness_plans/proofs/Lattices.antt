@@ -7,7 +7,7 @@ use Rattle.acas_flight_curves.proofs.Rising.{scaled_le}
 use Rattle.acas_frac.specs.Fraction.{Fraction, IsFrac, ReducesWithinBounds}
 use Rattle.acas_flight.specs.Values.{IsOver}
 use Rattle.acas_frac.proofs.Lowest.{den_at_most, ReducesWithinBounds-over}
-use Rattle.acas_region_curves.specs.Limits.{IsRate, IsPull, IsHold, IsTime, IsEnd}
+use Rattle.acas_areas.specs.Limits.{IsRate, IsPull, IsHold, IsTime, IsEnd}
 use Rattle.acas_passes.specs.Passes.{toward}
 use native.Mathlib.Nat.{lt_of_mul-lt-mul_left}
 use lib.IntN.{*ℤ_comm}

@@ -2,8 +2,8 @@
 use Rattle.std.specs.Prelude.{◌≡◌, ℕ, ◌*◌, ◌/◌, ◌<◌, ◌≤◌, ℤ, pos, ◌+ℤ◌, ◌-ℤ◌, ◌*ℤ◌, unsigned_abs}
 use Rattle.acas_frac.specs.Fraction.{Fraction, Same}
 use Rattle.acas_flight.specs.Values.{IsOver}
-use Rattle.acas_region_curves.specs.Limits.{IsHeldCurve, IsRate, IsWhole}
-use Rattle.acas_region_curves.specs.Sizes.{altitude_size}
+use Rattle.acas_areas.specs.Limits.{IsHeldCurve, IsRate, IsWhole}
+use Rattle.acas_areas.specs.Sizes.{altitude_size}
 use Rattle.acas_passes.specs.declared.steps.TheConstants.{TIME_STEPS, PULL_STEPS}
 use Rattle.acas_passes.specs.Flights.{Flight, value}
 use Rattle.acas_passes.specs.Passes.{toward}

@@ -2,15 +2,16 @@
 ghost use Rattle.std.specs.Prelude.{◌≡◌, ◌*◌, ◌^◌, ◌<◌, ◌≤◌, ◌↔◌, IsTrue, pos, ◌*ℤ◌, unsigned_abs};
 ghost use Rattle.acas_frac.specs.Fraction.{Fraction};
 ghost use Rattle.acas_flight.specs.Values.{IsHeld};
-ghost use Rattle.acas_region_curves.specs.Limits.{IsRate, IsTime};
+ghost use Rattle.acas_areas.specs.Limits.{IsRate, IsTime};
 ghost use Rattle.acas_region_curves.specs.Ratios.{IsShort};
-ghost use Rattle.acas_region_curves.specs.Sizes.{altitude_size, shared_parts};
+ghost use Rattle.acas_areas.specs.Sizes.{altitude_size, shared_parts};
 ghost use Rattle.acas_passes.specs.Value.{is_below, IsWithinHalf};
 ghost use Rattle.acas_witness_plans.specs.Plans.{CanBeFlown, IsIntruderEnd, clearance_of};
 
 use crate::plan::{Outcome, Plan};
+use acas_areas::{RATE_PARTS, TIME_PARTS};
 use acas_frac::Frac;
-use acas_region_curves::{RATE_PARTS, Ratio, TIME_PARTS, held_ratio, rate_parts, time_parts};
+use acas_region_curves::{Ratio, held_ratio, rate_parts, time_parts};
 use acas_units::{GREATEST_HALF_HEIGHT, GREATEST_RATE, TICKS_PER_FOOT, WINDOW_SECONDS};
 
 // An altitude over a denominator.

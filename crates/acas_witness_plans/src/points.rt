@@ -3,7 +3,7 @@ ghost use Rattle.std.specs.Prelude.{◌≡◌, ◌*◌, ◌^◌, ◌<◌, ◌≤
 ghost use Rattle.acas_frac.specs.Fraction.{Fraction, IsFrac};
 ghost use Rattle.acas_flight.specs.Values.{IsOver};
 ghost use Rattle.acas_passes.specs.Passes.{toward};
-ghost use Rattle.acas_region_curves.specs.Limits.{IsEnd, IsHold, IsPull, IsRate, IsTime};
+ghost use Rattle.acas_areas.specs.Limits.{IsEnd, IsHold, IsPull, IsRate, IsTime};
 ghost use Rattle.acas_witness_plans.specs.Plans.{time_toward};
 
 use acas_frac::Frac;

@@ -8,7 +8,7 @@ use Rattle.acas_frac.specs.Fraction.{Fraction, IsFrac, whole_of}
 use Rattle.acas_flight.specs.Response as response
 use Rattle.acas_flight.specs.Values.{IsAtMost, IsOver}
 use Rattle.acas_frac.proofs.Lowest.{den_at_most}
-use Rattle.acas_region_curves.specs.Limits.{IsRate, IsPull}
+use Rattle.acas_areas.specs.Limits.{IsRate, IsPull}
 use Rattle.acas_passes.specs.Responses.{segment, not_held, held_for, at_once, at_aim, before, past}
 use Rattle.acas_witness_plans.specs.Bends.{IsBend, IsDifference}
 use Rattle.acas_rulings.specs.Printed.{IsPart, AreParts, IsHeldPart, AreSegments, no_parts, a_part, level}

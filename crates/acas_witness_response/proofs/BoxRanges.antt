@@ -9,13 +9,13 @@ use Rattle.acas_flight_curves.proofs.Scales.{cancel_left}
 use Rattle.acas_flight_curves.proofs.Held.{min_scaled}
 use Rattle.acas_frac.specs.Fraction.{Fraction, whole_of}
 use Rattle.acas_flight.specs.Values.{IsOver}
-use Rattle.acas_flight_curves.proofs.Windows.{Near, IsHorizontalContact-of}
-use Rattle.acas_flight_curves.proofs.BoxWindows.{IsTimeOfBox, window_of_box, IsInSpans}
+use Rattle.acas_flight_windows.proofs.Windows.{Near, IsHorizontalContact-of}
+use Rattle.acas_flight_windows.proofs.BoxWindows.{IsTimeOfBox, window_of_box, IsInSpans}
 use Rattle.acas_flight.specs.State.{Interval, IsInside}
 use Rattle.acas_flight.specs.Contact.{IsHorizontalContact}
 use Rattle.acas_flight.specs.Window.{IsContactTimeOfBox}
 use Rattle.acas_rulings.specs.Ranges.{IsBoxesRange, IsContactOfBox}
-use Rattle.acas_region_curves.proofs.Climbs.{IsOver-finer}
+use Rattle.acas_areas.proofs.Finer.{IsOver-finer}
 use Rattle.acas_witness_response.proofs.CellRanges.{numbers, same_over}
 use native.Mathlib.Nat.{le_of_mul-le-mul_left, lt_of_mul-lt-mul_left, mul-lt-mul_of_pos_left}
 

@@ -8,7 +8,7 @@ use Rattle.acas_flight_curves.proofs.Held.{min_scaled}
 use Rattle.acas_frac.specs.Fraction.{Fraction, whole_of}
 use Rattle.acas_flight.specs.Values.{IsOver}
 use Rattle.acas_spec.specs.Model.{ModelData}
-use Rattle.acas_flight_curves.proofs.Windows.{Near, IsTimeOfCell, IsHorizontalContact-of, window_of_cell, Away, IsSecondsAway-of}
+use Rattle.acas_flight_windows.proofs.Windows.{Near, IsTimeOfCell, IsHorizontalContact-of, window_of_cell, Away, IsSecondsAway-of}
 use Rattle.acas_flight.specs.State.{IsSecondsAway}
 use Rattle.acas_flight.specs.Contact.{IsHorizontalContact}
 use Rattle.acas_flight.specs.Window.{IsContactTimeOfCell}

@@ -1,11 +1,12 @@
 //! The range and the closing speed of a witness.
 ghost use Rattle.std.specs.Prelude.{◌≡◌, ◌+◌, ◌*◌, ◌<◌, ◌≤◌, max, min};
-ghost use Rattle.acas_region_curves.specs.Limits.{IsFlownInTime, IsTime, interval_of};
+ghost use Rattle.acas_areas.specs.Limits.{IsFlownInTime, IsTime, interval_of};
 ghost use Rattle.acas_rulings.specs.Ranges.{IsBoxesRange, IsCellsRange, IsContactOf, IsContactOfBox, IsContactOfCell, IsQuotient, IsRangeOf, IsTimeOfBox, IsTimeOfCell, interval_from};
 
+use acas_areas::TIME_PARTS;
 use acas_base::Model;
 use acas_frac::Frac;
-use acas_region_curves::{TIME_PARTS, time_parts};
+use acas_region_curves::time_parts;
 use acas_rulings::{Flight, Witness};
 use acas_units::{GREATEST_CLOSING, GREATEST_HORIZON, GREATEST_RADIUS, Span, WINDOW_SECONDS};
 use acas_witness_plans::{natural, ratio};

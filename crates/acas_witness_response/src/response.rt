@@ -2,12 +2,13 @@
 ghost use Rattle.std.specs.Prelude.{◌≡◌, ◌*◌, ◌^◌, ◌<◌, ◌≤◌, pos, ◌-ℤ◌, ◌*ℤ◌, ◌≤ℤ◌, unsigned_abs};
 ghost use Rattle.acas_frac.specs.Fraction.{Fraction, IsFrac};
 ghost use Rattle.acas_flight.specs.Values.{IsAtMost};
-ghost use Rattle.acas_region_curves.specs.Limits.{IsHold, IsPull, IsRate, IsTime};
+ghost use Rattle.acas_areas.specs.Limits.{IsHold, IsPull, IsRate, IsTime};
 ghost use Rattle.acas_witness_plans.specs.Bends.{IsBend, IsDifference};
 ghost use Rattle.acas_witness_response.specs.PrintedPlans.{AreSegmentsFor, HoldsFor, IsFineBend, IsLeftAfter, IsSignedPull};
 
+use acas_areas::RATE_PARTS;
 use acas_frac::Frac;
-use acas_region_curves::{RATE_PARTS, pull_parts, rate_parts};
+use acas_region_curves::{pull_parts, rate_parts};
 use acas_rulings::Segment;
 use acas_units::{GREATEST_RATE, WINDOW_SECONDS};
 use acas_witness_plans::{across, common, known, parts, ratio};

@@ -1,8 +1,8 @@
 -- The search of a survey, and its passes.
 use Rattle.std.specs.Prelude.{◌≡◌, ℕ, Bool, true, false, ℤ, pos, ◌*ℤ◌}
 use Rattle.acas_flight.specs.Response.{Demand}
-use Rattle.acas_region_curves.specs.Chases.{demand_from}
-use Rattle.acas_region_curves.specs.View.{area_of}
+use Rattle.acas_areas.specs.Chases.{demand_from}
+use Rattle.acas_areas.specs.View.{area_of}
 use Rattle.acas_passes.specs.Value.{is_below}
 use Rattle.acas_passes.specs.Flights.{Flight, value}
 use Rattle.acas_passes.specs.Passes.{Pass, below_at}

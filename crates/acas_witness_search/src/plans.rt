@@ -4,7 +4,7 @@ ghost use Rattle.acas_frac.specs.Fraction.{whole_of};
 ghost use Rattle.acas_flight.specs.Curves.{low_hold, low_pull};
 ghost use Rattle.acas_passes.specs.Passes.{falling, rising};
 ghost use Rattle.acas_passes.specs.Search.{aim_pass, altitude_pass, hold_pass, intruder_pass, low_flight, own_pass, pull_pass, time_pass, unit};
-ghost use Rattle.acas_region_curves.specs.Limits.{IsHold, IsPull, IsRate, IsWhole};
+ghost use Rattle.acas_areas.specs.Limits.{IsHold, IsPull, IsRate, IsWhole};
 ghost use Rattle.acas_witness_plans.specs.Plans.{CanBeFlown, IsPlanOf, IsWholePlan};
 ghost use Rattle.acas_witness_search.specs.Surveys.{IsHighPlan, IsPointOf, asked_in, search_of};
 

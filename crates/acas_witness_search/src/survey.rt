@@ -2,12 +2,12 @@
 ghost use Rattle.std.specs.Prelude.{◌*◌, ◌≤◌};
 ghost use Rattle.acas_units.specs.declared.limits.TheConstants.{GREATEST_HALF_HEIGHT};
 ghost use Rattle.acas_units.specs.declared.ticks.TheConstants.{TICKS_PER_FOOT};
-ghost use Rattle.acas_region_curves.specs.Chases.{IsAsked, demand_from};
-ghost use Rattle.acas_region_curves.specs.Limits.{IsEnd};
+ghost use Rattle.acas_areas.specs.Chases.{IsAsked, demand_from};
+ghost use Rattle.acas_areas.specs.Limits.{IsEnd};
 ghost use Rattle.acas_passes.specs.Value.{thinnest};
 
+use acas_areas::BoxState;
 use acas_frac::Frac;
-use acas_region_curves::BoxState;
 
 /// An area under what an advisory asks, with the half height of the puck in ticks, and the times in seconds of the low flight and of
 /// the high flight.

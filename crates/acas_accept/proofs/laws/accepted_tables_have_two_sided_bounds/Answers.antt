@@ -1,4 +1,4 @@
-use Rattle.acas_process.proofs.BoundLaws.{two_sided_bounds}
+use Rattle.acas_policies.proofs.BoundLaws.{two_sided_bounds}
 use Rattle.acas_accept.proofs.laws.accepted_tables_have_two_sided_bounds.Goals as goal
 
 pub returns : goal.returns

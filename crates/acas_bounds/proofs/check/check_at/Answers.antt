@@ -1,10 +1,10 @@
 use Rattle.std.proofs.Common.{ap, ◌∙◌}
 use Rattle.acas_grid.specs.States.{vertex_at}
 use Rattle.acas_grid.proofs.StateNumbers.{IsVertex-vertex_at}
-use Rattle.acas_step.specs.Means.{AreMeansOf}
-use Rattle.acas_bounds.specs.Means.{answer_of, formed_lower, formed_upper}
+use Rattle.acas_means.specs.Means.{AreMeansOf}
+use Rattle.acas_bounds.specs.Means.{AreOfLayer, answer_of, formed_lower, formed_upper}
 use Rattle.acas_bounds.specs.Sound.{bound_fault}
-use Rattle.acas_bounds.proofs.Faults.{AreOfLayer, OfBelow-map, fault_by_means-is, means_by_means, ok_allowed, reports_fault}
+use Rattle.acas_bounds.proofs.Faults.{OfBelow-map, fault_by_means-is, means_by_means, ok_allowed, reports_fault}
 use Rattle.acas_bounds.proofs.check.check_at.Goals as goal
 
 pub returns-clause-value : goal.returns-clause-value

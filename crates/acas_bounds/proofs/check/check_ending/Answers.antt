@@ -1,6 +1,6 @@
 use Rattle.std.proofs.Common.{pos, ◌*ℤ◌, w64, ap, ◌∙◌, arith, rules}
 use Rattle.std.proofs.lemmas.Int.{ints, to_z-of_z}
-use Rattle.acas_process.specs.Bounds.{millionths}
+use Rattle.acas_process.specs.Values.{millionths}
 use Rattle.acas_bounds.specs.Means.{answer_of}
 use Rattle.acas_bounds.specs.Sound.{values_fault}
 use Rattle.acas_bounds.proofs.check.check_ending.Goals as goal

@@ -1,9 +1,9 @@
 use Rattle.std.proofs.Common.{◌∙◌, sym, arith}
 use Rattle.acas_grid.specs.States.{vertex_at}
 use Rattle.acas_grid.proofs.StateNumbers.{IsVertex-vertex_at}
-use Rattle.acas_step.specs.Means.{AreMeansOf}
-use Rattle.acas_bounds.specs.Means.{formed_lower, formed_upper}
-use Rattle.acas_bounds.proofs.Faults.{AreOfLayer, OfBelow-map, fault_by_means-is, may_choose, means_by_means}
+use Rattle.acas_means.specs.Means.{AreMeansOf}
+use Rattle.acas_bounds.specs.Means.{AreOfLayer, formed_lower, formed_upper}
+use Rattle.acas_bounds.proofs.Faults.{OfBelow-map, fault_by_means-is, may_choose, means_by_means}
 use Rattle.acas_bounds.proofs.NoFault.{fault_by_means-is_choice}
 use Rattle.acas_bounds.proofs.check.is_sound_at.Goals as goal
 

@@ -2,7 +2,7 @@ use Rattle.std.proofs.Common.{◌≡◌, ◌<◌, length, drop}
 use Rattle.acas_spec.specs.Model.{choices_at}
 use Rattle.acas_process.specs.Compiled.{least}
 use Rattle.acas_grid.specs.States.{vertex_at}
-use Rattle.acas_step.specs.Choices.{value_by_mean}
+use Rattle.acas_means.specs.Choices.{value_by_mean}
 use Rattle.acas_bounds.specs.Means.{lower_below}
 use Rattle.acas_bounds.proofs.choices.least_lower.Given as goal
 

@@ -1,5 +1,5 @@
 use Rattle.std.proofs.Common.{◌≡◌, ℕ, ◌<◌, false, nat_eq}
-use Rattle.acas_step.specs.Choices.{listed_choice}
+use Rattle.acas_means.specs.Choices.{listed_choice}
 use Rattle.acas_bounds.proofs.choices.scanned_cost.Given as goal
 
 abbrev pub invariant-loop-place : goal.invariant-loop-place

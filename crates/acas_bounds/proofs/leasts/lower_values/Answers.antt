@@ -2,8 +2,8 @@ use Rattle.std.specs.Int.{int_min}
 use Rattle.std.proofs.Common.{◌≡◌, rules, ◌<◌, ◌∙◌, ◌+ℤ◌, w64, pos, get_or, length, ap, arith}
 use Rattle.std.proofs.lemmas.Int.{to_z-of_z}
 use Rattle.std.proofs.lemmas.List.{length-set}
-use Rattle.acas_step.specs.Layer.{value_at}
-use Rattle.acas_step.specs.declared.layer.Side.TheVariants.{Lower}
+use Rattle.acas_means.specs.Layer.{value_at}
+use Rattle.acas_means.specs.declared.layer.Side.TheVariants.{Lower}
 use Rattle.acas_bounds.proofs.LeastValues.{set_first, set_rest}
 use Rattle.acas_bounds.proofs.leasts.lower_values.Goals as goal
 use mir.Val.{SFits}

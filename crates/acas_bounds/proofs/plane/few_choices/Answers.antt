@@ -1,5 +1,5 @@
 use Rattle.std.proofs.Common.{arith}
-use Rattle.acas_step.proofs.ChoiceLists.{choices-few}
+use Rattle.acas_means.proofs.ChoiceLists.{choices-few}
 use Rattle.acas_bounds.proofs.plane.few_choices.Goals as goal
 
 pub returns-clause-few : goal.returns-clause-few

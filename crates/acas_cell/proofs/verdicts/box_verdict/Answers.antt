@@ -1,7 +1,7 @@
 use Rattle.std.proofs.Common.{refl, subst, sym, unsigned_abs}
 use Rattle.acas_frac.specs.Fraction.{Fraction}
 use Rattle.acas_flight.specs.State.{IsInBox}
-use Rattle.acas_region_curves.specs.View.{times_of}
+use Rattle.acas_areas.specs.View.{times_of}
 use Rattle.acas_rulings.specs.declared.flight.Witness.{Witness}
 use Rattle.acas_rulings.specs.Boxes.{audited}
 use Rattle.acas_rulings.specs.Rulings.{IsReported, IsWitnessOfBox}

@@ -1,6 +1,6 @@
 use Rattle.std.proofs.Common.{◌≡◌, ℕ, zero, suc, pos, ◌≤ℤ◌, [], ◌∷◌, Contains, refl, arith, subst}
 use Rattle.std.proofs.lemmas.Int.{ints}
-use Rattle.acas_process.specs.Bounds.{lower_value}
+use Rattle.acas_policies.specs.Bounds.{lower_value}
 use Rattle.acas_examples.specs.Models.{noisy}
 use Rattle.acas_examples.specs.Parts.{minus, vertex}
 use Rattle.acas_examples.specs.Tables.{altered}

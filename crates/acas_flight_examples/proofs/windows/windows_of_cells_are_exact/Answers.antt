@@ -1,7 +1,7 @@
 use Rattle.std.proofs.Common.{ℕ, ◌+◌, ◌*◌, ◌≤◌, ◌<◌, ◌↔◌, arith}
 use Rattle.std.proofs.lemmas.Int.{ints}
 use Rattle.acas_flight.specs.Window.{IsContactTimeOfCell}
-use Rattle.acas_flight_curves.proofs.Windows.{window_of_cell}
+use Rattle.acas_flight_windows.proofs.Windows.{window_of_cell}
 use Rattle.acas_flight_examples.specs.Flown.{small}
 use Rattle.acas_flight_examples.proofs.windows.windows_of_cells_are_exact.Goals as goal
 

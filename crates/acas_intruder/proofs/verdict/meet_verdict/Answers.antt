@@ -4,7 +4,7 @@ use Rattle.acas_frac.specs.Fraction.{Fraction}
 use Rattle.acas_flight.specs.Response.{demand_of}
 use Rattle.acas_flight.specs.Clear.{area_of_box}
 use Rattle.acas_flight_curves.proofs.Models.{demand_can_be_met}
-use Rattle.acas_region_curves.specs.View.{times_of}
+use Rattle.acas_areas.specs.View.{times_of}
 use Rattle.acas_passes.specs.Search.{unit}
 use Rattle.acas_rulings.specs.Boxes.{audited}
 use Rattle.acas_manoeuvre.specs.View.{may_of}

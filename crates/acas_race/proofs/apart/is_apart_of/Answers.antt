@@ -1,5 +1,5 @@
 use Rattle.std.proofs.Common.{◌↔◌, subst, IsTrue}
-use Rattle.acas_region_curves.specs.View.{area_of, demand_in, times_of}
+use Rattle.acas_areas.specs.View.{area_of, demand_in, times_of}
 use Rattle.acas_manoeuvre.specs.Race.{Race, high_race, low_race, turned}
 use Rattle.acas_manoeuvre.specs.Apart.{StaysAbove, StaysBelow}
 use Rattle.acas_manoeuvre_laws.proofs.Stays.{below-turned}

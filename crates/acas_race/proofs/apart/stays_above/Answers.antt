@@ -1,4 +1,4 @@
-use Rattle.acas_region_curves.specs.View.{times_of}
+use Rattle.acas_areas.specs.View.{times_of}
 use Rattle.acas_race.specs.View.{race_in, instant_at}
 use Rattle.acas_manoeuvre_laws.proofs.Stays.{stays-at}
 use Rattle.acas_race.proofs.Tests.{decided}

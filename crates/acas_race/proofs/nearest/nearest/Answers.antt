@@ -1,4 +1,4 @@
-use Rattle.acas_region_curves.specs.View.{times_of}
+use Rattle.acas_areas.specs.View.{times_of}
 use Rattle.acas_race.specs.View.{race_in, instant_at}
 use Rattle.acas_race.proofs.Tests.{in_order, on_window}
 use Rattle.acas_race.proofs.nearest.nearest.Goals as goal

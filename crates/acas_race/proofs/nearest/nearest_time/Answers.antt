@@ -1,4 +1,4 @@
-use Rattle.acas_region_curves.specs.View.{times_of, time_at}
+use Rattle.acas_areas.specs.View.{times_of, time_at}
 use Rattle.acas_race.specs.View.{race_in}
 use Rattle.acas_race.proofs.SameTimes.{least_time-same}
 use Rattle.acas_race.proofs.nearest.nearest_time.Goals as goal

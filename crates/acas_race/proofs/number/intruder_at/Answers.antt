@@ -2,7 +2,7 @@ use Rattle.std.proofs.Common.{◌≡◌, ◌∙◌, ap₂, ◌*◌, ◌≤◌, �
 use Rattle.std.specs.Int.{w64, w128}
 use Rattle.std.proofs.lemmas.Int.{ints}
 use Rattle.acas_flight.proofs.Holding.{held-none}
-use Rattle.acas_region_curves.specs.Sizes.{altitude_size}
+use Rattle.acas_areas.specs.Sizes.{altitude_size}
 use Rattle.acas_units.specs.declared.limits.TheConstants.{GREATEST_CLOSING, GREATEST_LIMIT}
 use Rattle.acas_race.proofs.number.intruder_at.Goals as goal
 

@@ -1,6 +1,6 @@
 use Rattle.std.proofs.Common.{subst}
 use Rattle.acas_flight.specs.Response.{Demand}
-use Rattle.acas_region_curves.specs.View.{area_of, times_of}
+use Rattle.acas_areas.specs.View.{area_of, times_of}
 use Rattle.acas_manoeuvre.specs.Least.{IsFirstLeastTime}
 use Rattle.acas_manoeuvre.specs.Race.{Race, high_race, low_race, turned}
 use Rattle.acas_manoeuvre.specs.View.{may_of}

@@ -1,6 +1,6 @@
 use Rattle.std.proofs.Common.{ℕ, arith}
 use Rattle.acas_manoeuvre.specs.Turns.{Instant, turning, turned_before, turns_after}
-use Rattle.acas_region.proofs.NearestTimes.{before_end}
+use Rattle.acas_flight_windows.proofs.NearestTimes.{before_end}
 use Rattle.acas_race.specs.View.{instant_at}
 use Rattle.acas_race.proofs.turn.clipped.Goals as goal
 

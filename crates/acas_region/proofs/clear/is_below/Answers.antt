@@ -1,4 +1,4 @@
-use Rattle.acas_region_curves.specs.View.{area_of, demand_in, border_in, times_of}
+use Rattle.acas_areas.specs.View.{area_of, demand_in, border_in, times_of}
 use Rattle.acas_region.proofs.Clears.{below_by}
 use Rattle.acas_region.proofs.clear.is_below.Goals as goal
 

@@ -3,7 +3,7 @@ use Rattle.std.proofs.lemmas.Int.{ints}
 use Rattle.acas_flight.specs.Response.{demand_of}
 use Rattle.acas_flight_curves.proofs.Models.{demand_can_be_met}
 use Rattle.acas_flight_curves.proofs.Safe.{clear_areas_are_safe}
-use Rattle.acas_region_curves.specs.View.{area_of, demand_in, times_of}
+use Rattle.acas_areas.specs.View.{area_of, demand_in, times_of}
 use Rattle.acas_region.proofs.Clears.{clear_by}
 use Rattle.acas_region.proofs.clear.is_clear.Goals as goal
 

@@ -1,4 +1,4 @@
-use Rattle.acas_region_curves.specs.View.{times_of}
+use Rattle.acas_areas.specs.View.{times_of}
 use Rattle.acas_region.proofs.Clears.{both_decide, first_decides}
 use Rattle.acas_region.proofs.clear.is_over_ends.Goals as goal
 

@@ -1,4 +1,4 @@
-use Rattle.acas_region_curves.specs.View.{times_of}
+use Rattle.acas_areas.specs.View.{times_of}
 use Rattle.acas_region.proofs.Clears.{nearest_decides}
 use Rattle.acas_region.proofs.clear.is_over_nearest.Goals as goal
 

@@ -1,7 +1,7 @@
 use Rattle.std.proofs.Common.{◌≡◌, ◌∙◌, sym, arith, to_z, of_z}
 use Rattle.std.specs.Int.{w64}
 use Rattle.std.proofs.lemmas.Int.{ints}
-use Rattle.acas_region_curves.specs.Chases.{demand_from}
+use Rattle.acas_areas.specs.Chases.{demand_from}
 use Rattle.acas_region_curves.proofs.Climbs.{high_over, high_from}
 use Rattle.acas_region.proofs.demand.highest_of.Goals as goal
 

@@ -1,6 +1,6 @@
-use Rattle.acas_region_curves.specs.View.{demand_in, times_of, area_of}
+use Rattle.acas_areas.specs.View.{demand_in, times_of, area_of}
 use Rattle.acas_flight_curves.proofs.Gaps.{high_extreme_of}
-use Rattle.acas_region_curves.proofs.LeastGaps.{high_gap}
+use Rattle.acas_flight_windows.proofs.LeastGaps.{high_gap}
 use Rattle.acas_region.proofs.extreme.high_of.Goals as goal
 
 pub returns-clause-greatest : goal.returns-clause-greatest

@@ -1,4 +1,4 @@
-use Rattle.acas_region_curves.specs.View.{demand_in, times_of, area_of}
+use Rattle.acas_areas.specs.View.{demand_in, times_of, area_of}
 use Rattle.acas_flight_curves.proofs.Gaps.{low_extreme_of, low_gap_of}
 use Rattle.acas_region.proofs.extreme.low_of.Goals as goal
 

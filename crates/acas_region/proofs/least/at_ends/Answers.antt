@@ -1,6 +1,6 @@
 use Rattle.std.proofs.Common.{◌∙◌, sym}
-use Rattle.acas_region_curves.specs.View.{times_of}
-use Rattle.acas_region_curves.proofs.LeastGaps.{first_of_ends, last_of_ends}
+use Rattle.acas_areas.specs.View.{times_of}
+use Rattle.acas_flight_windows.proofs.LeastGaps.{first_of_ends, last_of_ends}
 use Rattle.acas_region.proofs.least.at_ends.Goals as goal
 
 pub returns-then-is_at_most-clause-least : goal.returns-then-is_at_most-clause-least

@@ -1,7 +1,8 @@
-use Rattle.acas_region_curves.specs.View.{times_of, time_at}
+use Rattle.acas_areas.specs.View.{times_of, time_at}
 use Rattle.acas_flight.specs.Border.{border_of}
-use Rattle.acas_region_curves.proofs.LeastGaps.{natural, least_of_nearest}
-use Rattle.acas_region.proofs.NearestTimes.{nearest_same}
+use Rattle.acas_flight_curves.proofs.Numbers.{natural}
+use Rattle.acas_flight_windows.proofs.LeastGaps.{least_of_nearest}
+use Rattle.acas_flight_windows.proofs.NearestTimes.{nearest_same}
 use Rattle.acas_region.proofs.least.at_nearest.Goals as goal
 
 pub returns-clause-least : goal.returns-clause-least

@@ -1,7 +1,7 @@
 use Rattle.std.proofs.Common.{◌≡◌, pos, neg_ℤ, ◌-ℤ◌, to_z, of_z, arith}
 use Rattle.std.specs.Int.{w128}
 use Rattle.std.proofs.lemmas.Int.{ints}
-use Rattle.acas_region_curves.proofs.LeastGaps.{opposite, opposite_reduces}
+use Rattle.acas_flight_windows.proofs.LeastGaps.{opposite, opposite_reduces}
 use Rattle.acas_region.proofs.numbers.negate.Goals as goal
 
 pub new-requires-clause-within : goal.new-requires-clause-within

@@ -1,5 +1,5 @@
 use Rattle.std.proofs.Common.{◌+◌, ◌*◌, arith}
-use Rattle.acas_region_curves.proofs.Ends as ends
+use Rattle.acas_flight_windows.proofs.Ends as ends
 use Rattle.acas_region.proofs.window.through.Goals as goal
 
 pub invariant_of-result : goal.invariant_of-result

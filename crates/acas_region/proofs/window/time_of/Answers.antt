@@ -1,7 +1,7 @@
 use Rattle.std.proofs.Common.{◌≡◌, arith, pos, to_z}
 use Rattle.std.specs.Int.{w128}
 use Rattle.std.proofs.lemmas.Int.{ints}
-use Rattle.acas_region_curves.proofs.Ends.{end_of}
+use Rattle.acas_flight_windows.proofs.Ends.{end_of}
 use Rattle.acas_region.proofs.window.time_of.Goals as goal
 
 pub returns-clause-end : goal.returns-clause-end

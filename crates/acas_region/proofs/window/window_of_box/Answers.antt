@@ -1,8 +1,8 @@
 use Rattle.std.proofs.Common.{◌≡◌, ◌<◌, ◌≤◌, pos, arith}
 use Rattle.std.proofs.lemmas.Int.{ints}
-use Rattle.acas_region_curves.specs.Limits.{interval_of}
-use Rattle.acas_region_curves.specs.View.{times_of}
-use Rattle.acas_region_curves.proofs.Ends.{box_window}
+use Rattle.acas_areas.specs.Limits.{interval_of}
+use Rattle.acas_areas.specs.View.{times_of}
+use Rattle.acas_flight_windows.proofs.Ends.{box_window}
 use Rattle.acas_region.proofs.window.window_of_box.Goals as goal
 
 pub returns : goal.returns

@@ -2,7 +2,7 @@ use Rattle.std.proofs.Common.{◌*◌, ◌≤◌, arith, mul-le-mul}
 use Rattle.std.proofs.lemmas.Int.{ints}
 use Rattle.acas_region_curves.proofs.curve.den_of.Goals as goal
 use Rattle.acas_units.specs.declared.limits.TheConstants.{GREATEST_LIMIT}
-use Rattle.acas_region_curves.specs.declared.fineness.TheConstants.{RATE_PARTS, PULL_PARTS, TIME_PARTS, HOLD_PARTS}
+use Rattle.acas_areas.specs.declared.fineness.TheConstants.{RATE_PARTS, PULL_PARTS, TIME_PARTS, HOLD_PARTS}
 
 pub overflow_mul-result-3 : goal.overflow_mul-result-3
 overflow_mul-result-3 c =

@@ -2,7 +2,7 @@ use Rattle.std.proofs.Common.{ℕ, ◌≡◌, ◌∙◌, arith, ◌*◌, ℤ, po
 use Rattle.std.specs.Int.{w64}
 use Rattle.std.proofs.lemmas.Int.{ints}
 use Rattle.acas_frac.specs.Fraction.{Fraction}
-use Rattle.acas_region_curves.specs.Limits.{IsHeldCurve}
+use Rattle.acas_areas.specs.Limits.{IsHeldCurve}
 use Rattle.acas_region_curves.specs.Scaling.{IsScaling}
 use Rattle.acas_region_curves.proofs.Scaling.{scaling}
 use Rattle.acas_region_curves.proofs.curve.over_common.Goals as goal

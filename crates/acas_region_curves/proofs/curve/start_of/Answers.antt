@@ -4,7 +4,7 @@ use Rattle.std.proofs.lemmas.Int.{ints, unsigned_abs-mul}
 use Rattle.acas_region_curves.proofs.curve.start_of.Goals as goal
 use Rattle.acas_region_curves.proofs.Products.{whole64}
 use Rattle.acas_units.specs.declared.limits.TheConstants.{GREATEST_RATE}
-use Rattle.acas_region_curves.specs.declared.fineness.TheConstants.{RATE_PARTS, PULL_PARTS, TIME_PARTS, HOLD_PARTS}
+use Rattle.acas_areas.specs.declared.fineness.TheConstants.{RATE_PARTS, PULL_PARTS, TIME_PARTS, HOLD_PARTS}
 
 bound : (a : ℤ) (n : ℕ) → unsigned_abs a ≤ unsigned_abs GREATEST_RATE * RATE_PARTS → n ≤ RATE_PARTS * (PULL_PARTS * (TIME_PARTS * HOLD_PARTS)) → unsigned_abs (a *ℤ pos n) ≤ 10 ^ 18
 bound a n h k = rw (unsigned_abs-mul a (pos n)) (omega (arith, mul-le-mul h k))

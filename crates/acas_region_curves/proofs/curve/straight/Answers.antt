@@ -3,7 +3,7 @@ use Rattle.std.specs.Int.{w128}
 use Rattle.std.proofs.lemmas.Int.{ints, unsigned_abs-mul}
 use Rattle.acas_frac.proofs.IntRing.{at, num, ◌⊗◌, ring}
 use Rattle.acas_region_curves.proofs.curve.straight.Goals as goal
-use Rattle.acas_region_curves.specs.Sizes.{rate_size, way_size, gain_size}
+use Rattle.acas_areas.specs.Sizes.{rate_size, way_size, gain_size}
 
 bound : (a : ℤ) (n : ℕ) → unsigned_abs a ≤ rate_size → n ≤ gain_size → unsigned_abs ((pos 2 *ℤ a) *ℤ pos n) ≤ 10 ^ 25
 bound a n h k =

@@ -4,7 +4,7 @@ use Rattle.acas_rulings.specs.Boxes.{AuditedBox}
 use Rattle.acas_report_lines.specs.Regions.{IsSaidAt}
 use Rattle.acas_report_lines.specs.Text.{line_of_box}
 use Rattle.acas_report_lines.specs.declared.counts.Which.TheVariants as which
-use Rattle.acas_report_lines.proofs.Carry.{counted_one, wrote_name, broke_name, prints_shown, broke_shown}
+use Rattle.acas_report_lines.proofs.OneLine.{counted_one, wrote_name, broke_name, prints_shown, broke_shown}
 use Rattle.acas_report_lines.proofs.boxes.write_box.Goals as goal
 
 pub returns-in_err-print-clause-err : goal.returns-in_err-print-clause-err

@@ -4,7 +4,7 @@ use Rattle.acas_report_lines.specs.Plan.{box_plan}
 use Rattle.acas_report_lines.specs.Regions.{IsSaidAt}
 use Rattle.acas_report_lines.specs.Text.{line_of_box}
 use Rattle.acas_report_lines.specs.declared.counts.Which.TheVariants as which
-use Rattle.acas_report_lines.proofs.Carry.{room_single}
+use Rattle.acas_report_lines.proofs.OneLine.{room_single}
 use Rattle.acas_report_lines.proofs.Steps.{wrote_none, wrote_more, broke_more, room_left}
 use Rattle.acas_report_lines.proofs.boxes.write_boxes.Goals as goal
 

@@ -1,4 +1,4 @@
-use Rattle.acas_process.specs.Allowed.{SaysAdvisories}
+use Rattle.acas_policies.specs.Allowed.{SaysAdvisories}
 use Rattle.acas_risk.specs.Plans.{policy_of}
 use Rattle.acas_risk.proofs.Bounds.{bounds_chances, if_ok}
 use Rattle.acas_risk.proofs.chances.chance.Goals as goal

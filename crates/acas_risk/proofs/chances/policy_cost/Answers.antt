@@ -1,4 +1,4 @@
-use Rattle.acas_process.specs.Allowed.{SaysAdvisories}
+use Rattle.acas_policies.specs.Allowed.{SaysAdvisories}
 use Rattle.acas_risk.specs.Plans.{advised}
 use Rattle.acas_risk.proofs.Bounds.{bounds_costs, if_ok}
 use Rattle.acas_risk.proofs.chances.policy_cost.Goals as goal

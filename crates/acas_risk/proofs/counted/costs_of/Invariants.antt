@@ -1,5 +1,5 @@
 use Rattle.std.proofs.Common.{◌≡◌, ℕ, ◌<◌, length}
-use Rattle.acas_process.specs.Bounds.{millionths}
+use Rattle.acas_process.specs.Values.{millionths}
 use Rattle.acas_process.specs.Cost.{cost_of}
 use Rattle.acas_risk.specs.Counts.{second_cost}
 use Rattle.acas_risk.proofs.counted.costs_of.Given as goal

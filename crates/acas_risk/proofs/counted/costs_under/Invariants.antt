@@ -1,6 +1,6 @@
 use Rattle.std.proofs.Common.{◌≡◌, ℕ, ◌<◌, ◌≤◌, pos, drop, get_or, length}
 use Rattle.acas_spec.specs.Model.{choices_at}
-use Rattle.acas_process.specs.Bounds.{millionths}
+use Rattle.acas_process.specs.Values.{millionths}
 use Rattle.acas_process.specs.Cost.{cost_among}
 use Rattle.acas_risk.proofs.counted.costs_under.Given as goal
 

@@ -1,6 +1,6 @@
 use Rattle.std.proofs.Common.{◌≡◌, ◌+◌, length, ap, ◌∙◌, arith}
 use Rattle.acas_spec.specs.Model.{GridData}
-use Rattle.acas_step.specs.Columns.{vertex_in}
+use Rattle.acas_means.specs.Columns.{vertex_in}
 use Rattle.acas_risk.specs.Plans.{policy_of}
 use Rattle.acas_risk.proofs.Written.{altitude-below, column_next, column_of_vertex}
 use Rattle.acas_risk.proofs.layer.put_column.Goals as goal

@@ -1,7 +1,7 @@
 use Rattle.std.proofs.Common.{◌≡◌, ◌≢◌, ℕ, ◌+◌, ◌<◌, length}
 use Rattle.acas_spec.specs.Model.{states}
-use Rattle.acas_step.specs.Columns.{pairs_at}
-use Rattle.acas_step.specs.Layer.{pair_at}
+use Rattle.acas_means.specs.Columns.{pairs_at}
+use Rattle.acas_means.specs.Layer.{pair_at}
 use Rattle.acas_risk.specs.Layers.{IsPlanned, altitude_at, column_at}
 use Rattle.acas_risk.specs.Plans.{policy_of}
 use Rattle.acas_risk.proofs.layer.put_column.Given as goal

@@ -1,6 +1,6 @@
 use Rattle.std.proofs.Common.{◌≡◌, ℕ, ◌<◌, length}
 use Rattle.acas_spec.specs.Model.{states}
-use Rattle.acas_step.specs.Layer.{pair_at}
+use Rattle.acas_means.specs.Layer.{pair_at}
 use Rattle.acas_risk.proofs.Valued.{IsEnding}
 use Rattle.acas_risk.proofs.layer.put_endings.Given as goal
 

@@ -1,7 +1,7 @@
 use Rattle.std.proofs.Common.{◌+◌, ap, arith}
 use Rattle.acas_spec.specs.Model.{GridData}
 use Rattle.acas_grid.specs.States.{vertex_at}
-use Rattle.acas_step.specs.Columns.{columns, pairs_at, vertex_in}
+use Rattle.acas_means.specs.Columns.{columns, pairs_at, vertex_in}
 use Rattle.acas_risk.specs.Plans.{policy_of}
 use Rattle.acas_risk.proofs.Layers.{leave_room, over_next}
 use Rattle.acas_risk.proofs.layer.put_over.Goals as goal

@@ -7,7 +7,7 @@ use Rattle.acas_spec.specs.Model.{GridData, states, vertices}
 use Rattle.acas_grid.specs.Grid.{state_number}
 use Rattle.acas_grid.proofs.StateNumbers.{state_present-below, state_present-state_number}
 use Rattle.acas_grid.proofs.Vertices.{row_below}
-use Rattle.acas_step.specs.declared.layer.Side.TheVariants.{Lower, Upper}
+use Rattle.acas_means.specs.declared.layer.Side.TheVariants.{Lower, Upper}
 use Rattle.acas_risk.specs.Counts.{second_cost}
 use Rattle.acas_risk.specs.Plans.{policy_of}
 use Rattle.acas_risk.proofs.Written.{other_vertex, planned, vertex_next}

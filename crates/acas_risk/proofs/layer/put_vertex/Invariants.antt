@@ -1,7 +1,7 @@
 use Rattle.std.proofs.Common.{◌≡◌, ◌≢◌, ℕ, ◌+◌, ◌%◌, ◌<◌, length}
 use Rattle.acas_spec.specs.Model.{states, vertices}
 use Rattle.acas_grid.specs.States.{state_present}
-use Rattle.acas_step.specs.Layer.{pair_at}
+use Rattle.acas_means.specs.Layer.{pair_at}
 use Rattle.acas_risk.specs.Layers.{IsPlanned}
 use Rattle.acas_risk.specs.Plans.{policy_of}
 use Rattle.acas_risk.proofs.layer.put_vertex.Given as goal

@@ -3,8 +3,8 @@ use Rattle.std.specs.declared.alloc.Global.{Global}
 use Rattle.std.proofs.Common.{◌≡◌, ℕ, ◌+◌, ◌*◌, ◌^◌, ◌≤◌, List, length, drop, ap, sym, subst, ◌∙◌, arith}
 use Rattle.acas_spec.specs.Model.{GridData, states}
 use Rattle.acas_units.specs.declared.pair.Pair.{Pair}
-use Rattle.acas_step.specs.Columns.{columns}
-use Rattle.acas_step.specs.Layer.{AreWithin}
+use Rattle.acas_means.specs.Columns.{columns}
+use Rattle.acas_means.specs.Layer.{AreWithin}
 use Rattle.acas_risk.specs.Counts.{model_counting}
 use Rattle.acas_risk.specs.Layers.{AreOver}
 use Rattle.acas_risk.specs.Pairs.{ArePairsOf}

@@ -1,7 +1,7 @@
 use Rattle.std.proofs.Common.{◌≡◌, ℕ, ◌+◌, ◌*◌, ◌^◌, ◌<◌, length}
 use Rattle.acas_spec.specs.Model.{states}
-use Rattle.acas_step.specs.Layer.{AreWithin}
-use Rattle.acas_step.specs.declared.layer.Side.{Side}
+use Rattle.acas_means.specs.Layer.{AreWithin}
+use Rattle.acas_means.specs.declared.layer.Side.{Side}
 use Rattle.acas_risk.specs.Counts.{model_counting}
 use Rattle.acas_risk.specs.Layers.{given_at}
 use Rattle.acas_risk.specs.Pairs.{ArePairsOf}

@@ -3,7 +3,7 @@ use Rattle.std.specs.Int.{w64}
 use Rattle.std.proofs.lemmas.Int.{ints}
 use Rattle.acas_units.specs.declared.limits.TheConstants.{GREATEST_LIMIT}
 use Rattle.acas_region_curves.proofs.Products.{small, whole64}
-use Rattle.acas_region_curves.specs.Sizes.{altitude_size}
+use Rattle.acas_areas.specs.Sizes.{altitude_size}
 use Rattle.acas_safeable.proofs.climbs.scaled.Goals as goal
 
 pub returns-clause-value : goal.returns-clause-value

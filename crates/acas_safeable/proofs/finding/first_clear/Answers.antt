@@ -4,7 +4,7 @@ use Rattle.acas_spec.specs.Model.{choices_at}
 use Rattle.acas_spec.specs.declared.parts.Choice.{Choice}
 use Rattle.acas_flight.specs.Clear.{IsClear}
 use Rattle.acas_flight.specs.Response.{demand_of}
-use Rattle.acas_region_curves.specs.View.{area_of, times_of}
+use Rattle.acas_areas.specs.View.{area_of, times_of}
 use Rattle.acas_safeable.proofs.Firsts.{first_here, passed_all, passed_more}
 use Rattle.acas_safeable.proofs.finding.first_clear.Goals as goal
 use Rattle.acas_safeable.proofs.finding.first_clear.Goals.{else-choice-ne0-via-then-choice-ne0+else-is_clear, else-choice-ne0-via-else-choice-ne0}

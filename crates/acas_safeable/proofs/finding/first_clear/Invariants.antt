@@ -2,7 +2,7 @@ use Rattle.std.proofs.Common.{pos}
 use Rattle.acas_spec.specs.Model.{choices_at}
 use Rattle.acas_flight.specs.Clear.{IsClear}
 use Rattle.acas_flight.specs.Response.{demand_of}
-use Rattle.acas_region_curves.specs.View.{area_of, times_of}
+use Rattle.acas_areas.specs.View.{area_of, times_of}
 use Rattle.acas_safeable.proofs.Firsts.{IsPassed}
 use Rattle.acas_safeable.proofs.finding.first_clear.Given as goal
 

@@ -1,4 +1,4 @@
-use Rattle.acas_region_curves.specs.View.{area_of, times_of}
+use Rattle.acas_areas.specs.View.{area_of, times_of}
 use Rattle.acas_safeable.specs.View.{cell_of}
 use Rattle.acas_safeable.proofs.Shown.{found_standing}
 use Rattle.acas_safeable.proofs.finding.standing.Goals as goal

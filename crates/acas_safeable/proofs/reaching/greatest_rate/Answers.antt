@@ -1,7 +1,7 @@
 use Rattle.std.proofs.Common.{arith}
 use Rattle.std.proofs.lemmas.Int.{ints}
-use Rattle.acas_region_curves.specs.Limits.{interval_of}
-use Rattle.acas_region_curves.specs.View.{demand_in}
+use Rattle.acas_areas.specs.Limits.{interval_of}
+use Rattle.acas_areas.specs.View.{demand_in}
 use Rattle.acas_safeable.proofs.RateEnds.{greatest_up_to_hi}
 use Rattle.acas_safeable.proofs.reaching.greatest_rate.Goals as goal
 

@@ -3,10 +3,10 @@ use Rattle.std.specs.Int.{w128, w64}
 use Rattle.std.proofs.lemmas.Int.{ints}
 use Rattle.acas_flight.specs.Parts.{CanBeMet}
 use Rattle.acas_flight.specs.Response.{Demand}
-use Rattle.acas_region_curves.specs.Chases.{IsAsked}
-use Rattle.acas_region_curves.specs.Limits.{interval_of}
-use Rattle.acas_region_curves.specs.Sizes.{altitude_size}
-use Rattle.acas_region_curves.specs.View.{demand_in}
+use Rattle.acas_areas.specs.Chases.{IsAsked}
+use Rattle.acas_areas.specs.Limits.{interval_of}
+use Rattle.acas_areas.specs.Sizes.{altitude_size}
+use Rattle.acas_areas.specs.View.{demand_in}
 use Rattle.acas_safeable.proofs.Ordered.{ends_ordered}
 use Rattle.acas_safeable.proofs.reaching.reached_from.Goals as goal
 

@@ -1,6 +1,6 @@
 use Rattle.std.proofs.Common.{ap, arith}
 use Rattle.acas_spec.specs.Model.{GridData, states}
-use Rattle.acas_step.proofs.TableMeans.{means_written}
+use Rattle.acas_means.proofs.TableMeans.{means_written}
 use Rattle.acas_step.proofs.means.fill_means.Goals as goal
 
 pub returns-clause-means : goal.returns-clause-means

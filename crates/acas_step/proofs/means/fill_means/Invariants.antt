@@ -1,7 +1,7 @@
 use Rattle.std.proofs.Common.{ℕ, ◌<◌}
 use Rattle.acas_grid.specs.States.{state_present, state_vertex}
-use Rattle.acas_step.specs.Layer.{pair_at}
-use Rattle.acas_step.specs.Means.{AreMeansAt}
+use Rattle.acas_means.specs.Layer.{pair_at}
+use Rattle.acas_means.specs.Means.{AreMeansAt}
 use Rattle.acas_step.proofs.means.fill_means.Given as goal
 
 abbrev pub invariant-loop-state : goal.invariant-loop-state

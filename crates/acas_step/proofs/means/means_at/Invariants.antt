@@ -1,8 +1,8 @@
 use Rattle.std.proofs.Common.{◌≡◌, ℕ, ◌<◌, length}
 use Rattle.acas_grid.specs.States.{vertex_at}
-use Rattle.acas_step.specs.Layer.{AreWithin, pair_at}
-use Rattle.acas_step.specs.Means.{AreMeansAt}
-use Rattle.acas_step.specs.declared.layer.Side.{Side}
+use Rattle.acas_means.specs.Layer.{AreWithin, pair_at}
+use Rattle.acas_means.specs.Means.{AreMeansAt}
+use Rattle.acas_means.specs.declared.layer.Side.{Side}
 use Rattle.acas_step.proofs.means.means_at.Given as goal
 
 abbrev pub invariant-loop-advisory : goal.invariant-loop-advisory

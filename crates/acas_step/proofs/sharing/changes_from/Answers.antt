@@ -1,8 +1,8 @@
 use Rattle.std.proofs.Common.{◌≡◌, ◌<◌, ℕ, ℤ, pos, length, to_z, of_z, w64, ◌∙◌, arith, rules}
 use Rattle.std.proofs.lemmas.Int.{to_z-of_z}
 use Rattle.std.proofs.lemmas.List.{length-set}
-use Rattle.acas_step.specs.Reach.{change_from}
-use Rattle.acas_step.proofs.Written.{each_written}
+use Rattle.acas_means.specs.Reach.{change_from}
+use Rattle.acas_means.proofs.Written.{each_written}
 use Rattle.acas_step.proofs.sharing.changes_from.Goals as goal
 use mir.Val.{SFits}
 

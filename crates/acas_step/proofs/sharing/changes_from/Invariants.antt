@@ -1,5 +1,5 @@
 use Rattle.std.proofs.Common.{◌≡◌, ℕ, ◌<◌, pos, length, get_or}
-use Rattle.acas_step.specs.Reach.{change_from}
+use Rattle.acas_means.specs.Reach.{change_from}
 use Rattle.acas_step.proofs.sharing.changes_from.Given as goal
 
 abbrev pub invariant-loop-advisory : goal.invariant-loop-advisory

@@ -5,7 +5,7 @@ use Rattle.acas_grid.specs.Grid.{vertex_number}
 use Rattle.acas_process.specs.Step.{grid_product, over_vertices, share}
 use Rattle.acas_process.proofs.MeanLaws.{grid_product_pos}
 use Rattle.acas_step.specs.Corners.{corner_sum}
-use Rattle.acas_step.specs.Layer.{value_at}
+use Rattle.acas_means.specs.Layer.{value_at}
 use Rattle.acas_step.proofs.Quotients.{quotient_fits, quotient_is}
 use Rattle.acas_step.proofs.values.interpolated.Goals as goal
 use mir.Syntax.{w128}

@@ -5,12 +5,12 @@ use Rattle.acas_spec.specs.declared.place.Point.{Point}
 use Rattle.acas_spec.specs.declared.place.Vertex.{Vertex}
 use Rattle.acas_grid.specs.Grid.{state_number, vertex_number}
 use Rattle.acas_grid.specs.States.{vertex_at}
-use Rattle.acas_process.specs.Bounds.{interpolated}
+use Rattle.acas_process.specs.Values.{interpolated}
 use Rattle.acas_process.specs.Step.{moved, sigma_weight}
 use Rattle.acas_process.specs.Sums.{sum_below}
 use Rattle.acas_process.proofs.SizeLaws.{mean_bounded}
-use Rattle.acas_step.specs.Layer.{layer_values}
-use Rattle.acas_step.proofs.NumberedStates.{state_number-below}
+use Rattle.acas_means.specs.Layer.{layer_values}
+use Rattle.acas_means.proofs.NumberedStates.{state_number-below}
 use Rattle.acas_step.proofs.Quotients.{quotient_fits}
 use Rattle.acas_step.proofs.SigmaSteps.{IsTerm, mean_fits, mean_high, mean_low, mean_step, no_sigma}
 use Rattle.acas_step.proofs.values.mean_by.Goals as goal

@@ -1,8 +1,8 @@
 use Rattle.std.proofs.Common.{pos, ◌*ℤ◌}
-use Rattle.acas_process.specs.Bounds.{interpolated}
+use Rattle.acas_process.specs.Values.{interpolated}
 use Rattle.acas_process.specs.Step.{moved, sigma_weight}
 use Rattle.acas_grid.specs.States.{vertex_at}
-use Rattle.acas_step.specs.Layer.{layer_values}
+use Rattle.acas_means.specs.Layer.{layer_values}
 use Rattle.acas_step.proofs.SigmaSteps.{IsMeanSoFar}
 use Rattle.acas_step.proofs.values.mean_by.Given as goal
 

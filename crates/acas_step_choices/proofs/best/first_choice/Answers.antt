@@ -4,9 +4,9 @@ use borrow.Author.Count.{below_more}
 use Rattle.acas_spec.specs.Model.{choices_at}
 use Rattle.acas_spec.specs.declared.parts.Choice.{Choice}
 use Rattle.acas_process.specs.Compiled.{least}
-use Rattle.acas_step.specs.Choices.{listed_choice, no_choice, value_by_mean}
-use Rattle.acas_step.specs.Layer.{value_at}
-use Rattle.acas_step.specs.declared.layer.Side.TheVariants.{Upper}
+use Rattle.acas_means.specs.Choices.{listed_choice, no_choice, value_by_mean}
+use Rattle.acas_means.specs.Layer.{value_at}
+use Rattle.acas_means.specs.declared.layer.Side.TheVariants.{Upper}
 use Rattle.acas_step_choices.proofs.LeastSoFar.{first_of, one_more}
 use Rattle.acas_step_choices.proofs.best.first_choice.Goals as goal
 use mir.Val.{SFits}

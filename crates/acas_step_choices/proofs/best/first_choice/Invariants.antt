@@ -1,9 +1,9 @@
 use Rattle.std.proofs.Common.{◌≢◌, ℕ, ◌-◌, ◌<◌}
 use Rattle.acas_spec.specs.Model.{choices_at}
 use Rattle.acas_process.specs.Compiled.{least}
-use Rattle.acas_step.specs.Choices.{listed_choice, value_by_mean}
-use Rattle.acas_step.specs.Layer.{value_at}
-use Rattle.acas_step.specs.declared.layer.Side.TheVariants.{Upper}
+use Rattle.acas_means.specs.Choices.{listed_choice, value_by_mean}
+use Rattle.acas_means.specs.Layer.{value_at}
+use Rattle.acas_means.specs.declared.layer.Side.TheVariants.{Upper}
 use Rattle.acas_step_choices.proofs.best.first_choice.Given as goal
 
 abbrev pub invariant-loop-place : goal.invariant-loop-place

@@ -1,7 +1,7 @@
 use Rattle.std.proofs.Common.{◌≡◌, ℕ, ℤ, ◌+ℤ◌, ap, ◌∙◌, rules, w64, arith}
 use Rattle.std.proofs.lemmas.Int.{to_z-of_z}
-use Rattle.acas_step.specs.Layer.{value_at}
-use Rattle.acas_step.specs.declared.layer.Side.TheVariants.{Lower, Upper}
+use Rattle.acas_means.specs.Layer.{value_at}
+use Rattle.acas_means.specs.declared.layer.Side.TheVariants.{Lower, Upper}
 use Rattle.acas_step_choices.proofs.best.valued_choice.Goals as goal
 use mir.Val.{SFits}
 

@@ -2,7 +2,7 @@ use Rattle.std.proofs.Common.{◌≡◌, ◌+◌, List, length, rules, subst, sy
 use Rattle.acas_spec.specs.Model.{choices_at}
 use Rattle.acas_units.specs.declared.pair.Entry.{Entry}
 use Rattle.acas_step_choices.specs.Best.{IsBest}
-use Rattle.acas_step.specs.Columns.{pairs_at}
+use Rattle.acas_means.specs.Columns.{pairs_at}
 use Rattle.acas_step_choices.proofs.BestEntries.{best_under_two}
 use Rattle.acas_step_choices.proofs.entries.write_two.Goals as goal
 

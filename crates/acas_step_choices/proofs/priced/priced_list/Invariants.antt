@@ -1,5 +1,5 @@
 use Rattle.std.proofs.Common.{◌≡◌, ℕ, ◌<◌, length, get_or}
-use Rattle.acas_step.specs.Choices.{listed_choice}
+use Rattle.acas_means.specs.Choices.{listed_choice}
 use Rattle.acas_step_choices.specs.Priced.{IsPriced, no_priced}
 use Rattle.acas_step_choices.proofs.priced.priced_list.Given as goal
 

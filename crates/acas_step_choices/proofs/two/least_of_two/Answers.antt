@@ -1,7 +1,7 @@
 use Rattle.std.proofs.Common.{ℕ, ◌<◌, List, length, subst, arith}
 use Rattle.acas_spec.specs.Model.{choices_at}
 use Rattle.acas_units.specs.declared.pair.Pair.{Pair}
-use Rattle.acas_step.specs.Choices.{listed_choice}
+use Rattle.acas_means.specs.Choices.{listed_choice}
 use Rattle.acas_step_choices.specs.Best.{IsValued}
 use Rattle.acas_step_choices.specs.Priced.{priced_at}
 use Rattle.acas_step_choices.proofs.LeastSoFar.{IsLesser, least_next}

@@ -2,7 +2,7 @@ use Rattle.std.proofs.Common.{◌≡◌, ℕ, ◌+◌, ◌*◌, ◌<◌, length,
 use Rattle.std.proofs.lemmas.List.{length-set}
 use Rattle.acas_spec.specs.Model.{GridData}
 use Rattle.acas_grid.specs.States.{vertex_at}
-use Rattle.acas_step.specs.Columns.{vertex_in}
+use Rattle.acas_means.specs.Columns.{vertex_in}
 use Rattle.acas_step_narrow.specs.Narrow.{AreRaisedSums, weights_below}
 use Rattle.acas_step_narrow.specs.Raised.{AreRaisedWithin, raised_in}
 use Rattle.acas_step_narrow.specs.declared.raised.Raised.{Raised}

@@ -2,12 +2,12 @@ use Rattle.std.proofs.Common.{◌≡◌, ℕ, ◌+◌, ◌*◌, ◌<◌, ◌≤�
 use Rattle.acas_spec.specs.Model.{states, vertices}
 use Rattle.acas_grid.specs.States.{vertex_at}
 use Rattle.acas_units.specs.declared.pair.Pair.{Pair}
-use Rattle.acas_step.specs.Columns.{vertex_in}
+use Rattle.acas_means.specs.Columns.{vertex_in}
 use Rattle.acas_step_narrow.specs.ColumnBlends.{AreBlends, AreColumnSums}
-use Rattle.acas_step.specs.Layer.{AreWithin}
+use Rattle.acas_means.specs.Layer.{AreWithin}
 use Rattle.acas_step_narrow.specs.Narrow.{AreRaisedSums, weights_below}
 use Rattle.acas_step_narrow.specs.Raised.{AreRaisedWithin, raised_in}
-use Rattle.acas_step.specs.declared.layer.Side.TheVariants.{Upper, Lower}
+use Rattle.acas_means.specs.declared.layer.Side.TheVariants.{Upper, Lower}
 use Rattle.acas_step_columns.proofs.column_sums.add_points.Given as goal
 
 abbrev pub invariant-loop-i : goal.invariant-loop-i

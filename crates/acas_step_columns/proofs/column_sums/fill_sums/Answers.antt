@@ -2,7 +2,7 @@ use Rattle.std.proofs.Common.{◌≡◌, ℕ, ◌+◌, ◌*◌, ◌<◌, ◌≤�
 use Rattle.acas_spec.specs.Model.{GridData, vertices}
 use Rattle.acas_grid.specs.States.{vertex_at}
 use Rattle.acas_process.specs.Step.{moved}
-use Rattle.acas_step.specs.Columns.{vertex_in}
+use Rattle.acas_means.specs.Columns.{vertex_in}
 use Rattle.acas_step_narrow.specs.ColumnBlends.{AreBlends}
 use Rattle.acas_step_stencils.specs.Cells.{HoldsRates}
 use Rattle.acas_step.specs.Ends.{weight_of_cell}

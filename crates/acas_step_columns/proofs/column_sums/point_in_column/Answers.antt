@@ -3,10 +3,10 @@ use Rattle.acas_spec.specs.declared.place.Point.{Point}
 use Rattle.acas_frac.specs.Rounding.{down, up}
 use Rattle.acas_grid.specs.States.{vertex_at}
 use Rattle.acas_process.specs.Step.{moved}
-use Rattle.acas_step.specs.Columns.{vertex_in}
+use Rattle.acas_means.specs.Columns.{vertex_in}
 use Rattle.acas_step.specs.Ends.{weight_of_cell}
 use Rattle.acas_step_narrow.specs.Raised.{raised_in}
-use Rattle.acas_step.specs.declared.layer.Side.TheVariants.{Upper, Lower}
+use Rattle.acas_means.specs.declared.layer.Side.TheVariants.{Upper, Lower}
 use Rattle.acas_step_narrow.proofs.ColumnSizes.{column-HaveRoom, column_point-le, column_sum-le, column_sum-room}
 use Rattle.acas_step_columns.proofs.ColumnPoints.{column_point}
 use Rattle.acas_step_columns.proofs.column_sums.point_in_column.Goals as goal

@@ -3,13 +3,13 @@ use Rattle.std.proofs.lemmas.List.{length-set}
 use Rattle.acas_spec.specs.Model.{GridData}
 use Rattle.acas_grid.specs.States.{vertex_at}
 use Rattle.acas_units.specs.declared.pair.Pair.{Pair}
-use Rattle.acas_step.specs.Columns.{pairs_at, vertex_in}
-use Rattle.acas_step.specs.Layer.{pair_at}
-use Rattle.acas_step.specs.Means.{AreMeansAt}
-use Rattle.acas_step.proofs.ColumnLaws.{all_within_written}
-use Rattle.acas_step.proofs.ColumnPlaces.{earlier_kept}
-use Rattle.acas_step.proofs.PlacedMeans.{below_or_at}
-use Rattle.acas_step.proofs.Written.{each_written}
+use Rattle.acas_means.specs.Columns.{pairs_at, vertex_in}
+use Rattle.acas_means.specs.Layer.{pair_at}
+use Rattle.acas_means.specs.Means.{AreMeansAt}
+use Rattle.acas_means.proofs.ColumnLaws.{all_within_written}
+use Rattle.acas_means.proofs.ColumnPlaces.{earlier_kept}
+use Rattle.acas_means.proofs.PlacedMeans.{below_or_at}
+use Rattle.acas_means.proofs.Written.{each_written}
 use Rattle.acas_step_columns.proofs.columns.fill_advisory.Goals as goal
 
 pub mean_pair_from-pair-requires-clause-earlier : goal.mean_pair_from-pair-requires-clause-earlier

@@ -1,14 +1,14 @@
 use Rattle.std.proofs.Common.{ℕ, subst, sym, arith}
 use Rattle.acas_grid.specs.States.{vertex_at}
 use Rattle.acas_units.specs.declared.pair.Pair.{Pair}
-use Rattle.acas_step.specs.Columns.{vertex_in}
+use Rattle.acas_means.specs.Columns.{vertex_in}
 use Rattle.acas_step_columns.specs.ColumnSums.{IsSource}
-use Rattle.acas_step.specs.Layer.{pair_at}
-use Rattle.acas_step.specs.Means.{AreMeansAt}
+use Rattle.acas_means.specs.Layer.{pair_at}
+use Rattle.acas_means.specs.Means.{AreMeansAt}
 use Rattle.acas_step_narrow.specs.Raised.{raised_in}
 use Rattle.acas_step_columns.specs.declared.columns.Source.{Source}
 use Rattle.acas_step_columns.specs.declared.columns.Source.TheVariants.{Twin, Sums}
-use Rattle.acas_step.proofs.TableMeans.{means_bounded}
+use Rattle.acas_means.proofs.TableMeans.{means_bounded}
 use Rattle.acas_step_narrow.proofs.RaisedMeans.{means_of_all}
 use Rattle.acas_step_columns.proofs.SourceMeans.{means_of_twin}
 use Rattle.acas_step_columns.proofs.columns.mean_pair_from.Goals as goal

@@ -2,7 +2,7 @@ use Rattle.std.proofs.Common.{◌*◌, ◌≤◌, pos, w64, to_z, of_z, FitsSign
 use Rattle.std.proofs.lemmas.Int.{fits_signed_from_abs, ints, to_z-of_z}
 use Rattle.acas_frac.specs.Rounding.{down, up}
 use Rattle.acas_grid.specs.States.{vertex_at}
-use Rattle.acas_step.specs.Columns.{vertex_in}
+use Rattle.acas_means.specs.Columns.{vertex_in}
 use Rattle.acas_step_narrow.specs.WideSums.{as_raised}
 use Rattle.acas_step_narrow.proofs.RaisedLaws.{down-raised, up-raised}
 use Rattle.acas_step_narrow.proofs.CornerSums.{lowered_is, quotient-most, quotient_down-most}

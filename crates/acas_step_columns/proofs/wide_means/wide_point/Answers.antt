@@ -5,11 +5,11 @@ use Rattle.acas_grid.specs.Grid.{vertex_number}
 use Rattle.acas_grid.specs.States.{vertex_at}
 use Rattle.acas_frac.specs.Rounding.{down, up}
 use Rattle.acas_process.specs.Step.{moved}
-use Rattle.acas_step.specs.Columns.{columns, vertex_in}
+use Rattle.acas_means.specs.Columns.{columns, vertex_in}
 use Rattle.acas_step.specs.Ends.{weight_of_cell}
-use Rattle.acas_step.specs.Layer.{AreWithin}
-use Rattle.acas_step.specs.declared.layer.Side.{Side}
-use Rattle.acas_step.specs.declared.layer.Side.TheVariants.{Upper, Lower}
+use Rattle.acas_means.specs.Layer.{AreWithin}
+use Rattle.acas_means.specs.declared.layer.Side.{Side}
+use Rattle.acas_means.specs.declared.layer.Side.TheVariants.{Upper, Lower}
 use Rattle.acas_step_narrow.specs.Narrow.{sum_over}
 use Rattle.acas_step_narrow.specs.Raised.{along_h, raised_at}
 use Rattle.acas_step_narrow.proofs.RaisedLaws.{down-raised, up-raised}

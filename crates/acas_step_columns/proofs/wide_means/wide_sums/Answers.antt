@@ -1,6 +1,6 @@
 use Rattle.std.proofs.Common.{◌<◌, length, arith}
 use Rattle.acas_grid.specs.States.{vertex_at}
-use Rattle.acas_step.specs.Columns.{vertex_in}
+use Rattle.acas_means.specs.Columns.{vertex_in}
 use Rattle.acas_step_narrow.specs.WideSums.{as_raised}
 use Rattle.acas_step_narrow.proofs.RaisedMeans.{sums_more}
 use Rattle.acas_step_narrow.proofs.CornerSums.{sum-room}

@@ -1,5 +1,5 @@
 use Rattle.acas_grid.specs.States.{vertex_at}
-use Rattle.acas_step.specs.Columns.{vertex_in}
+use Rattle.acas_means.specs.Columns.{vertex_in}
 use Rattle.acas_step_narrow.specs.WideSums.{as_raised}
 use Rattle.acas_step_narrow.specs.Narrow.{AreRaisedSums}
 use Rattle.acas_step_columns.proofs.wide_means.wide_sums.Given as goal

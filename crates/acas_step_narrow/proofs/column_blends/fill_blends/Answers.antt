@@ -1,12 +1,14 @@
 use Rattle.std.proofs.Common.{◌≡◌, ℕ, ◌+◌, ◌*◌, ◌<◌, ◌≤◌, length, ap, ◌∙◌, arith}
 use Rattle.std.proofs.lemmas.List.{length-set}
 use Rattle.acas_spec.specs.Model.{GridData}
-use Rattle.acas_step.specs.Columns.{column_of, columns, vertex_in}
+use Rattle.acas_means.specs.Columns.{columns, vertex_in}
+use Rattle.acas_step.specs.Ends.{column_of}
 use Rattle.acas_step_narrow.specs.Raised.{along_v0, raised_at, width}
-use Rattle.acas_step.specs.declared.layer.Side.{Side}
-use Rattle.acas_step.specs.declared.layer.Side.TheVariants.{Upper, Lower}
-use Rattle.acas_step.proofs.ColumnLaws.{upper_column-below, vertex_in-below}
-use Rattle.acas_step.proofs.Written.{each_written}
+use Rattle.acas_means.specs.declared.layer.Side.{Side}
+use Rattle.acas_means.specs.declared.layer.Side.TheVariants.{Upper, Lower}
+use Rattle.acas_means.proofs.ColumnLaws.{vertex_in-below}
+use Rattle.acas_step.proofs.CellColumns.{upper_column-below}
+use Rattle.acas_means.proofs.Written.{each_written}
 use Rattle.acas_step_narrow.proofs.column_blends.fill_blends.Goals as goal
 
 pub along_rates-blend-requires-clause-place : goal.along_rates-blend-requires-clause-place

@@ -1,7 +1,8 @@
 use Rattle.std.proofs.Common.{◌≡◌, ℕ, ◌+◌, ◌*◌, ◌<◌, ◌≤◌, length, get_or}
-use Rattle.acas_step.specs.Columns.{column_of, vertex_in}
+use Rattle.acas_means.specs.Columns.{vertex_in}
+use Rattle.acas_step.specs.Ends.{column_of}
 use Rattle.acas_step_narrow.specs.Raised.{along_v0, raised_at, width}
-use Rattle.acas_step.specs.declared.layer.Side.TheVariants.{Upper, Lower}
+use Rattle.acas_means.specs.declared.layer.Side.TheVariants.{Upper, Lower}
 use Rattle.acas_step_narrow.proofs.column_blends.fill_blends.Given as goal
 
 abbrev pub invariant-loop-i : goal.invariant-loop-i

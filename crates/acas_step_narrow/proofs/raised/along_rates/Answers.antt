@@ -1,5 +1,5 @@
 use Rattle.std.proofs.Common.{rules, ◌≡◌, w64, to_z, of_z, ap, ◌∙◌}
-use Rattle.acas_step.specs.declared.layer.Side.TheVariants.{Upper, Lower}
+use Rattle.acas_means.specs.declared.layer.Side.TheVariants.{Upper, Lower}
 use Rattle.acas_step_narrow.specs.Raised.{raised}
 use Rattle.acas_step_narrow.proofs.RateSums.{are_summed, weighted_sum-along_v0, weighted_sum-within}
 use Rattle.acas_step_narrow.proofs.raised.along_rates.Goals as goal

@@ -1,4 +1,4 @@
-use Rattle.acas_step.specs.declared.layer.Side.TheVariants.{Upper, Lower}
+use Rattle.acas_means.specs.declared.layer.Side.TheVariants.{Upper, Lower}
 use Rattle.acas_step_narrow.specs.Raised.{raised_at}
 use Rattle.acas_step_narrow.proofs.CornerSums.{altitude_chain}
 use Rattle.acas_step_narrow.proofs.wide_sums.with_altitude.Goals as goal

@@ -2,7 +2,7 @@ use Rattle.std.proofs.Common.{◌≡◌, ◌≢◌, ℕ, ◌<◌, ◌≤◌, pos
 use Rattle.std.proofs.lemmas.List.{get_or_default, get_or-set_other, length-set}
 use Rattle.acas_step_stencils.specs.Stencils.{DivideOffsets, IsCountedIn}
 use Rattle.acas_step_stencils.specs.declared.column_stencils.ColumnStencil.{ColumnStencil}
-use Rattle.acas_step.proofs.Written.{each_written}
+use Rattle.acas_means.proofs.Written.{each_written}
 use Rattle.acas_step_stencils.proofs.column_stencils.count_offsets.Goals as goal
 
 -- the stencil that a list holds where it ends

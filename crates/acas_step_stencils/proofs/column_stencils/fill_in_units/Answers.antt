@@ -2,7 +2,7 @@ use Rattle.std.proofs.Common.{ℕ, ◌/◌, ◌%◌, ◌<◌, length, get_or, su
 use Rattle.acas_spec.specs.Model.{GridData}
 use Rattle.acas_grid.specs.States.{vertex_at}
 use Rattle.acas_process.specs.Step.{moved}
-use Rattle.acas_step.specs.Columns.{columns}
+use Rattle.acas_means.specs.Columns.{columns}
 use Rattle.acas_grid_units.specs.Units.{DivideGaps}
 use Rattle.acas_step_stencils.specs.Stencils.{climb_from}
 use Rattle.acas_step_stencils.proofs.UnitLaws.{stencil-counted}

@@ -1,7 +1,7 @@
 use Rattle.std.proofs.Common.{ℕ, ◌<◌, length, arith}
 use Rattle.acas_step_stencils.specs.Stencils.{IsStencilNumbered}
 use Rattle.acas_step_stencils.specs.declared.column_stencils.ColumnStencil.{ColumnStencil}
-use Rattle.acas_step.proofs.Written.{each_written}
+use Rattle.acas_means.proofs.Written.{each_written}
 use Rattle.acas_step_stencils.proofs.column_stencils.fill_stencils.Goals as goal
 
 pub loop-number-preserved : goal.loop-number-preserved

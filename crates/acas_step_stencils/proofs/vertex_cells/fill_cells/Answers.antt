@@ -2,7 +2,7 @@ use Rattle.std.proofs.Common.{ℕ, ◌<◌, length, arith}
 use Rattle.acas_grid.specs.States.{vertex_at}
 use Rattle.acas_step_stencils.specs.Cells.{IsVertexCell}
 use Rattle.acas_step_stencils.specs.declared.vertex_cells.VertexCell.{VertexCell}
-use Rattle.acas_step.proofs.Written.{each_written}
+use Rattle.acas_means.proofs.Written.{each_written}
 use Rattle.acas_step_stencils.proofs.vertex_cells.fill_cells.Goals as goal
 
 pub loop-number-preserved : goal.loop-number-preserved

@@ -2,8 +2,8 @@ use Rattle.std.proofs.Common.{◌≡◌, ◌*◌, ◌/◌, ◌%◌, ◌<◌, len
 use Rattle.std.proofs.lemmas.Nat.{div-add-mod', div_below}
 use Rattle.acas_spec.specs.Model.{GridData}
 use Rattle.acas_grid.proofs.Vertices.{some_width}
-use Rattle.acas_step.specs.Columns.{columns}
-use Rattle.acas_step.proofs.ColumnLaws.{all_columns}
+use Rattle.acas_means.specs.Columns.{columns}
+use Rattle.acas_means.proofs.ColumnLaws.{all_columns}
 use Rattle.acas_sweep.specs.Turns.{turn}
 use Rattle.acas_sweep.proofs.Turns.{turn-vertex_in}
 use Rattle.acas_sweep.proofs.order.vertex_after.Goals as goal

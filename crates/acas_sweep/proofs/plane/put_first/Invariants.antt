@@ -1,7 +1,7 @@
 use Rattle.std.proofs.Common.{ℕ, ◌%◌, ◌<◌}
 use Rattle.acas_spec.specs.Model.{states, vertices}
 use Rattle.acas_process.specs.Compiled.{compiled}
-use Rattle.acas_step.specs.Entries.{IsStateEntry}
+use Rattle.acas_means.specs.Entries.{IsStateEntry}
 use Rattle.acas_sweep.specs.Entries.{listed_entry}
 use Rattle.acas_sweep.specs.Filled.{IsFilledTo, pairs_in}
 use Rattle.acas_sweep.specs.Turns.{turn}

@@ -2,9 +2,9 @@ use Rattle.std.proofs.Common.{◌≡◌, ℕ, ◌+◌, ◌*◌, ◌≤◌, List,
 use Rattle.std.proofs.Math.Nat.{mul-le-mul_right}
 use Rattle.acas_spec.specs.Model.{GridData, vertices}
 use Rattle.acas_units.specs.declared.pair.Pair.{Pair}
-use Rattle.acas_step.specs.Choices.{choice_count}
-use Rattle.acas_step.specs.Columns.{columns}
-use Rattle.acas_step.proofs.ColumnLaws.{all_columns}
+use Rattle.acas_means.specs.Choices.{choice_count}
+use Rattle.acas_means.specs.Columns.{columns}
+use Rattle.acas_means.proofs.ColumnLaws.{all_columns}
 use Rattle.acas_sweep.specs.Entries.{AreOver, AreSmall}
 use Rattle.acas_sweep.specs.Filled.{IsFilledTo, pairs_in}
 use Rattle.acas_sweep.proofs.Over.{small_within}

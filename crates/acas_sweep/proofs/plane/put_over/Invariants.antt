@@ -1,5 +1,5 @@
 use Rattle.std.proofs.Common.{◌≡◌, ◌+◌, ◌*◌, length}
-use Rattle.acas_step.specs.Choices.{choice_count}
+use Rattle.acas_means.specs.Choices.{choice_count}
 use Rattle.acas_sweep.specs.Entries.{AreOver}
 use Rattle.acas_sweep.specs.Filled.{IsFilledTo, pairs_in}
 use Rattle.acas_sweep.proofs.plane.put_over.Given as goal

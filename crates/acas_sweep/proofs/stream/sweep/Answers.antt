@@ -4,7 +4,7 @@ use Rattle.acas_spec.specs.Model.{GridData, states}
 use Rattle.acas_units.specs.declared.pair.Pair.{Pair}
 use Rattle.acas_plane.specs.Plane.{Plane}
 use Rattle.acas_process.specs.Compiled.{compiled}
-use Rattle.acas_step.specs.Layer.{IsLayer}
+use Rattle.acas_means.specs.Layer.{IsLayer}
 use Rattle.acas_sweep.specs.Filled.{pairs_in}
 use Rattle.acas_sweep.specs.Handed.{LayerData, compiled_layer}
 use Rattle.acas_sweep.specs.Layers.{layer_backups}

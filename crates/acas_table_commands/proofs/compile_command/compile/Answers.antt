@@ -9,7 +9,7 @@ use Rattle.acas_command.specs.Outcome.{stores}
 use Rattle.acas_command.proofs.Behind.{answers-done, answers-folder, answers-output, told-part, told-stored}
 use Rattle.acas_command.proofs.Files.{called-model}
 use Rattle.acas_table_commands.specs.Calls.{compile_of}
-use Rattle.acas_table_commands.specs.StoredLine.{compiled_line}
+use Rattle.acas_table_rows.specs.StoredLine.{compiled_line}
 use Rattle.acas_table_rows.specs.TableFile.{compiled_text}
 use Rattle.acas_table_commands.proofs.Swept.{counts_nothing, counts_sweep}
 use Rattle.acas_table_commands.proofs.Worth.{rest_of_compile}

@@ -7,7 +7,7 @@ use Rattle.acas_outside.proofs.Grown.{held_stored}
 use Rattle.acas_table_text.specs.Shape.{shape_of}
 use Rattle.acas_table_text.specs.Text.{layer_of}
 use Rattle.acas_table_text.specs.declared.shape.TableShape.{TableShape}
-use Rattle.acas_table.specs.Writer.{writer_state}
+use Rattle.acas_table_writer.specs.Writer.{writer_state}
 use Rattle.acas_table_rows.specs.TableFile.{entries_of}
 use Rattle.acas_table_rows.proofs.StoredLayers.{part_of_last, part_of_next, start_is, started_is, stored_all, stored_first, stored_next, writing_next}
 use Rattle.acas_table_rows.proofs.stored_layers.store_layers.Goals as goal

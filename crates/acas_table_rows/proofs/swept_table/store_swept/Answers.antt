@@ -3,7 +3,7 @@ use Rattle.std.proofs.lemmas.Grind.{merely}
 use Rattle.std.proofs.lemmas.Result.{on_ok_weaker, on_err_weaker}
 use Rattle.acas_spec.specs.Model.{ModelData}
 use Rattle.acas_table_text.specs.Shape.{shape_of}
-use Rattle.acas_table.specs.Writer.{writer_state}
+use Rattle.acas_table_writer.specs.Writer.{writer_state}
 use Rattle.acas_outside.proofs.Appended.{on_err_always}
 use Rattle.acas_outside.proofs.Grown.{held_stored}
 use Rattle.acas_table_rows.specs.TableFile.{compiled_entries}

@@ -1,6 +1,6 @@
 use Rattle.acas_process.specs.Compiled.{compiled}
-use Rattle.acas_process.proofs.BoundLaws.{two_sided_bounds}
-use Rattle.acas_process.proofs.CompiledLaws.{compiled_is_sound}
+use Rattle.acas_policies.proofs.BoundLaws.{two_sided_bounds}
+use Rattle.acas_policies.proofs.CompiledBounds.{compiled_is_sound}
 use Rattle.acas_trajectories.proofs.BestLaws.{lower_bound_over_trajectories}
 use Rattle.acas_trajectories.proofs.bounds.no_policy_with_memory_costs_less.Goals as goal
 

@@ -4,9 +4,9 @@ use Rattle.acas_spec.specs.Model.{ModelData}
 use Rattle.acas_spec.specs.Table.{Table}
 use Rattle.acas_spec.specs.declared.place.Vertex.{Vertex}
 use Rattle.acas_frac.proofs.SignedProducts.{le-from_mul_ℤ, le-trans_ℤ}
-use Rattle.acas_process.specs.Bounds.{HasTwoSidedBounds}
+use Rattle.acas_policies.specs.Bounds.{HasTwoSidedBounds}
 use Rattle.acas_process.specs.Cost.{IsEntry, expected_cost, transition_total}
-use Rattle.acas_process.proofs.BoundLaws.{two_sided_bounds}
+use Rattle.acas_policies.proofs.BoundLaws.{two_sided_bounds}
 use Rattle.acas_process.proofs.MeanLaws.{total_power_pos}
 use Rattle.acas_trajectories.proofs.bounds.sound_bounds_never_contradict.Goals as goal
 

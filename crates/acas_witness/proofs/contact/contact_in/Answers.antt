@@ -2,7 +2,7 @@ use Rattle.std.proofs.Common.{subst, sym}
 use Rattle.acas_flight_laws.proofs.Endangered.{endangered_cell, endangered_box}
 use Rattle.acas_flight.specs.Response.{demand_of}
 use Rattle.acas_flight.specs.Clear.{Area, IsEndangeredDuring}
-use Rattle.acas_region_curves.specs.View.{times_of}
+use Rattle.acas_areas.specs.View.{times_of}
 use Rattle.acas_witness.proofs.contact.contact_in.Goals as goal
 
 pub returns-then-is_clear-clause-cell : goal.returns-then-is_clear-clause-cell

@@ -1,5 +1,5 @@
 use Rattle.acas_flight.specs.Response.{demand_of, lasting}
-use Rattle.acas_region_curves.specs.View.{area_of, times_of}
+use Rattle.acas_areas.specs.View.{area_of, times_of}
 use Rattle.acas_passes.specs.Search.{unit}
 use Rattle.acas_rulings.specs.Witness.{search_between}
 use Rattle.acas_witness.proofs.Contacts.{unit_positive, contact_of, during_of}

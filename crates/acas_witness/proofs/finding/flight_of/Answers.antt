@@ -2,7 +2,7 @@ use Rattle.std.proofs.Common.{◌≡◌, ◌∙◌, ◌-◌, ◌*◌, ◌≤◌,
 use Rattle.std.specs.Int.{w64}
 use Rattle.std.proofs.lemmas.Int.{ints}
 use Rattle.acas_flight_curves.proofs.Held.{min_scaled, sub_scaled}
-use Rattle.acas_region_curves.proofs.Climbs.{IsOver-finer}
+use Rattle.acas_areas.proofs.Finer.{IsOver-finer}
 use Rattle.acas_witness_response.proofs.Assembly.{fine_some}
 use Rattle.acas_witness.proofs.Contacts.{planned_dens}
 use Rattle.acas_witness.proofs.finding.flight_of.Goals as goal

@@ -1,6 +1,6 @@
 use Rattle.std.proofs.Common.{◌*◌, ◌≤◌, sym}
 use Rattle.acas_flight.specs.Response.{demand_of}
-use Rattle.acas_region_curves.specs.View.{area_of, times_of}
+use Rattle.acas_areas.specs.View.{area_of, times_of}
 use Rattle.acas_passes.specs.Value.{thinnest}
 use Rattle.acas_passes.specs.Search.{CanMeet, IsSearch}
 use Rattle.acas_witness_search.specs.Surveys.{search_of}

@@ -4,7 +4,7 @@ use Rattle.std.proofs.lemmas.Int.{ints}
 use Rattle.acas_units.specs.declared.limits.TheConstants.{LEAST_RATE, GREATEST_RATE, GREATEST_LIMIT, GREATEST_DELAY}
 use Rattle.acas_spec.specs.Limits.{IsAdvisory}
 use Rattle.acas_spec.specs.declared.parts.Advisory.{Advisory}
-use Rattle.acas_region_curves.specs.Chases.{IsAsked, demand_from}
+use Rattle.acas_areas.specs.Chases.{IsAsked, demand_from}
 use Rattle.acas_witness.proofs.finding.survey_of.Goals as goal
 
 -- the numbers of an advisory as those of 64 bits

@@ -2,7 +2,7 @@ use Rattle.std.proofs.Common.{◌≡◌, ℕ, ◌*◌, ◌^◌, ◌≤◌, ◌�
 use Rattle.std.specs.Int.{w64, w128}
 use Rattle.std.proofs.lemmas.Int.{ints}
 use Rattle.acas_frac.specs.Fraction.{Fraction}
-use Rattle.acas_region_curves.specs.Sizes.{shared_parts}
+use Rattle.acas_areas.specs.Sizes.{shared_parts}
 use Rattle.acas_witness_plans.specs.Plans.{IsIntruderEnd}
 use Rattle.acas_witness_plans.proofs.flown.intruder_end.Goals as goal
 

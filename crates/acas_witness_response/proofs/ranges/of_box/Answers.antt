@@ -1,6 +1,6 @@
 use Rattle.std.proofs.Common.{◌≡◌, pos, unsigned_abs, arith}
 use Rattle.std.proofs.lemmas.Int.{ints}
-use Rattle.acas_region_curves.specs.Limits.{interval_of}
+use Rattle.acas_areas.specs.Limits.{interval_of}
 use Rattle.acas_witness_response.proofs.BoxRanges.{during_renamed, pair_renamed}
 use Rattle.acas_witness_response.proofs.ranges.of_box.Goals as goal
 

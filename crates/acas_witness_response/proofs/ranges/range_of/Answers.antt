@@ -1,7 +1,7 @@
 use Rattle.std.proofs.Common.{◌≡◌, ◌+◌, ◌*◌, ◌≤◌, pos, to_z, arith, mul-le-mul}
 use Rattle.std.specs.Int.{w64}
 use Rattle.acas_units.specs.declared.limits.TheConstants.{WINDOW_SECONDS}
-use Rattle.acas_region_curves.specs.declared.fineness.TheConstants.{TIME_PARTS}
+use Rattle.acas_areas.specs.declared.fineness.TheConstants.{TIME_PARTS}
 use Rattle.std.proofs.lemmas.Int.{ints}
 use Rattle.acas_witness_response.proofs.ranges.range_of.Goals as goal
 

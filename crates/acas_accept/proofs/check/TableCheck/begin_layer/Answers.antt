@@ -5,8 +5,8 @@ use Rattle.std.specs.declared.alloc.Global.{Global}
 use Rattle.std.specs.Vec.{with_items}
 use Rattle.acas_units.specs.declared.pair.Pair.{Pair}
 use Rattle.acas_spec.specs.Table.{Table}
-use Rattle.acas_step.specs.Layer.{AreValuesOf, AreWithin}
-use Rattle.acas_step.specs.Means.{AreMeansOf}
+use Rattle.acas_means.specs.Layer.{AreValuesOf, AreWithin}
+use Rattle.acas_means.specs.Means.{AreMeansOf}
 use Rattle.acas_accept.specs.declared.check.TableCheck.{TableCheck}
 use Rattle.acas_accept.proofs.Steps.{in_layer_first}
 use Rattle.acas_accept.proofs.check.TableCheck.begin_layer.Goals as goal

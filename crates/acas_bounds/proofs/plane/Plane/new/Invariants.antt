@@ -1,5 +1,5 @@
 use Rattle.std.proofs.Common.{◌≡◌, ℕ, ◌<◌, length, get_or}
-use Rattle.acas_step.specs.Choices.{listed_choice}
+use Rattle.acas_means.specs.Choices.{listed_choice}
 use Rattle.acas_bounds.specs.Planes.{IsPlaneChoice, no_plane_choice}
 use Rattle.acas_bounds.proofs.plane.Plane.new.Given as goal
 

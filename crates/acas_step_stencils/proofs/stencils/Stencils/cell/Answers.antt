@@ -4,9 +4,9 @@ use Rattle.acas_spec.specs.Model.{GridData}
 use Rattle.acas_grid.specs.States.{vertex_at}
 use Rattle.acas_grid.proofs.Vertices.{some_width}
 use Rattle.acas_process.specs.Step.{moved}
-use Rattle.acas_step.specs.Columns.{columns, vertex_in}
+use Rattle.acas_means.specs.Columns.{columns, vertex_in}
 use Rattle.acas_step.specs.Ends.{FitsGrid, IsRound}
-use Rattle.acas_step.proofs.ColumnLaws.{all_columns}
+use Rattle.acas_means.proofs.ColumnLaws.{all_columns}
 use Rattle.acas_step_stencils.specs.Stencils.{HaveStencil, IsStencil}
 use Rattle.acas_step_stencils.proofs.stencils.Stencils.cell.Goals as goal
 

@@ -5,7 +5,7 @@ use Rattle.acas_spec.specs.declared.place.Vertex.{Vertex}
 use Rattle.acas_grid.specs.States.{vertex_at}
 use Rattle.acas_process.specs.Step.{moved}
 use Rattle.acas_frac.specs.declared.divisor.Divisor.{Divisor}
-use Rattle.acas_step.specs.Columns.{vertex_in}
+use Rattle.acas_means.specs.Columns.{vertex_in}
 use Rattle.acas_step_stencils.specs.Stencils.{IsStencil}
 use Rattle.acas_step_stencils.specs.Cells.{IsUnitCell}
 use Rattle.acas_step_stencils.specs.declared.stencils.Stencil.{Stencil}

@@ -1,6 +1,6 @@
 use Rattle.std.proofs.Common.{◌≡◌, ℕ, ◌+◌, ◌*◌, ◌<◌, List, length, get_or, ap, sym, subst, ◌∙◌, arith}
 use Rattle.acas_spec.specs.declared.parts.SigmaPoint.{SigmaPoint}
-use Rattle.acas_step.specs.Columns.{columns}
+use Rattle.acas_means.specs.Columns.{columns}
 use Rattle.acas_step_stencils.specs.Stencils.{IsStencilOf, stencil_count}
 use Rattle.acas_step_stencils.specs.declared.column_stencils.ColumnStencil.{ColumnStencil}
 use Rattle.acas_step_stencils.proofs.StencilLaws.{number-below, numbered-column, stencil_count-some}

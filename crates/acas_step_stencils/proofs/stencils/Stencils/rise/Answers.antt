@@ -2,8 +2,8 @@ use Rattle.std.proofs.Common.{◌≡◌, ℕ, ◌<◌, to_z, of_z, w32, refl, su
 use Rattle.std.proofs.lemmas.Int.{ints}
 use Rattle.acas_spec.specs.Limits.{IsGrid}
 use Rattle.acas_spec.specs.Model.{GridData, vertices}
-use Rattle.acas_step.specs.Columns.{columns}
-use Rattle.acas_step.proofs.ColumnLaws.{vertex_in-below}
+use Rattle.acas_means.specs.Columns.{columns}
+use Rattle.acas_means.proofs.ColumnLaws.{vertex_in-below}
 use Rattle.acas_grid_units.specs.Heights.{IsInGaps}
 use Rattle.acas_step_stencils.proofs.ColumnCells.{vertex_cell-read}
 use Rattle.acas_step_stencils.proofs.stencils.Stencils.rise.Goals as goal

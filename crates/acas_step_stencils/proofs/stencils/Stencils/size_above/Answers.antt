@@ -1,7 +1,7 @@
 use Rattle.std.proofs.Common.{ℕ, ◌<◌, refl, sym, subst, arith}
 use Rattle.acas_spec.specs.Model.{GridData, vertices}
 use Rattle.acas_grid.specs.States.{vertex_at}
-use Rattle.acas_step.proofs.ColumnLaws.{vertex_in-below}
+use Rattle.acas_means.proofs.ColumnLaws.{vertex_in-below}
 use Rattle.acas_step_stencils.specs.Cells.{IsVertexCell}
 use Rattle.acas_step_stencils.specs.declared.vertex_cells.VertexCell.{VertexCell}
 use Rattle.acas_step_stencils.proofs.ColumnCells.{vertex_cell-read}

@@ -1,7 +1,7 @@
 use Rattle.std.proofs.Common.{◌≡◌, ℕ, ◌<◌, to_z, of_z, w32, List, length, get_or, ap, subst, ◌∙◌, arith}
 use Rattle.std.proofs.lemmas.Int.{ints}
 use Rattle.acas_spec.specs.Model.{GridData, vertices}
-use Rattle.acas_step.specs.Columns.{vertex_in}
+use Rattle.acas_means.specs.Columns.{vertex_in}
 use Rattle.acas_grid_units.specs.Heights.{IsLedTo}
 use Rattle.acas_grid_units.proofs.HeightLaws.{first_height}
 use Rattle.acas_step_stencils.proofs.ColumnHeights.{column-IsStencil}

@@ -1,5 +1,5 @@
 use Rattle.std.proofs.Common.{List, ℕ, Bool, ap}
-use Rattle.acas_table.specs.Writer.{writer_state}
+use Rattle.acas_table_writer.specs.Writer.{writer_state}
 use Rattle.acas_table_rows.proofs.BegunWriters.{takes_layers-next}
 use Rattle.acas_table_rows.proofs.table_rows.TableRowsLayerSink.layer.Goals as goal
 

@@ -1,0 +1,4 @@
+pub mod Limits
+pub mod Chases
+pub mod Sizes
+pub mod View

@@ -1,0 +1,2 @@
+pub mod MigratedTables
+pub mod Worth

@@ -1,0 +1,88 @@
+use Rattle.std.proofs.Common.{List, ℕ, Option, ◌≡◌, ◌⊎◌, refl, subst, ◌∙◌, arith, rules}
+use Rattle.std.proofs.lemmas.Result.{err_from_is_err_and}
+use Rattle.std.specs.FinMap.{get}
+use Rattle.acas_outside.specs.Bytes.{Appends, AppendsPart}
+use Rattle.acas_outside.specs.Counts.{Rose}
+use Rattle.acas_outside.specs.Files.{Files, Stores, StoresPart}
+use Rattle.acas_outside.specs.Outside.{Outside, outside}
+use Rattle.acas_table_file.specs.Calls.{with_table}
+use Rattle.acas_command.specs.Called.{calls_for}
+use Rattle.acas_command.specs.Outcome.{stores}
+use Rattle.acas_command.proofs.Behind.{answers-behind, answers-done, answers-folder, answers-output, told-part, told-stored}
+use Rattle.acas_command.proofs.Files.{to-model}
+use Rattle.acas_check_commands.specs.Calls.{CallsForMigrate, migrate_of}
+use Rattle.acas_table_rows.specs.StoredLine.{migrated_line}
+use Rattle.acas_check_commands.proofs.MigratedTables.{called-migrate, layers_text, rest_of_migrate, rest_of_table}
+use Rattle.acas_check_commands.proofs.migrate_command.migrate.Goals as goal
+
+pub returns-in_err-found-clause-answers : goal.returns-in_err-found-clause-answers
+returns-in_err-found-clause-answers g c =
+    let p = err_from_is_err_and c.from_residual.result c.from_residual.ensures.1 in
+    rw (p.1, p.2) (c.in_err-found.ensures.err (λ files digest m. rest_of_migrate (get files c.args.table.now) c.args.target.now digest m) _ _)
+
+pub returns-in_err-layers-clause-answers : goal.returns-in_err-layers-clause-answers
+returns-in_err-layers-clause-answers g c =
+    let m = c.in_ok-found.found.model in
+    let digest = c.in_ok-found.found.digest in
+    let table = c.args.table.now in
+    let target = c.args.target.now in
+    let before : Outside = outside g.F.Folder g.O.Sink c.args.folder.now c.args.out.now in
+    let mid : Outside = outside g.F.Folder g.O.Sink c.read_model_file.new.folder c.args.out.now in
+    let after : Outside = outside g.F.Folder g.O.Sink c.read_table_layers.new.folder c.args.out.now in
+    let frame = c.read_model_file.ensures.frame in
+    let p = err_from_is_err_and c.from_residual-in_err-layers.result c.from_residual-in_err-layers.ensures.1 in
+    rw (p.1, p.2)
+    (answers-behind (calls_for (λ files. with_table m digest (get files table) (rest_of_table target digest m))) (CallsForMigrate c.args.model.now table target) c.in_err-layers.field-0.0 before mid after
+    c.in_err-layers.ensures.refused
+    (record { holds = frame.holds; written = refl; misses = frame.misses; taken = frame.taken; faults = frame.faults; output_faults = omega arith })
+    (to-model before.holds c.args.model.now digest m (λ files d n. rest_of_migrate (get files table) target d n) c.in_ok-found.ensures.ok)
+    (c.in_err-layers.ensures.err (λ files. rest_of_table target digest m) _ _))
+
+pub returns-in-Err-clause-answers : goal.returns-in-Err-clause-answers
+returns-in-Err-clause-answers g c =
+    let m = c.in_ok-found.found.model in
+    let digest = c.in_ok-found.found.digest in
+    let layers = c.in_ok-layers.layers in
+    let table = c.args.table.now in
+    let target = c.args.target.now in
+    let text : List ℕ = layers_text digest m layers in
+    let before : Outside = outside g.F.Folder g.O.Sink c.args.folder.now c.args.out.now in
+    let after : Outside = outside g.F.Folder g.O.Sink c.store_layers.new.folder c.args.out.now in
+    let rose : Rose before.faults after.faults = search rules in
+    let held = c.read_table_layers.ensures.frame.holds ∙ c.read_model_file.ensures.frame.holds in
+    answers-folder (λ files. migrate_of (get files c.args.model.now) (get files table) target) (stores target text (migrated_line m.grid)) before after
+    (called-migrate before.holds _ c.args.model.now table target digest m layers c.read_model_file.ensures.frame.holds c.in_ok-found.ensures.ok c.in_ok-layers.ensures.ok)
+    (told-part before.holds after.holds target text (subst (λ (h : Option Files). (after.holds ≡ h) ⊎ StoresPart h after.holds target text) held c.in-Err.ensures.err)) refl rose
+
+pub returns-in-Ok-emit-clause-answers : goal.returns-in-Ok-emit-clause-answers
+returns-in-Ok-emit-clause-answers g c =
+    let m = c.in_ok-found.found.model in
+    let digest = c.in_ok-found.found.digest in
+    let layers = c.in_ok-layers.layers in
+    let table = c.args.table.now in
+    let target = c.args.target.now in
+    let text : List ℕ = layers_text digest m layers in
+    let before : Outside = outside g.F.Folder g.O.Sink c.args.folder.now c.args.out.now in
+    let after : Outside = outside g.F.Folder g.O.Sink c.store_layers.new.folder c.emit.new.sink in
+    let printed : Appends (g.O.Sink.written c.args.out.now) (g.O.Sink.written c.emit.new.sink) (migrated_line m.grid) = search rules in
+    let held = c.read_table_layers.ensures.frame.holds ∙ c.read_model_file.ensures.frame.holds in
+    answers-done (λ files. migrate_of (get files c.args.model.now) (get files table) target) (stores target text (migrated_line m.grid)) before after
+    (called-migrate before.holds _ c.args.model.now table target digest m layers c.read_model_file.ensures.frame.holds c.in_ok-found.ensures.ok c.in_ok-layers.ensures.ok) refl
+    (told-stored before.holds after.holds target text (subst (λ (h : Option Files). Stores h after.holds target text) held c.in-Ok.ensures.ok)) printed
+
+pub returns-clause-answers : goal.returns-clause-answers
+returns-clause-answers g c =
+    let m = c.in_ok-found.found.model in
+    let digest = c.in_ok-found.found.digest in
+    let layers = c.in_ok-layers.layers in
+    let table = c.args.table.now in
+    let target = c.args.target.now in
+    let text : List ℕ = layers_text digest m layers in
+    let before : Outside = outside g.F.Folder g.O.Sink c.args.folder.now c.args.out.now in
+    let after : Outside = outside g.F.Folder g.O.Sink c.store_layers.new.folder c.emit.new.sink in
+    let part : AppendsPart (g.O.Sink.written c.args.out.now) (g.O.Sink.written c.emit.new.sink) (migrated_line m.grid) = search rules in
+    let rose : Rose before.output_faults after.output_faults = search rules in
+    let held = c.read_table_layers.ensures.frame.holds ∙ c.read_model_file.ensures.frame.holds in
+    answers-output (λ files. migrate_of (get files c.args.model.now) (get files table) target) (stores target text (migrated_line m.grid)) before after
+    (called-migrate before.holds _ c.args.model.now table target digest m layers c.read_model_file.ensures.frame.holds c.in_ok-found.ensures.ok c.in_ok-layers.ensures.ok) tt
+    (told-stored before.holds after.holds target text (subst (λ (h : Option Files). Stores h after.holds target text) held c.in-Ok.ensures.ok)) part rose

@@ -1,0 +1,3 @@
+pub mod AcceptedLine
+pub mod Calls
+pub mod Worth

@@ -1,0 +1,58 @@
+//! The command `check`.
+ghost use Rattle.std.specs.Prelude.{◌≤◌, [], ◌≡◌, IsErrOf, IsTrue, IsSomeAnd};
+ghost use Rattle.acas_outside.specs.Bytes.{IsBytes};
+ghost use Rattle.acas_outside.specs.Files.{Given};
+ghost use Rattle.acas_outside.specs.Frame.{ReadsAndWrites};
+ghost use Rattle.acas_outside.specs.Outside.{outside};
+ghost use Rattle.acas_command.specs.Answers.{Answers, ended};
+ghost use Rattle.acas_check_commands.specs.AcceptedLine.{accepted_line};
+ghost use Rattle.acas_check_commands.specs.Calls.{CallsForCheck};
+
+use acas_command::{Cause, put_count, put_text, read_model_file};
+use acas_grid::Grid;
+use acas_means::LayerMeans;
+use acas_outside::{Folder, Sink, emit};
+use acas_table_file::read_table_file;
+use acas_units::Line;
+use std::alloc::Global;
+
+/// Checks a table of a model, and prints how large it is where it is accepted.
+pub fn check<M: LayerMeans, F: Folder, O: Sink>(
+    alloc: Global,
+    model: &str,
+    table: &str,
+    folder: &mut F,
+    out: &mut O,
+) -> Result<(), Cause>
+    requires model { IsTrue (F.serves folder.old model.now) }
+    requires table { IsTrue (F.serves folder.old table.now) }
+    ensures answers { Answers (CallsForCheck model.now table.now) (ended result)
+        (outside F.Folder O.Sink folder.old out.old) (outside F.Folder O.Sink folder.new out.new) }
+    // What was accepted are bytes.
+    ensures bytes { ended result ≡ Cause.Done →
+        Given (F.holds folder.old) table.now (λ file. IsSomeAnd file IsBytes) }
+    ensures folder { ReadsAndWrites F.Folder folder.old folder.new (IsErrOf result Cause.Folder) }
+    ensures output { O.faults out.old ≤ O.faults out.new }
+{
+    let found = read_model_file(alloc, model, folder)?;
+    let mut line = Line::make(alloc)?;
+    read_table_file::<M, F>(alloc, &found, table, folder)?;
+    write_line(&mut line, found.model.grid());
+    match emit(out, line.bytes()) {
+        Ok(()) => Ok(()),
+        Err(_) => Err(Cause::Output),
+    }
+}
+
+// Makes the line of an accepted table over a grid.
+#[tactic(auto, unfolding(crate::specs::AcceptedLine::accepted_line))]
+fn write_line(line: &mut Line, grid: &Grid)
+    requires { line.old ≡ [] }
+    ensures { line.new ≡ accepted_line grid.now }
+{
+    put_text(line, "accepted layers ");
+    put_count(line, u64::from(grid.horizon) + 1);
+    put_text(line, " states ");
+    put_count(line, u64::from(grid.states()));
+    put_text(line, "\n");
+}

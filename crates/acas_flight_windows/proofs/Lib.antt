@@ -1,0 +1,10 @@
+pub mod Borders
+pub mod BestTimes
+pub mod EndTimes
+pub mod GapScales
+pub mod Windows
+pub mod BoxWindows
+pub mod Ends
+pub mod EachWindow
+pub mod LeastGaps
+pub mod NearestTimes

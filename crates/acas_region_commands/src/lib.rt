@@ -1,0 +1,7 @@
+//! The command `regions`, which rules on each box of a file.
+#![tactic(auto)]
+
+mod boxes_file;
+mod regions_command;
+
+pub use regions_command::regions;

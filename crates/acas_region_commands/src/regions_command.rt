@@ -1,0 +1,37 @@
+//! The command `regions`.
+ghost use Rattle.std.specs.Prelude.{◌≤◌, IsErrOf, IsTrue};
+ghost use Rattle.acas_outside.specs.Frame.{ReadsAndWrites};
+ghost use Rattle.acas_outside.specs.Outside.{outside};
+ghost use Rattle.acas_command.specs.Answers.{Answers, report_ended};
+ghost use Rattle.acas_region_commands.specs.Calls.{CallsForRegions};
+
+use crate::boxes_file::read_boxes_file;
+use acas_command::{Cause, read_model_file};
+use acas_outside::{Folder, Sink};
+use acas_print::PrintFault;
+use acas_report::write_regions;
+use std::alloc::Global;
+
+/// Rules on each box of a file, and prints the report. It answers how many are reported.
+pub fn regions<F: Folder, O: Sink>(
+    alloc: Global,
+    model: &str,
+    boxes: &str,
+    folder: &mut F,
+    out: &mut O,
+) -> Result<u64, Cause>
+    requires model { IsTrue (F.serves folder.old model.now) }
+    requires boxes { IsTrue (F.serves folder.old boxes.now) }
+    ensures answers { Answers (CallsForRegions model.now boxes.now) (report_ended result)
+        (outside F.Folder O.Sink folder.old out.old) (outside F.Folder O.Sink folder.new out.new) }
+    ensures folder { ReadsAndWrites F.Folder folder.old folder.new (IsErrOf result Cause.Folder) }
+    ensures output { O.faults out.old ≤ O.faults out.new }
+{
+    let found = read_model_file(alloc, model, folder)?;
+    let said = read_boxes_file(alloc, &found.model, boxes, folder)?;
+    match write_regions(alloc, &found.model, &said, out) {
+        Ok(counts) => Ok(counts.reported),
+        Err(PrintFault::Sink) => Err(Cause::Output),
+        Err(PrintFault::Memory) => Err(Cause::Memory),
+    }
+}

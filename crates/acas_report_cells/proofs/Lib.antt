@@ -1,0 +1,5 @@
+pub mod Carry
+pub mod CellCounts
+pub mod Certified
+pub mod Decided
+pub mod Subject

@@ -1,0 +1,11 @@
+pub mod TextFormats
+pub mod Behind
+pub mod EntryLaws
+pub mod Chains
+pub mod Stored
+pub mod Cuts
+pub mod Digests
+pub mod TextLaws
+pub mod FieldFaults
+pub mod Twice
+pub mod Texts

@@ -1,0 +1,124 @@
+//! A table's bytes, appended piece by piece, with the digest of those that were appended.
+ghost use Rattle.std.specs.Prelude.{◌≡◌, length, IfOk};
+
+use crate::encoding::encode_entries;
+use acas_outside::{Failed, Folder, write_piece};
+use acas_units::{GREATEST_ENTRIES, Pair};
+use sha2::{Digest, Sha256};
+use std::alloc::{AllocError, Global};
+
+/// How many states one piece has at most.
+const STATES: usize = 3_855;
+
+/// How many bytes these have.
+const PIECE: usize = 65_535;
+
+/// Room for one piece, and the digest of all that was appended.
+#[derive(Drop)]
+pub struct Pieces {
+    buffer: Vec<u8>,
+    hasher: Sha256,
+    ghost size: { length buffer.items ≡ 65535 },
+}
+
+impl Pieces {
+    ghost use Rattle.std.specs.Prelude.{◌≡◌, ◌≤◌, ◌++◌, List, ℕ, IfOk, OnOk, OnErr, IsErr, IsSome, IsTrue, length};
+    ghost use Rattle.sha2.specs.Sha256.{sha256};
+    ghost use Rattle.acas_outside.specs.Files.{Given, Grows, GrowsPart};
+    ghost use Rattle.acas_outside.specs.Frame.{OnlyWrites};
+    ghost use Rattle.acas_table_writer.specs.Pieces.{Appends, Holds};
+    ghost use Rattle.acas_table_text.specs.Text.{layer_text, layer_of};
+
+    /// Room for pieces that follow these bytes.
+    pub fn behind(alloc: Global, head: &[u8]) -> Result<Pieces, AllocError>
+        ensures { IfOk result (λ p. Holds p head.now) }
+    {
+        let mut hasher = Sha256::new();
+        hasher.update(head);
+        Ok(Pieces {
+            buffer: room(alloc)?,
+            hasher,
+        })
+    }
+
+    // Appends some bytes.
+    fn bytes<F: Folder>(&mut self, bytes: &[u8], folder: &mut F, name: &str) -> Result<(), Failed>
+        requires served { IsTrue (F.serves folder.old name.now) }
+        requires held { Given (F.holds folder.old) name.now (λ file. IsSome file) }
+        ensures { Appends F.Folder folder.old folder.new name.now bytes.now self.old self.new result }
+    {
+        self.hasher.update(bytes);
+        write_piece(folder, name, bytes)
+    }
+
+    /// Appends the digest of what was appended. From then on only the digest counts as appended.
+    pub fn digest<F: Folder>(&mut self, folder: &mut F, name: &str) -> Result<(), Failed>
+        requires served { IsTrue (F.serves folder.old name.now) }
+        requires held { Given (F.holds folder.old) name.now (λ file. IsSome file) }
+        ensures hashed { (m : List ℕ) → Holds self.old m → OnOk result (Holds self.new (sha256 m)) }
+        ensures ok { (m : List ℕ) → Holds self.old m →
+            OnOk result (Grows (F.holds folder.old) (F.holds folder.new) name.now (sha256 m)) }
+        ensures err { (m : List ℕ) → Holds self.old m →
+            OnErr result (GrowsPart (F.holds folder.old) (F.holds folder.new) name.now (sha256 m)) }
+        ensures frame { OnlyWrites F.Folder folder.old folder.new (IsErr result) }
+    {
+        let digest = self.hasher.finalize_reset();
+        self.bytes(&digest, folder, name)
+    }
+
+    /// Appends the entries of a layer.
+    pub fn layer<F: Folder>(
+        &mut self,
+        pairs: &[Pair],
+        advice: &[u8],
+        folder: &mut F,
+        name: &str,
+    ) -> Result<(), Failed>
+        requires served { IsTrue (F.serves folder.old name.now) }
+        requires held { Given (F.holds folder.old) name.now (λ file. IsSome file) }
+        requires long { length advice.now ≡ length pairs.now }
+        requires bound { length pairs.now ≤ GREATEST_ENTRIES }
+        ensures { let text = layer_text (layer_of pairs.now advice.now) in
+            Appends F.Folder folder.old folder.new name.now text self.old self.new result }
+    {
+        let mut at = 0;
+        while at < pairs.len() {
+            let count = (pairs.len() - at).min(STATES);
+            self.piece(
+                &pairs[at..at + count],
+                &advice[at..at + count],
+                folder,
+                name,
+            )?;
+            at += count;
+        }
+        Ok(())
+    }
+
+    // Appends one piece of a layer.
+    fn piece<F: Folder>(
+        &mut self,
+        pairs: &[Pair],
+        advice: &[u8],
+        folder: &mut F,
+        name: &str,
+    ) -> Result<(), Failed>
+        requires served { IsTrue (F.serves folder.old name.now) }
+        requires held { Given (F.holds folder.old) name.now (λ file. IsSome file) }
+        requires long { length advice.now ≡ length pairs.now }
+        requires bound { length pairs.now ≤ 3855 }
+        ensures { let text = layer_text (layer_of pairs.now advice.now) in
+            Appends F.Folder folder.old folder.new name.now text self.old self.new result }
+    {
+        encode_entries(&mut self.buffer, pairs, advice);
+        let bytes = &self.buffer[..17 * pairs.len()];
+        self.hasher.update(bytes);
+        write_piece(folder, name, bytes)
+    }
+}
+
+fn room(alloc: Global) -> Result<Vec<u8>, AllocError>
+    ensures { IfOk result (λ v. length v.items ≡ PIECE) }
+{
+    vec![in alloc; 0u8; PIECE]
+}
