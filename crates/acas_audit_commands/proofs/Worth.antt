@@ -51,8 +51,8 @@ audit-worth model table which cause before after answers =
       refused = λ refusal is. rejects-table model table files (λ digest m bytes. prints []) refusal (λ digest m bytes is_refused. subst MayPrint is_refused tt)
           (report-refused looks (IsAuditText model table which) (IsAuditBegun model table which) files (Refused refusal) after (λ never. never)
           (subst (λ (c : Cause). Agrees (CallsForAudit model table which) files c before after) is agrees));
-      not_refused = λ bytes given m t says there accepted.
+      not_refused = λ m t says.
           not_refused (CallsForAudit model table which) files cause before after
           (λ o may. report-may_print looks (IsAuditText model table which) (IsAuditBegun model table which) files o
-          (subst (λ (p : Outcome). MayPrint p.cause) (sym (read-table files model table bytes given m t (λ digest n b. prints []) says there accepted)) tt) may) answers.has_cause agrees;
+          (subst (λ (p : Outcome). MayPrint p.cause) (sym (read-table files model table m t (λ digest n b. prints []) says)) tt) may) answers.has_cause agrees;
     }

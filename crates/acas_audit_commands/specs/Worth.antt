@@ -1,14 +1,11 @@
 -- What `audit` is worth, in the words of the subject, over a folder that tells its files.
 use Rattle.std.specs.Prelude.{◌≡◌, ℕ, List, Some}
-use Rattle.std.specs.FinMap.{get}
-use Rattle.sha2.specs.Sha256.{sha256}
 use Rattle.acas_spec.specs.Model.{ModelData}
 use Rattle.acas_spec.specs.Table.{Table}
 use Rattle.acas_base.specs.Advices.{AdvicesData}
 use Rattle.acas_outside.specs.Bytes.{Appends}
 use Rattle.acas_outside.specs.Files.{Files}
 use Rattle.acas_outside.specs.Outside.{Outside}
-use Rattle.acas_accept.specs.Accepted.{IsAcceptedTable}
 use Rattle.acas_cells.specs.Corners.{advisory_cells}
 use Rattle.acas_report_lines.specs.Report.{IsReportOn}
 use Rattle.acas_report_lines.specs.Text.{is_certified}
@@ -19,11 +16,10 @@ use Rattle.acas_report_lines.specs.declared.counts.Which.{Which}
 use Rattle.acas_table_text.specs.declared.refusal.TableRefusal.{TableRefusal}
 use Rattle.acas_command.specs.Called.{MayPrint}
 use Rattle.acas_command.specs.Outcome.{report_cause}
-use Rattle.acas_command.specs.Says.{SaysModel}
 use Rattle.acas_command.specs.Worth.{IsNotRefused}
 use Rattle.acas_command.specs.declared.status.Cause.{Cause}
 use Rattle.acas_command.specs.declared.status.Cause.TheVariants.{Table as Refused}
-use Rattle.acas_table_file.specs.Worth.{RejectsTable, TellsAdvices}
+use Rattle.acas_table_file.specs.Worth.{RejectsTable, SaysTable, TellsAdvices}
 
 -- M says a model, T is the text of a table of it whose entries are all sound, and what was printed is a report of that table's advices:
 -- each of its advisory cells is ruled on, in order. The cause says whether one is reported.
@@ -43,5 +39,4 @@ pub record PrintsAudit (model table : List ℕ) (which : Which) (files : Files) 
 pub record AuditIsWorth (model table : List ℕ) (which : Which) (files : Files) (cause : Cause) (before after : Outside) : Type 0 where
   pub printed : MayPrint cause → PrintsAudit model table which files cause before after
   pub refused : (refusal : TableRefusal) → cause ≡ Refused refusal → RejectsTable model table files
-  pub not_refused : (bytes given : List ℕ) (m : ModelData) (t : Table) → SaysModel files model bytes m → get files table ≡ Some given
-      → IsAcceptedTable m (sha256 bytes) given t → IsNotRefused cause before after
+  pub not_refused : (m : ModelData) (t : Table) → SaysTable model table files m t → IsNotRefused cause before after

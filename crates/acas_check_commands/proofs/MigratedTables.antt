@@ -38,7 +38,7 @@ use Rattle.acas_command.proofs.Refused.{behind-model, no_file_cause-may_print, n
 use Rattle.acas_command.proofs.Says.{says-model}
 use Rattle.acas_table_file.specs.AcceptedFile.{IsLayersFile}
 use Rattle.acas_table_file.specs.Calls.{with_table}
-use Rattle.acas_table_file.specs.Worth.{RejectsTable}
+use Rattle.acas_table_file.specs.Worth.{RejectsTable, SaysTable}
 use Rattle.acas_table_file.proofs.Files.{behind-table, called-layers, read-table, rejects-table, with_table-accepted}
 use Rattle.acas_table_rows.specs.TableFile.{entries_of, text_of_all}
 use Rattle.acas_check_commands.specs.Calls.{CallsForMigrate, migrate_of}
@@ -123,13 +123,9 @@ migrates-table model table target files after o called prints stored whole =
     let accepted : IsAcceptedTable b.m digest b.given t = given_is_accepted b.m digest b.given b.says.text.within (bytes-of (get files table) b.given b.file whole) b.none in
     let text : as_layered digest (shape_of b.m.grid) b.given ≡ table_text Layered digest b.m.grid t = migrated_text b.m digest b.given t b.says.text.within (length-sha256 b.bytes) accepted in
     record {
-      bytes = b.bytes;
       m = b.m;
-      given = b.given;
       t = t;
-      says = b.says;
-      file = b.file;
-      accepted = accepted;
+      says = record { bytes = b.bytes; given = b.given; says = b.says; file = b.file; accepted = accepted };
       migrated =
           subst (λ (bytes : List ℕ). IsAcceptedTable b.m digest bytes t) text
           (migrated_is_accepted b.m digest b.given t b.says.text.within (length-sha256 b.bytes) accepted);
@@ -151,9 +147,9 @@ rejected : (model table target : List ℕ) (files : Files) (refusal : TableRefus
 rejected model table target files refusal after a =
     rejects-table model table files (rest_of_table target) refusal (λ digest m bytes is. subst MayPrint is tt) (ap (λ (o : Outcome). o.cause) (sym a.may) ∙ a.refused)
 
-migrated-outcome : (files : Files) (model table target bytes given : List ℕ) (m : ModelData) (t : Table) → SaysModel files model bytes m → get files table ≡ Some given → IsAcceptedTable m (sha256 bytes) given t
-    → migrate_of (get files model) (get files table) target ≡ rest_of_table target (sha256 bytes) m given
-migrated-outcome files model table target bytes given m t says there accepted = read-table files model table bytes given m t (rest_of_table target) says there accepted
+migrated-outcome : (files : Files) (model table target : List ℕ) (m : ModelData) (t : Table) (s : SaysTable model table files m t)
+    → migrate_of (get files model) (get files table) target ≡ rest_of_table target (sha256 s.bytes) m s.given
+migrated-outcome files model table target m t s = read-table files model table m t (rest_of_table target) s
 
 pub migrate-worth : (model table target : List ℕ) (cause : Cause) (before after : Outside) → Answers (CallsForMigrate model table target) cause before after
     → ((cause ≡ Done) ⊎ (cause ≡ Output) → Given before.holds table (λ file. IsSomeAnd file IsBytes)) → IfSome before.holds (λ files. MigrateIsWorth model table target files cause before after)
@@ -168,7 +164,7 @@ migrate-worth model table target cause before after answers whole = by_holds bef
           (λ (is : cause ≡ Output). migrates-output model table target files before after (subst (λ (c : Cause). Agrees (CallsForMigrate model table target) files c before after) is agrees) (bytes (inr is)))
           either;
       refused = λ refusal is. rejected model table target files refusal after (subst (λ (c : Cause). Agrees (CallsForMigrate model table target) files c before after) is agrees);
-      not_refused = λ text given m t says there accepted.
+      not_refused = λ m t says.
           not_refused (CallsForMigrate model table target) files cause before after
-          (λ o called. prints-cause o _ (called ∙ migrated-outcome files model table target text given m t says there accepted) tt) answers.has_cause agrees;
+          (λ o called. prints-cause o _ (called ∙ migrated-outcome files model table target m t says) tt) answers.has_cause agrees;
     }

@@ -23,7 +23,7 @@ use Rattle.acas_command.proofs.Refused.{behind-model, no_file_cause-may_print, n
 use Rattle.acas_command.proofs.Says.{says-model}
 use Rattle.acas_command.specs.Says.{SaysModel}
 use Rattle.acas_table_file.proofs.Files.{behind-table, read-table, rejects-table, bytes-of}
-use Rattle.acas_table_file.specs.Worth.{RejectsTable}
+use Rattle.acas_table_file.specs.Worth.{RejectsTable, SaysTable}
 use Rattle.acas_check_commands.specs.AcceptedLine.{accepted_line}
 use Rattle.acas_check_commands.specs.Calls.{CallsForCheck, check_of}
 use Rattle.acas_check_commands.specs.Worth.{AcceptsTable, CheckIsWorth}
@@ -45,13 +45,9 @@ accepts-table model table files before after a whole =
     let accepted : IsAcceptedTable b.m (sha256 b.bytes) t.0 (given_table b.m.grid t.0) =
     given_is_accepted b.m (sha256 b.bytes) t.0 says.text.within (bytes-of (get files table) t.0 t.1 whole) t.2 in
     record {
-      bytes = b.bytes;
       m = b.m;
-      given = t.0;
       t = given_table b.m.grid t.0;
-      says = says;
-      file = t.1;
-      accepted = accepted;
+      says = record { bytes = b.bytes; given = t.0; says = says; file = t.1; accepted = accepted };
       bounds = two_sided_bounds b.m (given_table b.m.grid t.0) says.text.within accepted.sound;
     }
 
@@ -59,9 +55,8 @@ rejected : (model table : List ℕ) (files : Files) (refusal : TableRefusal) (af
 rejected model table files refusal after a =
     rejects-table model table files (λ digest m. line_of_check m) refusal (λ digest m bytes is. subst MayPrint is tt) (ap (λ (o : Outcome). o.cause) (sym a.may) ∙ a.refused)
 
-checked-line : (files : Files) (model table bytes given : List ℕ) (m : ModelData) (t : Table) → SaysModel files model bytes m → get files table ≡ Some given → IsAcceptedTable m (sha256 bytes) given t
-    → check_of (get files model) (get files table) ≡ prints (accepted_line m.grid)
-checked-line files model table bytes given m t says there accepted = read-table files model table bytes given m t (λ digest n. line_of_check n) says there accepted
+checked-line : (files : Files) (model table : List ℕ) (m : ModelData) (t : Table) → SaysTable model table files m t → check_of (get files model) (get files table) ≡ prints (accepted_line m.grid)
+checked-line files model table m t says = read-table files model table m t (λ digest n. line_of_check n) says
 
 pub check-worth : (model table : List ℕ) (cause : Cause) (before after : Outside) → Answers (CallsForCheck model table) cause before after
     → (cause ≡ Done → Given before.holds table (λ file. IsSomeAnd file IsBytes)) → IfSome before.holds (λ files. CheckIsWorth model table files cause before after)
@@ -73,7 +68,7 @@ check-worth model table cause before after answers whole = by_holds before.holds
     by_holds (Some files) agrees bytes = record {
       done = λ is. accepts-table model table files before after (subst (λ (c : Cause). Agrees (CallsForCheck model table) files c before after) is agrees) (bytes is);
       refused = λ refusal is. rejected model table files refusal after (subst (λ (c : Cause). Agrees (CallsForCheck model table) files c before after) is agrees);
-      not_refused = λ text given m t says there accepted.
+      not_refused = λ m t says.
           not_refused (CallsForCheck model table) files cause before after
-          (λ o called. prints-cause o _ (called ∙ checked-line files model table text given m t says there accepted) tt) answers.has_cause agrees;
+          (λ o called. prints-cause o _ (called ∙ checked-line files model table m t says) tt) answers.has_cause agrees;
     }

@@ -32,9 +32,13 @@ stored-accepted model table files cause before between again after apart told co
     let now : Files = insert files table text in
     let worth : CheckIsWorth model table now cause again after =
     subst (λ (o : Option Files). IfSome o (λ fs. CheckIsWorth model table fs cause again after)) (kept ∙ t.stored) checked in
-    worth.not_refused t.bytes text t.m t.t
-    (record { file = get-insert_other files table text model apart ∙ t.says.file; short = t.says.short; text = t.says.text })
-    (get-insert_same files table text) t.accepted
+    worth.not_refused t.m t.t (record {
+      bytes = t.bytes;
+      given = text;
+      says = record { file = get-insert_other files table text model apart ∙ t.made.says.file; short = t.made.says.short; text = t.made.says.text };
+      file = get-insert_same files table text;
+      accepted = t.accepted;
+    })
 
 pub accepted-audited : (model table : List ℕ) (which : Which) (files : Files) (cause : Cause) (before between again after : Outside) → before.holds ≡ Some files
     → Headline (Some (Check model table)) Done before between → again.holds ≡ Some files → Headline (Some (Audit model table which)) cause again after → IsNotRefused cause again after
@@ -44,7 +48,7 @@ accepted-audited model table which files cause before between again after told c
     let t = worth.done refl in
     let audits : AuditIsWorth model table which files cause again after =
     subst (λ (o : Option Files). IfSome o (λ fs. AuditIsWorth model table which fs cause again after)) kept audited in
-    audits.not_refused t.bytes t.given t.m t.t t.says t.file t.accepted
+    audits.not_refused t.m t.t t.says
 
 -- what a run of `migrate` has stored, where the files are told
 migrates : (model table target : List ℕ) (files : Files) (before after : Outside) → before.holds ≡ Some files → Headline (Some (Migrate model table target)) Done before after
@@ -58,24 +62,29 @@ pub migrated-accepted : (model table target : List ℕ) (files : Files) (cause :
     → Headline (Some (Migrate model table target)) Done before between → again.holds ≡ between.holds → Headline (Some (Check model target)) cause again after → IsNotRefused cause again after
 migrated-accepted model table target files cause before between again after apart told migrated kept checked =
     let t = migrates model table target files before between told migrated in
-    let text : List ℕ = table_text Layered (sha256 t.bytes) t.m.grid t.t in
+    let text : List ℕ = table_text Layered (sha256 t.says.bytes) t.m.grid t.t in
     let now : Files = insert files target text in
     let worth : CheckIsWorth model target now cause again after =
     subst (λ (o : Option Files). IfSome o (λ fs. CheckIsWorth model target fs cause again after)) (kept ∙ t.stored) checked in
-    worth.not_refused t.bytes text t.m t.t
-    (record { file = get-insert_other files target text model apart ∙ t.says.file; short = t.says.short; text = t.says.text })
-    (get-insert_same files target text) t.migrated
+    worth.not_refused t.m t.t (record {
+      bytes = t.says.bytes;
+      given = text;
+      says = record { file = get-insert_other files target text model apart ∙ t.says.says.file; short = t.says.says.short; text = t.says.says.text };
+      file = get-insert_same files target text;
+      accepted = t.migrated;
+    })
 
 -- a run of `migrate` whose table is in version 2 already stores it again
 again-same : (model table target text : List ℕ) (files : Files) (after : Outside) → get files table ≡ Some text → format_of text ≡ Layered → MigratesTable model table target files after → IsSomeAnd after.holds (λ now. get now target ≡ Some text)
 again-same model table target text files after there layered t =
-    let f : Format = t.accepted.format in
-    let both = sym t.file ∙ there in
-    let given : t.given ≡ text = cc both in
-    let is : f ≡ Layered = sym (format-text f (sha256 t.bytes) (shape_of t.m.grid) (layers_of t.m.grid t.t)) ∙ ap format_of (sym t.accepted.text ∙ given) ∙ layered in
-    let same : table_text Layered (sha256 t.bytes) t.m.grid t.t ≡ text = ap (λ (g : Format). table_text g (sha256 t.bytes) t.m.grid t.t) (sym is) ∙ sym t.accepted.text ∙ given in
+    let s = t.says in
+    let f : Format = s.accepted.format in
+    let both = sym s.file ∙ there in
+    let given : s.given ≡ text = cc both in
+    let is : f ≡ Layered = sym (format-text f (sha256 s.bytes) (shape_of t.m.grid) (layers_of t.m.grid t.t)) ∙ ap format_of (sym s.accepted.text ∙ given) ∙ layered in
+    let same : table_text Layered (sha256 s.bytes) t.m.grid t.t ≡ text = ap (λ (g : Format). table_text g (sha256 s.bytes) t.m.grid t.t) (sym is) ∙ sym s.accepted.text ∙ given in
     subst (λ (o : Option Files). IsSomeAnd o (λ now. get now target ≡ Some text)) (sym t.stored)
-    (get-insert_same files target (table_text Layered (sha256 t.bytes) t.m.grid t.t) ∙ ap (λ (l : List ℕ). Some l) same)
+    (get-insert_same files target (table_text Layered (sha256 s.bytes) t.m.grid t.t) ∙ ap (λ (l : List ℕ). Some l) same)
 
 -- what was stored is in version 2
 stored-text : (files : Files) (name stored text : List ℕ) (now : Option Files) → now ≡ Some (insert files name stored) → IsSomeAnd now (λ fs. get fs name ≡ Some text) → stored ≡ text
@@ -102,8 +111,8 @@ pub migrated-again : (model table target last text : List ℕ) (files : Files) (
     → IsSomeAnd between.holds (λ now. get now target ≡ Some text) → IsSomeAnd after.holds (λ now. get now last ≡ Some text)
 migrated-again model table target last text files before between again after told migrated kept twice held =
     let t = migrates model table target files before between told migrated in
-    let first : List ℕ = table_text Layered (sha256 t.bytes) t.m.grid t.t in
+    let first : List ℕ = table_text Layered (sha256 t.says.bytes) t.m.grid t.t in
     let same : first ≡ text = stored-text files target first text between.holds t.stored held in
     again-same model target last text (insert files target first) after (get-insert_same files target first ∙ ap (λ (l : List ℕ). Some l) same)
-    (ap format_of (sym same) ∙ format-text Layered (sha256 t.bytes) (shape_of t.m.grid) (layers_of t.m.grid t.t))
+    (ap format_of (sym same) ∙ format-text Layered (sha256 t.says.bytes) (shape_of t.m.grid) (layers_of t.m.grid t.t))
     (migrates model target last (insert files target first) again after (kept ∙ t.stored) twice)

@@ -15,6 +15,9 @@ pub use acas_table_text::TableRefusal;
 pub use error_line::{report, report_memory, report_words};
 pub use line_fields::{put_count, put_millionths, put_number, put_text, put_wide_millionths};
 pub use model_file::{ModelFile, read_model_file};
-pub use state_fields::{put_count_field, put_millionths_field, put_state_fields, put_text_field};
+pub use state_fields::{
+    put_count_field, put_millionths_field, put_name_field, put_number_field, put_state_fields,
+    put_text_field,
+};
 pub use status::{Cause, FileRole, Status, cause_of, cause_of_report};
 pub use text_file::read_text_file;

@@ -26,9 +26,9 @@ pub fn put_state_fields(line: &mut Line, model: &Model, present: u8, vertex: Ver
     put_number_field(line, grid.v1.value(vertex.k));
 }
 
-// Appends a name and a space.
+/// Appends a name and a space.
 #[tactic(auto, unfolding(crate::specs::Fields::field))]
-fn put_name_field(line: &mut Line, name: &[u8])
+pub fn put_name_field(line: &mut Line, name: &[u8])
     requires short { length name.now ≤ GREATEST_NAME_BYTES }
     requires room { length line.old + GREATEST_NAME_BYTES + 1 ≤ LINE_BYTES }
     ensures value { line.new ≡ line.old ++ field name.now }
@@ -60,9 +60,9 @@ pub fn put_count_field(line: &mut Line, value: u64)
     line.push(b" ");
 }
 
-// A number and a space.
+/// Appends a number and a space.
 #[tactic(auto, unfolding(crate::specs::Fields::field))]
-fn put_number_field(line: &mut Line, value: i64)
+pub fn put_number_field(line: &mut Line, value: i64)
     requires { length line.old + 21 ≤ LINE_BYTES }
     ensures value { line.new ≡ line.old ++ field (signed_decimal value) }
     ensures room { length line.new ≤ length line.old + 21 }

@@ -22,7 +22,7 @@ use Rattle.acas_command.specs.Answers.{Agrees, Answers}
 use Rattle.acas_command.specs.Called.{MayPrint}
 use Rattle.acas_command.specs.Calls.{with_input, with_input_file}
 use Rattle.acas_command.specs.Outcome.{Outcome, prints, refuses}
-use Rattle.acas_command.specs.Says.{SaysModel}
+use Rattle.acas_command.specs.Says.{RejectsBeside, SaysBeside, SaysModel}
 use Rattle.acas_command.specs.declared.status.Cause.{Cause}
 use Rattle.acas_command.specs.declared.status.Cause.TheVariants.{Done, Input, Table as Refused, TooLong}
 use Rattle.acas_command.specs.declared.status.FileRole.TheVariants.{Encounter as EncounterFile}
@@ -34,7 +34,8 @@ use Rattle.acas_command.proofs.Says.{file-says, says-model}
 use Rattle.acas_table_file.specs.Calls.{with_table}
 use Rattle.acas_table_file.proofs.Files.{behind-input, read-table, rejects-table, tells-advices}
 use Rattle.acas_encounter_commands.specs.Calls.{CallsForReplay, IsReplayBegun, IsReplayText, encounter_looked_at, replay_looks_at}
-use Rattle.acas_encounter_commands.specs.Worth.{PrintsReplay, RejectsEncounter, ReplayIsWorth}
+use Rattle.acas_encounter_commands.specs.Worth.{PrintsReplay, ReplayIsWorth}
+use Rattle.acas_table_file.specs.Worth.{SaysTable}
 
 prints-replay : (model table encounter : List ℕ) (files : Files) (before after : Outside) → IsPrinted (IsReplayText model table encounter files) files Done before after
     → PrintsReplay model table encounter files before after
@@ -49,11 +50,15 @@ prints-replay model table encounter files before after p =
       m = m;
       advices = advices;
       advised = tells-advices model table files m advices is.advised;
-      given = is.encounter_file.bytes;
       flown = flown;
-      file = is.encounter_file.text.there;
-      short = is.encounter_file.text.short;
-      encounter_text = said m is.encounter_file.bytes flown says.text.within is.encounter_file.is_read;
+      says = record {
+        bytes = is.advised.model_file.bytes;
+        given = is.encounter_file.bytes;
+        says = says;
+        file = is.encounter_file.text.there;
+        short = is.encounter_file.text.short;
+        text = said m is.encounter_file.bytes flown says.text.within is.encounter_file.is_read;
+      };
       course = r.course;
       is_course = r.is_course;
       printed = subst (λ (text : List ℕ). Appends before.written after.written text) r.printed p.printed;
@@ -76,7 +81,7 @@ no_table-encounter m (Some bytes) refusal h = in_length (nat_lt TEXT_BYTES (leng
     in_length true h = cc h
     in_length false h = refuses_none (encounter_of m bytes) h
 
-rejects-encounter : (model table encounter : List ℕ) (files : Files) (fault : InputFault) → (replay_looks_at model table encounter files).cause ≡ Input fault → RejectsEncounter model encounter files
+rejects-encounter : (model table encounter : List ℕ) (files : Files) (fault : InputFault) → (replay_looks_at model table encounter files).cause ≡ Input fault → RejectsBeside (λ m digest. IsEncounterText m) model encounter files
 rejects-encounter model table encounter files fault cause =
     let behind : List ℕ → ModelData → Outcome = λ digest m. with_table m digest (get files table) (λ bytes. encounter_looked_at encounter files m) in
     let b = behind-model (get files model) behind (subst IsNoFileCause (sym cause) tt) in
@@ -94,12 +99,12 @@ rejects-encounter model table encounter files fault cause =
           absurd (cc both);
     }
 
-replay-looks : (files : Files) (model table encounter bytes given flown_bytes : List ℕ) (m : ModelData) (t : Table) (flown : EncounterData) → SaysModel files model bytes m → get files table ≡ Some given
-    → IsAcceptedTable m (sha256 bytes) given t → get files encounter ≡ Some flown_bytes → length flown_bytes ≤ TEXT_BYTES → IsEncounterText m flown_bytes flown
-    → replay_looks_at model table encounter files ≡ prints []
-replay-looks files model table encounter bytes given flown_bytes m t flown says there accepted is_there short text =
-    read-table files model table bytes given m t (λ digest n b. encounter_looked_at encounter files n) says there accepted
-    ∙ with_input_file-read EncounterFile (encounter_of m) (get files encounter) flown_bytes flown (λ f. prints []) (record { there = is_there; short = short }) (understood m flown_bytes flown says.text.within text)
+replay-looks : (files : Files) (model table encounter : List ℕ) (m : ModelData) (t : Table) (flown : EncounterData) → SaysTable model table files m t
+    → SaysBeside IsEncounterText model encounter files m flown → replay_looks_at model table encounter files ≡ prints []
+replay-looks files model table encounter m t flown says e =
+    read-table files model table m t (λ digest n b. encounter_looked_at encounter files n) says
+    ∙ with_input_file-read EncounterFile (encounter_of m) (get files encounter) e.given flown (λ f. prints []) (record { there = e.file; short = e.short })
+    (understood m e.given flown e.says.text.within e.text)
 
 pub replay-worth : (model table encounter : List ℕ) (cause : Cause) (before after : Outside) → Answers (CallsForReplay model table encounter) cause before after
     → IfSome before.holds (λ files. ReplayIsWorth model table encounter files cause before after)
@@ -120,8 +125,8 @@ replay-worth model table encounter cause before after answers =
       refused_encounter = λ fault is. rejects-encounter model table encounter files fault
           (report-refused looks (IsReplayText model table encounter) (IsReplayBegun model table encounter) files (Input fault) after (λ never. never)
           (subst (λ (c : Cause). Agrees (CallsForReplay model table encounter) files c before after) is agrees));
-      not_refused = λ bytes given flown_bytes m t flown says there accepted is_there short text.
+      not_refused = λ m t flown says beside.
           not_refused (CallsForReplay model table encounter) files cause before after
           (λ o may. report-may_print looks (IsReplayText model table encounter) (IsReplayBegun model table encounter) files o
-          (subst (λ (p : Outcome). MayPrint p.cause) (sym (replay-looks files model table encounter bytes given flown_bytes m t flown says there accepted is_there short text)) tt) may) answers.has_cause agrees;
+          (subst (λ (p : Outcome). MayPrint p.cause) (sym (replay-looks files model table encounter m t flown says beside)) tt) may) answers.has_cause agrees;
     }

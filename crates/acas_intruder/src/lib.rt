@@ -7,5 +7,5 @@ mod prints;
 mod report;
 mod verdict;
 
-pub use report::{BoxByBox, write_meetings};
+pub use report::write_meetings;
 pub use verdict::meet_verdict;

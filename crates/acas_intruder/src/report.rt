@@ -2,9 +2,10 @@
 ghost use Rattle.std.specs.Prelude.{◌≡◌, ◌<◌, ℕ, List, IfOk, IsErrOf, length};
 ghost use Rattle.acas_outside.specs.Bytes.{Appends};
 ghost use Rattle.acas_outside.specs.Frame.{Emits};
-ghost use Rattle.acas_rulings.specs.Boxes.{AreBoxesOf, box_at};
+ghost use Rattle.acas_rulings.specs.Boxes.{AreBoxesOf, IsBoxOf, box_at};
 ghost use Rattle.acas_manoeuvre.specs.Intruder.{RatesFit};
 ghost use Rattle.acas_manoeuvre.specs.View.{may_of};
+ghost use Rattle.acas_meetings.specs.Verdicts.{IsMeetVerdict};
 ghost use Rattle.acas_report_lines.specs.Meetings.{IsMeetingsBegun, IsMeetingsReport};
 
 use crate::verdict::meet_verdict;
@@ -13,17 +14,25 @@ use acas_manoeuvre::Manoeuvre;
 use acas_meetings::MeetVerdict;
 use acas_outside::Sink;
 use acas_print::PrintFault;
-use acas_report_lines::{MeetCounts, MeetRulings, write_meetings_by};
+use acas_report_lines::{BoxSource, MeetCounts, write_boxes_by};
 use acas_rulings::{AuditBox, Boxes};
 use std::alloc::Global;
 
-/// The source that gives each box a verdict of its own.
+/// The source that gives each box a verdict of its own, against an intruder that may change its rate.
 #[derive(Drop)]
-pub struct BoxByBox;
+struct BoxByBox<'a> {
+    may: &'a Manoeuvre,
+}
 
-impl MeetRulings for BoxByBox {
-    fn verdict(&self, model: &Model, may: &Manoeuvre, area: &AuditBox) -> MeetVerdict {
-        meet_verdict(model, area, may)
+impl BoxSource for BoxByBox<'_> {
+    type Ruling = MeetVerdict;
+
+    ghost takes = { λ it m b. IsBoxOf m b × RatesFit (may_of it.may.now) b.states.intruder };
+
+    ghost rules = { λ it m b verdict. IsMeetVerdict m (may_of it.may.now) b verdict };
+
+    fn ruling(&self, model: &Model, area: &AuditBox) -> MeetVerdict {
+        meet_verdict(model, area, self.may)
     }
 }
 
@@ -47,5 +56,9 @@ pub fn write_meetings<S: Sink>(
     ensures memory { IsErrOf result PrintFault.Memory → S.written sink.new ≡ S.written sink.old }
     ensures frame { Emits S.Sink sink.old sink.new (IsErrOf result PrintFault.Sink) }
 {
-    write_meetings_by(alloc, model, boxes, may, &BoxByBox, sink)
+    let counts = write_boxes_by(alloc, model, boxes, &BoxByBox { may }, sink)?;
+    Ok(MeetCounts {
+        certified: counts.certified,
+        reported: counts.reported,
+    })
 }

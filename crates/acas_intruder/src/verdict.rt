@@ -9,7 +9,7 @@ use crate::prints::meeting_of;
 use acas_base::Model;
 use acas_manoeuvre::Manoeuvre;
 use acas_meetings::MeetVerdict;
-use acas_race::is_apart;
+use acas_race::{Conflict, is_apart};
 use acas_region::window_of_box;
 use acas_rulings::AuditBox;
 
@@ -24,9 +24,16 @@ pub fn meet_verdict(model: &Model, area: &AuditBox, may: &Manoeuvre) -> MeetVerd
     // Opens the model's limits: what an advisory of it asks can be met.
     let _ = model.grid();
     let window = window_of_box(model, area.range, area.closing);
-    if is_apart(model, may, &area.area, &window, area.advisory) {
+    let conflict = Conflict {
+        model,
+        may,
+        area: &area.area,
+        window: &window,
+        advisory: area.advisory,
+    };
+    if is_apart(&conflict) {
         return MeetVerdict::Certified;
     }
-    let flown = course_in(model, may, &area.area, &window, area.advisory);
+    let flown = course_in(&conflict);
     MeetVerdict::Reported(meeting_of(model, area, may, &flown))
 }

@@ -26,7 +26,7 @@ use Rattle.acas_command.specs.Answers.{Agrees, Answers}
 use Rattle.acas_command.specs.Called.{MayPrint}
 use Rattle.acas_command.specs.Calls.{with_input_file}
 use Rattle.acas_command.specs.Outcome.{Outcome, prints, report_cause}
-use Rattle.acas_command.specs.Says.{SaysModel}
+use Rattle.acas_command.specs.Says.{RejectsBeside, SaysBeside, SaysModel}
 use Rattle.acas_command.specs.declared.status.Cause.{Cause}
 use Rattle.acas_command.specs.declared.status.Cause.TheVariants.{Input}
 use Rattle.acas_command.specs.declared.status.FileRole.TheVariants.{Boxes as BoxesFile}
@@ -37,7 +37,7 @@ use Rattle.acas_command.proofs.Refused.{IsNoFileCause, behind-model, not_refused
 use Rattle.acas_command.proofs.Reports.{IsPrinted, report-may_print, report-printed, report-refused}
 use Rattle.acas_command.proofs.Says.{file-says, read-model, says-model}
 use Rattle.acas_manoeuvre_commands.specs.Calls.{CallsForManoeuvre, IsManoeuvreBegun, IsManoeuvreText, manoeuvre_looks_at}
-use Rattle.acas_manoeuvre_commands.specs.Worth.{IsVerdictOn, IsVerdictOnBox, ManoeuvreIsWorth, PrintsManoeuvre, RejectsBoxes, RejectsRates, SaysBoxes}
+use Rattle.acas_manoeuvre_commands.specs.Worth.{IsVerdictOn, IsVerdictOnBox, ManoeuvreIsWorth, PrintsManoeuvre, RejectsRates}
 
 -- ---- what was printed
 
@@ -61,7 +61,7 @@ prints-manoeuvre model boxes may files cause before after p =
         says = says;
         file = a.boxes_file.text.there;
         short = a.boxes_file.text.short;
-        boxes_text = said m a.boxes_file.bytes p.report.said says.text.within fitting.0;
+        text = said m a.boxes_file.bytes p.report.said says.text.within fitting.0;
       };
       rates = a.rates;
       counts = p.report.counts;
@@ -91,10 +91,10 @@ rejected model boxes may files fault cause =
     let t = rejected-input_file BoxesFile (fitting_boxes_of b.m may) (get files boxes) fault (ap (λ (o : Outcome). o.cause) (sym b.is) ∙ cause) in
     record { bytes = b.bytes; m = b.m; given = t.0; says = says-model files model behind b; file = t.1; is = t.2 }
 
-rejects-boxes : (model boxes : List ℕ) (may : Manoeuvre) (files : Files) (fault : InputFault) → ((place : ℕ) → fault ≢ Rate place) → Rejected model boxes may files fault → RejectsBoxes model boxes files
+rejects-boxes : (model boxes : List ℕ) (may : Manoeuvre) (files : Files) (fault : InputFault) → ((place : ℕ) → fault ≢ Rate place) → Rejected model boxes may files fault → RejectsBeside (λ m digest. IsBoxesText m) model boxes files
 rejects-boxes model boxes may files fault other r = by (fitting_err r.m may r.given fault r.is)
   where
-    by : (boxes_of r.m r.given ≡ Err fault) ⊎ ((said : List AuditedBox) × (boxes_of r.m r.given ≡ Ok said) × (rates_in may said ≡ Err fault)) → RejectsBoxes model boxes files
+    by : (boxes_of r.m r.given ≡ Err fault) ⊎ ((said : List AuditedBox) × (boxes_of r.m r.given ≡ Ok said) × (rates_in may said ≡ Err fault)) → RejectsBeside (λ m digest. IsBoxesText m) model boxes files
     by (inl refused) = record {
       bytes = r.bytes;
       m = r.m;
@@ -125,12 +125,12 @@ rejects-rates model boxes may files place r = by (fitting_err r.m may r.given (R
 
 -- ---- what is not refused
 
-manoeuvre-looks : (files : Files) (model boxes : List ℕ) (may : Manoeuvre) (m : ModelData) (boxes_said : List AuditedBox) → SaysBoxes model boxes files m boxes_said → AllRatesFit may boxes_said
+manoeuvre-looks : (files : Files) (model boxes : List ℕ) (may : Manoeuvre) (m : ModelData) (boxes_said : List AuditedBox) → SaysBeside IsBoxesText model boxes files m boxes_said → AllRatesFit may boxes_said
     → manoeuvre_looks_at model boxes may files ≡ prints []
 manoeuvre-looks files model boxes may m boxes_said says fit =
     read-model files model says.bytes m (λ digest n. with_input_file BoxesFile (fitting_boxes_of n may) (get files boxes) (λ b. prints [])) says.says
     ∙ with_input_file-read BoxesFile (fitting_boxes_of m may) (get files boxes) says.given boxes_said (λ b. prints []) (record { there = says.file; short = says.short })
-    (fitting_read m may says.given boxes_said (understood m says.given boxes_said says.says.text.within says.boxes_text) fit)
+    (fitting_read m may says.given boxes_said (understood m says.given boxes_said says.says.text.within says.text) fit)
 
 pub manoeuvre-worth : (model boxes : List ℕ) (may : Manoeuvre) (cause : Cause) (before after : Outside) → Answers (CallsForManoeuvre model boxes may) cause before after
     → IfSome before.holds (λ files. ManoeuvreIsWorth model boxes may files cause before after)

@@ -22,7 +22,7 @@ use Rattle.acas_report_lines.specs.Report.{IsReportOn}
 use Rattle.acas_report_lines.specs.declared.meet_counts.MeetCounts.{MeetCounts}
 use Rattle.acas_command.specs.Called.{MayPrint}
 use Rattle.acas_command.specs.Outcome.{report_cause}
-use Rattle.acas_command.specs.Says.{SaysModel}
+use Rattle.acas_command.specs.Says.{RejectsBeside, SaysBeside, SaysModel}
 use Rattle.acas_command.specs.Worth.{IsNotRefused}
 use Rattle.acas_command.specs.declared.status.Cause.{Cause}
 use Rattle.acas_command.specs.declared.status.Cause.TheVariants.{Input}
@@ -37,21 +37,12 @@ IsVerdictOn m may b (Reported meeting) = ShowsMeeting m may b meeting
 abbrev pub IsVerdictOnBox : ModelData → Manoeuvre → List AuditedBox → ℕ → MeetVerdict → Type 0
 IsVerdictOnBox m may said place verdict = IsVerdictOn m may (box_at said place) verdict
 
--- M says a model, and B says boxes beside it
-pub record SaysBoxes (model boxes : List ℕ) (files : Files) (m : ModelData) (said : List AuditedBox) : Type 0 where
-  pub bytes : List ℕ
-  pub given : List ℕ
-  pub says : SaysModel files model bytes m
-  pub file : get files boxes ≡ Some given
-  pub short : length given ≤ TEXT_BYTES
-  pub boxes_text : IsBoxesText m given said
-
 -- M says a model, B says boxes beside it whose rates the intruder may have, and what was printed is a report of them: each is ruled on,
 -- in order. The cause says whether one is reported.
 pub record PrintsManoeuvre (model boxes : List ℕ) (may : Manoeuvre) (files : Files) (cause : Cause) (before after : Outside) : Type 0 where
   pub m : ModelData
   pub said : List AuditedBox
-  pub says : SaysBoxes model boxes files m said
+  pub says : SaysBeside IsBoxesText model boxes files m said
   pub rates : AllRatesFit may said
   pub counts : MeetCounts
   pub text : List ℕ
@@ -59,15 +50,6 @@ pub record PrintsManoeuvre (model boxes : List ℕ) (may : Manoeuvre) (files : F
   pub printed : Appends before.written after.written text
   pub kept : after.holds ≡ Some files
   pub reported : cause ≡ report_cause counts.reported
-
--- M says a model, and B says no boxes beside it
-pub record RejectsBoxes (model boxes : List ℕ) (files : Files) : Type 0 where
-  pub bytes : List ℕ
-  pub m : ModelData
-  pub given : List ℕ
-  pub says : SaysModel files model bytes m
-  pub file : get files boxes ≡ Some given
-  pub none : (said : List AuditedBox) → IsBoxesText m given said → ⊥
 
 -- M says a model, and B says boxes beside it, of which this is the first whose rates the intruder may not have
 pub record RejectsRates (model boxes : List ℕ) (may : Manoeuvre) (files : Files) (place : ℕ) : Type 0 where
@@ -84,6 +66,6 @@ pub record RejectsRates (model boxes : List ℕ) (may : Manoeuvre) (files : File
 -- and where M says a model and B says boxes beside it whose rates the intruder may have, it is not refused
 pub record ManoeuvreIsWorth (model boxes : List ℕ) (may : Manoeuvre) (files : Files) (cause : Cause) (before after : Outside) : Type 0 where
   pub printed : MayPrint cause → PrintsManoeuvre model boxes may files cause before after
-  pub refused : (fault : InputFault) → cause ≡ Input fault → ((place : ℕ) → fault ≢ Rate place) → RejectsBoxes model boxes files
+  pub refused : (fault : InputFault) → cause ≡ Input fault → ((place : ℕ) → fault ≢ Rate place) → RejectsBeside (λ m digest. IsBoxesText m) model boxes files
   pub unfit : (place : ℕ) → cause ≡ Input (Rate place) → RejectsRates model boxes may files place
-  pub not_refused : (m : ModelData) (said : List AuditedBox) → SaysBoxes model boxes files m said → AllRatesFit may said → IsNotRefused cause before after
+  pub not_refused : (m : ModelData) (said : List AuditedBox) → SaysBeside IsBoxesText model boxes files m said → AllRatesFit may said → IsNotRefused cause before after

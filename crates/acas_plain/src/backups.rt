@@ -5,20 +5,36 @@ ghost use Rattle.acas_grid.specs.States as numbers;
 ghost use Rattle.acas_means.specs.Layer.{AreWithin, layer_values};
 ghost use Rattle.acas_step_stencils.specs.Stencils.{AreStencilsOf};
 ghost use Rattle.acas_means.specs.Values.{counted, value_with_cost};
-ghost use Rattle.std.specs.Prelude.{◌≡◌, ℕ, ◌+◌, ◌*◌, ◌<◌, ◌≤◌, ◌^◌, length, unsigned_abs};
-ghost use Rattle.acas_spec.specs.Model.{states, vertices};
-ghost use Rattle.acas_grid.specs.States as numbers;
-ghost use Rattle.acas_means.specs.Layer.{AreWithin, layer_values};
-ghost use Rattle.acas_means.specs.Values.{counted, value_with_cost};
 
 use acas_base::Model;
 use acas_frac::Rounding;
 use acas_means::Side;
 use acas_spec::Choice;
 use acas_step::{CellSearch, LedTo, mean_by};
-use acas_step_choices::{Backups, value_of_choice};
+use acas_step_choices::{Backups, MeanSource, value_over};
 use acas_step_stencils::Stencils;
 use acas_units::Pair;
+
+/// The means by what gives the corners.
+#[derive(Drop)]
+struct MeansBy<'a, L: LedTo> {
+    led_to: &'a L,
+}
+
+impl<L: LedTo> MeanSource for MeansBy<'_, L> {
+    ghost serves = { λ it m. L.serves it.led_to.now m };
+
+    fn mean<R: Rounding>(
+        &self,
+        model: &Model,
+        vertex: u32,
+        advisory: u8,
+        side: Side,
+        below: &[Pair],
+    ) -> i64 {
+        mean_by::<R, L>(model, self.led_to, vertex, advisory, side, below)
+    }
+}
 
 /// The value of a choice as `backup` gives it, by what gives the corners. It counts one backup for the upper side and none for the
 /// lower.
@@ -44,8 +60,8 @@ pub fn backup_by<R: Rounding, L: LedTo>(
         → unsigned_abs result ≤ most + 1_000_000 * unsigned_abs choice.now.cost }
     ensures count { count.new ≡ count.old + counted side }
 {
-    let mean = mean_by::<R, L>(model, led_to, vertex, choice.advisory, side, below);
-    value_of_choice(mean, choice, side, count)
+    let source = MeansBy { led_to };
+    value_over::<R, MeansBy<L>>(model, &source, vertex, choice, side, below, count)
 }
 
 /// The value of a choice at a vertex by the layer below, in millionths, whose pairs stand in the order of the states' numbers.

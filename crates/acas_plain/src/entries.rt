@@ -8,9 +8,22 @@ ghost use Rattle.acas_means.specs.Layer.{AreWithin};
 ghost use Rattle.acas_means.specs.declared.layer.Side.{Side};
 
 use acas_base::Model;
+use acas_means::VertexMeans;
 use acas_step::means_at;
-use acas_step_choices::{Backups, VertexEntries, fill_best};
-use acas_units::{Entry, GREATEST_ADVISORIES, Pair};
+use acas_step_choices::{Backups, VertexEntries, VertexMeansSource, entries_over};
+use acas_units::Pair;
+
+/// The means at a vertex, by one search for each advisory.
+#[derive(Drop)]
+struct SearchedMeans;
+
+impl VertexMeansSource for SearchedMeans {
+    ghost serves = { λ it m. Unit {0} };
+
+    fn means_at(&self, model: &Model, vertex: u32, below: &[Pair]) -> VertexMeans {
+        means_at(model, vertex, below)
+    }
+}
 
 /// The best entries at a vertex over the layer below, under each present advisory by its number. It counts a backup for each choice.
 pub fn entries_at(model: &Model, vertex: u32, below: &[Pair], count: &mut Backups) -> VertexEntries
@@ -21,13 +34,5 @@ pub fn entries_at(model: &Model, vertex: u32, below: &[Pair], count: &mut Backup
     ensures entries { AreVertexEntries model.now below.now (vertex_at model.now.grid vertex) result }
     ensures count { count.new ≡ count.old + choice_count model.now }
 {
-    let _ = model.grid();
-    let means = means_at(model, vertex, below);
-    let none = Entry {
-        pair: Pair { upper: 0, lower: 0 },
-        advice: 0,
-    };
-    let mut entries = [none; GREATEST_ADVISORIES as usize];
-    fill_best(model, &means, &mut entries, count);
-    entries
+    entries_over(model, &SearchedMeans, vertex, below, count)
 }

@@ -8,12 +8,12 @@ ghost use Rattle.acas_manoeuvre.specs.Turns.{race_number};
 ghost use Rattle.acas_manoeuvre.specs.View.{may_of};
 ghost use Rattle.acas_race.specs.View.{instant_at, race_in};
 
+use crate::conflict::Conflict;
 use crate::contest::Contest;
 use crate::nearest::nearest;
 use crate::number::{number, times};
 use crate::sides::{high_contest, low_contest};
 use acas_areas::{Asked, BoxState, Moment, Window};
-use acas_base::Model;
 use acas_manoeuvre::Manoeuvre;
 use acas_region::{asked_by, natural};
 use acas_units::{GREATEST_HALF_HEIGHT, TICKS_PER_FOOT};
@@ -50,19 +50,19 @@ fn is_apart_of(asked: &Asked, may: &Manoeuvre, area: &BoxState, window: &Window,
 /// Whether the area is apart, in the window, from an intruder that may change its rate: the lowest flight from it that meets the
 /// advisory is above the half height at every time, while the intruder goes to its greatest rate, or the highest is below it, while
 /// the intruder goes to its least. Then no manoeuvre endangers the area. The intruder's rates in the area are at most its greatest.
-pub fn is_apart(
-    model: &Model,
-    may: &Manoeuvre,
-    area: &BoxState,
-    window: &Window,
-    advisory: u8,
-) -> bool
-    requires advisory { advisory < model.now.grid.advisories }
-    requires fits { RatesFit (may_of may.now) (area_of area.now).intruder }
-    ensures { IsTrue result ↔ IsApart model.now.half (demand_of model.now advisory) (may_of may.now)
-        (area_of area.now) (times_of window.now) }
+pub fn is_apart(on: &Conflict<'_>) -> bool
+    requires advisory { on.now.advisory < on.now.model.now.grid.advisories }
+    requires fits { RatesFit (may_of on.now.may.now) (area_of on.now.area.now).intruder }
+    ensures { IsTrue result ↔ IsApart on.now.model.now.half (demand_of on.now.model.now on.now.advisory)
+        (may_of on.now.may.now) (area_of on.now.area.now) (times_of on.now.window.now) }
 {
-    let _ = model.grid();
-    let half = natural(model.half());
-    is_apart_of(&asked_by(model, advisory), may, area, window, half)
+    let _ = on.model.grid();
+    let half = natural(on.model.half());
+    is_apart_of(
+        &asked_by(on.model, on.advisory),
+        on.may,
+        on.area,
+        on.window,
+        half,
+    )
 }

@@ -3,6 +3,7 @@
 #![tactic(auto)]
 
 mod apart;
+mod conflict;
 mod contest;
 mod first;
 mod nearest;
@@ -12,4 +13,5 @@ mod sides;
 mod turn;
 
 pub use apart::is_apart;
+pub use conflict::Conflict;
 pub use search::{SearchTimes, search_times};

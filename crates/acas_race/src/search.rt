@@ -9,12 +9,10 @@ ghost use Rattle.acas_manoeuvre.specs.Least.{IsFirstLeastTime};
 ghost use Rattle.acas_manoeuvre.specs.Race.{high_race, low_race, turned};
 ghost use Rattle.acas_manoeuvre.specs.View.{may_of};
 
+use crate::conflict::Conflict;
 use crate::nearest::nearest_time;
 use crate::sides::{high_contest, low_contest};
-use acas_areas::{BoxState, Window};
-use acas_base::Model;
 use acas_frac::Frac;
-use acas_manoeuvre::Manoeuvre;
 use acas_region::asked_by;
 
 /// When the low curve of an area is first nearest the intruder that goes to its greatest rate, and when the high curve is first nearest
@@ -26,29 +24,25 @@ pub struct SearchTimes {
 }
 
 /// The two times of an area in a window, under an advisory. The intruder's rates in the area are at most its greatest.
-pub fn search_times(
-    model: &Model,
-    may: &Manoeuvre,
-    area: &BoxState,
-    window: &Window,
-    advisory: u8,
-) -> SearchTimes
-    requires advisory { advisory < model.now.grid.advisories }
-    requires fits { RatesFit (may_of may.now) (area_of area.now).intruder }
+pub fn search_times(on: &Conflict<'_>) -> SearchTimes
+    requires advisory { on.now.advisory < on.now.model.now.grid.advisories }
+    requires fits { RatesFit (may_of on.now.may.now) (area_of on.now.area.now).intruder }
     ensures low { IsFirstLeastTime
-        (low_race (demand_of model.now advisory) (may_of may.now) (area_of area.now))
-        (times_of window.now) result.low }
+        (low_race (demand_of on.now.model.now on.now.advisory) (may_of on.now.may.now)
+        (area_of on.now.area.now))
+        (times_of on.now.window.now) result.low }
     ensures high { IsFirstLeastTime
-        (turned (high_race (demand_of model.now advisory) (may_of may.now) (area_of area.now)))
-        (times_of window.now) result.high }
+        (turned (high_race (demand_of on.now.model.now on.now.advisory) (may_of on.now.may.now)
+        (area_of on.now.area.now)))
+        (times_of on.now.window.now) result.high }
     ensures low_end { IsEnd result.low }
     ensures high_end { IsEnd result.high }
     ensures low_reduced { IsReduced result.low }
     ensures high_reduced { IsReduced result.high }
 {
-    let asked = asked_by(model, advisory);
+    let asked = asked_by(on.model, on.advisory);
     SearchTimes {
-        low: nearest_time(&low_contest(&asked, may, area), window),
-        high: nearest_time(&high_contest(&asked, may, area), window),
+        low: nearest_time(&low_contest(&asked, on.may, on.area), on.window),
+        high: nearest_time(&high_contest(&asked, on.may, on.area), on.window),
     }
 }

@@ -20,7 +20,7 @@ use Rattle.acas_command.specs.Called.{MayPrint}
 use Rattle.acas_command.specs.Calls.{with_input_file}
 use Rattle.acas_command.proofs.Inputs.{rejected-input_file, with_input_file-read}
 use Rattle.acas_command.specs.Outcome.{Outcome, prints, report_cause}
-use Rattle.acas_command.specs.Says.{SaysModel}
+use Rattle.acas_command.specs.Says.{RejectsBeside, SaysBeside, SaysModel}
 use Rattle.acas_command.specs.declared.status.Cause.{Cause}
 use Rattle.acas_command.specs.declared.status.Cause.TheVariants.{Input}
 use Rattle.acas_command.specs.declared.status.FileRole.TheVariants.{Boxes as BoxesFile}
@@ -33,7 +33,7 @@ use Rattle.acas_region_commands.specs.Calls.{CallsForRegions, IsRegionsBegun, Is
 use Rattle.acas_report.proofs.Verdicts.{verdict}
 use Rattle.acas_report_lines.specs.Text.{is_certified}
 use Rattle.acas_report_lines.proofs.Reports.{report-of}
-use Rattle.acas_region_commands.specs.Worth.{PrintsRegions, RegionsIsWorth, RejectsBoxes}
+use Rattle.acas_region_commands.specs.Worth.{PrintsRegions, RegionsIsWorth}
 use Rattle.acas_report.specs.Verdicts.{IsVerdictOnBox}
 
 prints-regions : (model boxes : List ℕ) (files : Files) (cause : Cause) (before after : Outside) → IsPrinted (IsRegionsText model boxes files) files cause before after
@@ -43,14 +43,16 @@ prints-regions model boxes files cause before after p =
     let a = p.report.audited in
     let says : SaysModel files model a.model_file.bytes m = file-says files model a.digest m a.model_file in
     record {
-      bytes = a.model_file.bytes;
       m = m;
-      given = a.boxes_file.bytes;
       said = p.report.said;
-      says = says;
-      file = a.boxes_file.text.there;
-      short = a.boxes_file.text.short;
-      boxes_text = said m a.boxes_file.bytes p.report.said says.text.within a.boxes_file.is_read;
+      says = record {
+        bytes = a.model_file.bytes;
+        given = a.boxes_file.bytes;
+        says = says;
+        file = a.boxes_file.text.there;
+        short = a.boxes_file.text.short;
+        text = said m a.boxes_file.bytes p.report.said says.text.within a.boxes_file.is_read;
+      };
       counts = p.report.counts;
       text = p.text;
       report = report-of (IsRulingAt m p.report.said) (IsVerdictOnBox m p.report.said) is_certified (places p.report.said) 0 regions_text p.report.counts p.text
@@ -60,7 +62,7 @@ prints-regions model boxes files cause before after p =
       reported = p.ends ∙ ap report_cause p.report.count;
     }
 
-rejects-boxes : (model boxes : List ℕ) (files : Files) (fault : InputFault) → (regions_looks_at model boxes files).cause ≡ Input fault → RejectsBoxes model boxes files
+rejects-boxes : (model boxes : List ℕ) (files : Files) (fault : InputFault) → (regions_looks_at model boxes files).cause ≡ Input fault → RejectsBeside (λ m digest. IsBoxesText m) model boxes files
 rejects-boxes model boxes files fault cause =
     let behind : List ℕ → ModelData → Outcome = λ digest m. with_input_file BoxesFile (boxes_of m) (get files boxes) (λ said. prints []) in
     let b = behind-model (get files model) behind (subst IsNoFileCause (sym cause) tt) in
@@ -77,11 +79,12 @@ rejects-boxes model boxes files fault cause =
           absurd (cc both);
     }
 
-regions-looks : (files : Files) (model boxes bytes given : List ℕ) (m : ModelData) (boxes_said : List AuditedBox) → SaysModel files model bytes m → get files boxes ≡ Some given → length given ≤ TEXT_BYTES
-    → IsBoxesText m given boxes_said → regions_looks_at model boxes files ≡ prints []
-regions-looks files model boxes bytes given m boxes_said says there short text =
-    read-model files model bytes m (λ digest n. with_input_file BoxesFile (boxes_of n) (get files boxes) (λ b. prints [])) says
-    ∙ with_input_file-read BoxesFile (boxes_of m) (get files boxes) given boxes_said (λ b. prints []) (record { there = there; short = short }) (understood m given boxes_said says.text.within text)
+regions-looks : (files : Files) (model boxes : List ℕ) (m : ModelData) (boxes_said : List AuditedBox) → SaysBeside IsBoxesText model boxes files m boxes_said
+    → regions_looks_at model boxes files ≡ prints []
+regions-looks files model boxes m boxes_said s =
+    read-model files model s.bytes m (λ digest n. with_input_file BoxesFile (boxes_of n) (get files boxes) (λ b. prints [])) s.says
+    ∙ with_input_file-read BoxesFile (boxes_of m) (get files boxes) s.given boxes_said (λ b. prints []) (record { there = s.file; short = s.short })
+    (understood m s.given boxes_said s.says.text.within s.text)
 
 pub regions-worth : (model boxes : List ℕ) (cause : Cause) (before after : Outside) → Answers (CallsForRegions model boxes) cause before after
     → IfSome before.holds (λ files. RegionsIsWorth model boxes files cause before after)
@@ -98,8 +101,8 @@ regions-worth model boxes cause before after answers =
       refused = λ fault is. rejects-boxes model boxes files fault
           (report-refused looks (IsRegionsText model boxes) (IsRegionsBegun model boxes) files (Input fault) after (λ never. never)
           (subst (λ (c : Cause). Agrees (CallsForRegions model boxes) files c before after) is agrees));
-      not_refused = λ bytes given m boxes_said says there short text.
+      not_refused = λ m boxes_said says.
           not_refused (CallsForRegions model boxes) files cause before after
           (λ o may. report-may_print looks (IsRegionsText model boxes) (IsRegionsBegun model boxes) files o
-          (subst (λ (p : Outcome). MayPrint p.cause) (sym (regions-looks files model boxes bytes given m boxes_said says there short text)) tt) may) answers.has_cause agrees;
+          (subst (λ (p : Outcome). MayPrint p.cause) (sym (regions-looks files model boxes m boxes_said says)) tt) may) answers.has_cause agrees;
     }

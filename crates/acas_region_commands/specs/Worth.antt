@@ -1,7 +1,5 @@
 -- What `regions` is worth, in the words of the subject, over a folder that tells its files.
-use Rattle.std.specs.Prelude.{◌≡◌, ℕ, ◌≤◌, List, length, Some}
-use Rattle.std.specs.FinMap.{get}
-use Rattle.acas_units.specs.declared.limits.TheConstants.{TEXT_BYTES}
+use Rattle.std.specs.Prelude.{◌≡◌, ℕ, List, Some}
 use Rattle.acas_spec.specs.Model.{ModelData}
 use Rattle.acas_outside.specs.Bytes.{Appends}
 use Rattle.acas_outside.specs.Files.{Files}
@@ -16,7 +14,7 @@ use Rattle.acas_report.specs.Verdicts.{IsVerdictOnBox}
 use Rattle.acas_report_lines.specs.declared.counts.Counts.{Counts}
 use Rattle.acas_command.specs.Called.{MayPrint}
 use Rattle.acas_command.specs.Outcome.{report_cause}
-use Rattle.acas_command.specs.Says.{SaysModel}
+use Rattle.acas_command.specs.Says.{RejectsBeside, SaysBeside}
 use Rattle.acas_command.specs.Worth.{IsNotRefused}
 use Rattle.acas_command.specs.declared.status.Cause.{Cause}
 use Rattle.acas_command.specs.declared.status.Cause.TheVariants.{Input}
@@ -24,14 +22,9 @@ use Rattle.acas_command.specs.declared.status.Cause.TheVariants.{Input}
 -- M says a model, B says boxes beside it, and what was printed is a report of them: each is ruled on, in order. The cause says whether
 -- one is reported.
 pub record PrintsRegions (model boxes : List ℕ) (files : Files) (cause : Cause) (before after : Outside) : Type 0 where
-  pub bytes : List ℕ
   pub m : ModelData
-  pub given : List ℕ
   pub said : List AuditedBox
-  pub says : SaysModel files model bytes m
-  pub file : get files boxes ≡ Some given
-  pub short : length given ≤ TEXT_BYTES
-  pub boxes_text : IsBoxesText m given said
+  pub says : SaysBeside IsBoxesText model boxes files m said
   pub counts : Counts
   pub text : List ℕ
   pub report : IsReportOn (IsVerdictOnBox m said) is_certified (places said) 0 regions_text counts text
@@ -39,19 +32,9 @@ pub record PrintsRegions (model boxes : List ℕ) (files : Files) (cause : Cause
   pub kept : after.holds ≡ Some files
   pub reported : cause ≡ report_cause counts.reported
 
--- M says a model, and B says no boxes beside it
-pub record RejectsBoxes (model boxes : List ℕ) (files : Files) : Type 0 where
-  pub bytes : List ℕ
-  pub m : ModelData
-  pub given : List ℕ
-  pub says : SaysModel files model bytes m
-  pub file : get files boxes ≡ Some given
-  pub none : (said : List AuditedBox) → IsBoxesText m given said → ⊥
-
 -- `regions M B`: what a run has printed that is done or reports, and what one has rejected that is refused as boxes; and where M says a
 -- model and B says boxes beside it, it is not refused
 pub record RegionsIsWorth (model boxes : List ℕ) (files : Files) (cause : Cause) (before after : Outside) : Type 0 where
   pub printed : MayPrint cause → PrintsRegions model boxes files cause before after
-  pub refused : (fault : InputFault) → cause ≡ Input fault → RejectsBoxes model boxes files
-  pub not_refused : (bytes given : List ℕ) (m : ModelData) (said : List AuditedBox) → SaysModel files model bytes m → get files boxes ≡ Some given
-      → length given ≤ TEXT_BYTES → IsBoxesText m given said → IsNotRefused cause before after
+  pub refused : (fault : InputFault) → cause ≡ Input fault → RejectsBeside (λ m digest. IsBoxesText m) model boxes files
+  pub not_refused : (m : ModelData) (said : List AuditedBox) → SaysBeside IsBoxesText model boxes files m said → IsNotRefused cause before after

@@ -14,8 +14,7 @@ use acas_base::{Advices, Model};
 use acas_encounter::Encounter;
 use acas_outside::{Failed, Sink};
 use acas_print::{Pen, PrintFault};
-use acas_units::{LINE_BYTES, Line};
-use std::alloc::{AllocError, Global};
+use std::alloc::Global;
 
 /// Replays an encounter under the advice of a table of a model, and answers how many of its seconds are in contact: a line for each
 /// second, and then the counts. The advisory at the start is one of the model's. It takes all its memory before the first byte goes out.

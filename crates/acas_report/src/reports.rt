@@ -14,7 +14,7 @@ use acas_base::{Advices, Model};
 use acas_outside::Sink;
 use acas_print::PrintFault;
 use acas_report_cells::write_report_by;
-use acas_report_lines::{Counts, Which, write_regions_by};
+use acas_report_lines::{Counts, Which, write_boxes_by};
 use acas_rulings::Boxes;
 use std::alloc::Global;
 
@@ -96,5 +96,5 @@ pub fn write_regions<S: Sink>(
     ensures memory { IsErrOf result PrintFault.Memory → S.written sink.new ≡ S.written sink.old }
     ensures frame { Emits S.Sink sink.old sink.new (IsErrOf result PrintFault.Sink) }
 {
-    write_regions_by(alloc, model, boxes, &OneByOne, sink)
+    write_boxes_by(alloc, model, boxes, &OneByOne, sink)
 }

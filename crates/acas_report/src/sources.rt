@@ -1,5 +1,7 @@
 //! Rulings by verdicts: each cell and each box by one of its own, or cells by blocks that are decided first.
 ghost use Rattle.std.specs.Prelude.{◌≡◌};
+ghost use Rattle.acas_rulings.specs.Boxes.{IsBoxOf};
+ghost use Rattle.acas_rulings.specs.Rulings.{IsRulingOfBox};
 ghost use Rattle.acas_audit_blocks.specs.Audits.{IsAuditOf};
 ghost use Rattle.acas_audit_blocks.specs.Decisions.{AreDecisionsOf};
 ghost use Rattle.acas_report.specs.Ready.{IsReady};
@@ -8,8 +10,8 @@ use acas_audit_blocks::{BlockAudit, DecidedBlock, Decisions};
 use acas_base::{Advices, Model};
 use acas_cell::{box_verdict, verdict, witness_of};
 use acas_cells::{AdviceSet, CellName, advices_at};
-use acas_report_cells::Rulings;
-use acas_report_lines::BoxRulings;
+use acas_report_cells::{Place, Rulings};
+use acas_report_lines::BoxSource;
 use acas_rulings::{AuditBox, Ruling};
 
 /// The source that gives each cell and each box a verdict of its own. It decides no block.
@@ -34,16 +36,14 @@ impl Rulings for OneByOne {
         _count: &mut Decisions,
     ) {}
 
-    fn advised(
-        &self,
-        model: &Model,
-        advices: &Advices,
-        n: u32,
-        present: u8,
-        i: u32,
-        j: u32,
-        k: u32,
-    ) -> AdviceSet {
+    fn advised(&self, model: &Model, advices: &Advices, at: Place) -> AdviceSet {
+        let Place {
+            n,
+            present,
+            i,
+            j,
+            k,
+        } = at;
         advices_at(model, advices, n, present, i, j, k).without(0)
     }
 
@@ -56,7 +56,13 @@ impl Rulings for OneByOne {
     }
 }
 
-impl BoxRulings for OneByOne {
+impl BoxSource for OneByOne {
+    type Ruling = Ruling;
+
+    ghost takes = { λ it m b. IsBoxOf m b };
+
+    ghost rules = { λ it m b ruling. IsRulingOfBox m b ruling };
+
     fn ruling(&self, model: &Model, area: &AuditBox) -> Ruling {
         box_verdict(model, area)
     }
@@ -86,16 +92,8 @@ impl Rulings for ByBlocks {
         self.0.decide(model, advices, n, present, count);
     }
 
-    fn advised(
-        &self,
-        _model: &Model,
-        _advices: &Advices,
-        _n: u32,
-        _present: u8,
-        i: u32,
-        j: u32,
-        k: u32,
-    ) -> AdviceSet {
+    fn advised(&self, _model: &Model, _advices: &Advices, at: Place) -> AdviceSet {
+        let Place { i, j, k, .. } = at;
         self.0.certified(i, j, k).union(self.0.reported(i, j, k))
     }
 

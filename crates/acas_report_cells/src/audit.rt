@@ -13,10 +13,10 @@ pub(crate) struct Audit<'a> {
 
 /// The numbers of a cell. A loop over cells sets one of them; those that are set within it do not matter to it.
 #[derive(Clone, Copy)]
-pub(crate) struct Place {
-    pub(crate) n: u32,
-    pub(crate) present: u8,
-    pub(crate) i: u32,
-    pub(crate) j: u32,
-    pub(crate) k: u32,
+pub struct Place {
+    pub n: u32,
+    pub present: u8,
+    pub i: u32,
+    pub j: u32,
+    pub k: u32,
 }

@@ -34,7 +34,7 @@ pub(crate) fn write_cells<R: Rulings, S: Sink>(
         (progress (S.written sink.old) pen.old) (progress (S.written sink.new) pen.new)
         (cells_of audit.now.model.now)) }
     ensures err { OnErr result (Broke (plan_of audit.now)
-        (S.written sink.old) pen.old.buffer (S.written sink.new) (cells_of audit.now.model.now)) }
+        (S.written sink.old) pen.old.out.buffer (S.written sink.new) (cells_of audit.now.model.now)) }
     ensures frame { Emits S.Sink sink.old sink.new (IsErr result) }
     ensures counted { OnOk result ((number : ℕ)
         × ArePrepared R.takes audit.now.model.now audit.now.advices.now number
@@ -66,7 +66,7 @@ fn write_layer<R: Rulings, S: Sink>(
         (progress (S.written sink.old) pen.old) (progress (S.written sink.new) pen.new)
         (layer_cells audit.now.model.now n)) }
     ensures err { OnErr result (Broke (plan_of audit.now)
-        (S.written sink.old) pen.old.buffer (S.written sink.new) (layer_cells audit.now.model.now n)) }
+        (S.written sink.old) pen.old.out.buffer (S.written sink.new) (layer_cells audit.now.model.now n)) }
     ensures frame { Emits S.Sink sink.old sink.new (IsErr result) }
     ensures fits { OnOk result (R.fits rulings.new audit.now.model.now) }
     ensures counted { OnOk result ((number : ℕ)
@@ -108,7 +108,8 @@ fn write_block<R: Rulings, S: Sink>(
         (progress (S.written sink.old) pen.old) (progress (S.written sink.new) pen.new)
         (block_cells audit.now.model.now at.n at.present)) }
     ensures err { OnErr result (Broke (plan_of audit.now)
-        (S.written sink.old) pen.old.buffer (S.written sink.new) (block_cells audit.now.model.now at.n at.present)) }
+        (S.written sink.old) pen.old.out.buffer
+        (S.written sink.new) (block_cells audit.now.model.now at.n at.present)) }
     ensures frame { Emits S.Sink sink.old sink.new (IsErr result) }
 {
     for i in 0..audit.model.grid().h.len() - 1 {
@@ -136,7 +137,8 @@ fn write_plane<R: Rulings, S: Sink>(
         (progress (S.written sink.old) pen.old) (progress (S.written sink.new) pen.new)
         (plane_cells audit.now.model.now at.n at.present at.i)) }
     ensures err { OnErr result (Broke (plan_of audit.now)
-        (S.written sink.old) pen.old.buffer (S.written sink.new) (plane_cells audit.now.model.now at.n at.present at.i)) }
+        (S.written sink.old) pen.old.out.buffer
+        (S.written sink.new) (plane_cells audit.now.model.now at.n at.present at.i)) }
     ensures frame { Emits S.Sink sink.old sink.new (IsErr result) }
 {
     for j in 0..audit.model.grid().v0.len() - 1 {
@@ -165,7 +167,8 @@ fn write_row<R: Rulings, S: Sink>(
         (progress (S.written sink.old) pen.old) (progress (S.written sink.new) pen.new)
         (row_cells audit.now.model.now at.n at.present at.i at.j)) }
     ensures err { OnErr result (Broke (plan_of audit.now)
-        (S.written sink.old) pen.old.buffer (S.written sink.new) (row_cells audit.now.model.now at.n at.present at.i at.j)) }
+        (S.written sink.old) pen.old.out.buffer
+        (S.written sink.new) (row_cells audit.now.model.now at.n at.present at.i at.j)) }
     ensures frame { Emits S.Sink sink.old sink.new (IsErr result) }
 {
     for k in 0..audit.model.grid().v1.len() - 1 {
@@ -190,17 +193,10 @@ fn write_cell<R: Rulings, S: Sink>(
         (progress (S.written sink.old) pen.old) (progress (S.written sink.new) pen.new)
         (place_cell at ∷ [])) }
     ensures err { OnErr result (Broke (plan_of audit.now)
-        (S.written sink.old) pen.old.buffer (S.written sink.new) (place_cell at ∷ [])) }
+        (S.written sink.old) pen.old.out.buffer (S.written sink.new) (place_cell at ∷ [])) }
     ensures frame { Emits S.Sink sink.old sink.new (IsErr result) }
 {
-    let Place {
-        n,
-        present,
-        i,
-        j,
-        k,
-    } = at;
-    let set = rulings.advised(audit.model, audit.advices, n, present, i, j, k);
+    let set = rulings.advised(audit.model, audit.advices, at);
     let clear = set.has_no_advisory();
     pen.counts.count_cell(clear);
     if clear {
@@ -227,7 +223,8 @@ fn write_advised<R: Rulings, S: Sink>(
         (progress (S.written sink.old) pen.old) (progress (S.written sink.new) pen.new)
         (below audit.now.model.now.grid.advisories (λ advice. advice ∷ []))) }
     ensures err { OnErr result (Broke (set_plan audit.now at set)
-        (S.written sink.old) pen.old.buffer (S.written sink.new) (below audit.now.model.now.grid.advisories (λ advice. advice ∷ []))) }
+        (S.written sink.old) pen.old.out.buffer
+        (S.written sink.new) (below audit.now.model.now.grid.advisories (λ advice. advice ∷ []))) }
     ensures frame { Emits S.Sink sink.old sink.new (IsErr result) }
 {
     for advice in 0..audit.model.grid().advisories as u8 {
@@ -254,7 +251,7 @@ fn write_advice<R: Rulings, S: Sink>(
     ensures ok { OnOk result (Wrote (set_plan audit.now at set)
         (progress (S.written sink.old) pen.old) (progress (S.written sink.new) pen.new) (advice ∷ [])) }
     ensures err { OnErr result (Broke (set_plan audit.now at set)
-        (S.written sink.old) pen.old.buffer (S.written sink.new) (advice ∷ [])) }
+        (S.written sink.old) pen.old.out.buffer (S.written sink.new) (advice ∷ [])) }
     ensures frame { Emits S.Sink sink.old sink.new (IsErr result) }
 {
     if advice == 0 {
@@ -298,7 +295,7 @@ fn write_name<R: Rulings, S: Sink>(
     ensures ok { OnOk result (Wrote (name_plan audit.now.model.now audit.now.which)
         (progress (S.written sink.old) pen.old) (progress (S.written sink.new) pen.new) (name.now ∷ [])) }
     ensures err { OnErr result (Broke (name_plan audit.now.model.now audit.now.which)
-        (S.written sink.old) pen.old.buffer (S.written sink.new) (name.now ∷ [])) }
+        (S.written sink.old) pen.old.out.buffer (S.written sink.new) (name.now ∷ [])) }
     ensures frame { Emits S.Sink sink.old sink.new (IsErr result) }
 {
     let certified = rulings.certifies(audit.model, name);
@@ -307,7 +304,7 @@ fn write_name<R: Rulings, S: Sink>(
         return Ok(());
     }
     let ruling = rulings.ruling(audit.model, name);
-    write_cell_line(&mut pen.line, audit.model, name, &ruling);
-    pen.buffer.print(sink, pen.line.bytes())?;
+    write_cell_line(&mut pen.out.line, audit.model, name, &ruling);
+    pen.out.buffer.print(sink, pen.out.line.bytes())?;
     Ok(())
 }

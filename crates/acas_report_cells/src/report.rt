@@ -67,7 +67,7 @@ fn write_whole<R: Rulings, S: Sink>(
     requires advices { AreAdvicesOf audit.now.model.now audit.now.advices.now }
     requires fits { R.fits rulings.old audit.now.model.now }
     requires decisions { count.old ≤ 2 ^ 63 }
-    requires empty { pen.old.buffer ≡ [] }
+    requires empty { pen.old.out.buffer ≡ [] }
     requires certified { pen.old.counts.certified ≡ 0 }
     requires reported { pen.old.counts.reported ≡ 0 }
     requires clear { pen.old.counts.clear ≡ 0 }
@@ -87,7 +87,7 @@ fn write_whole<R: Rulings, S: Sink>(
     let _ = audit.model.grid();
     write_cells(audit, rulings, sink, pen, count)?;
     let counts = pen.counts;
-    write_counts(&mut pen.line, &counts);
-    pen.end(sink)?;
+    write_counts(&mut pen.out.line, &counts);
+    pen.out.end(sink)?;
     Ok(())
 }

@@ -2,7 +2,7 @@
 ghost use Rattle.std.specs.Prelude.{◌≡◌, ◌+◌, ◌<◌, ◌≤◌, ◌^◌, ℕ, true, false};
 ghost use Rattle.acas_spec.specs.Model.{ModelData};
 ghost use Rattle.acas_base.specs.Advices.{AdvicesData, AreAdvicesOf};
-ghost use Rattle.acas_cells.specs.Cells.{IsCellOf, cell_at};
+ghost use Rattle.acas_cells.specs.Cells.{IsCellOf};
 ghost use Rattle.acas_cells.specs.Corners.{is_advised};
 ghost use Rattle.acas_cells.specs.DecisionCounts.{most_decisions};
 ghost use Rattle.acas_cells.specs.Order.{cell_of};
@@ -10,7 +10,9 @@ ghost use Rattle.acas_cells.specs.Sets.{holds};
 ghost use Rattle.acas_rulings.specs.Rulings.{IsRulingOfCell};
 ghost use Rattle.acas_rulings.specs.declared.ruling.Ruling.{Ruling};
 ghost use Rattle.acas_report_lines.specs.Text.{is_certified};
+ghost use Rattle.acas_report_cells.specs.Plans.{place_cell};
 
+use crate::audit::Place;
 use acas_base::{Advices, Model};
 use acas_cells::{AdviceSet, CellName};
 use acas_count::Counter;
@@ -52,20 +54,11 @@ pub trait Rulings {
         ensures rising { count.old ≤ count.new };
 
     /// The advices other than clear of conflict that are tabled at the corners of a cell.
-    fn advised(
-        &self,
-        model: &Model,
-        advices: &Advices,
-        n: u32,
-        present: u8,
-        i: u32,
-        j: u32,
-        k: u32,
-    ) -> AdviceSet
+    fn advised(&self, model: &Model, advices: &Advices, at: Place) -> AdviceSet
         requires advices { AreAdvicesOf model.now advices.now }
-        requires ready { ready self.now model.now advices.now n present }
-        requires cell { IsCellOf model.now (cell_at n present i j k) }
-        ensures { (a : ℕ) → holds result a ≡ is_advised model.now advices.now (cell_at n present i j k) a };
+        requires ready { ready self.now model.now advices.now at.n at.present }
+        requires cell { IsCellOf model.now (place_cell at) }
+        ensures { (a : ℕ) → holds result a ≡ is_advised model.now advices.now (place_cell at) a };
 
     /// Whether a cell is certified under an advice.
     fn certifies(&self, model: &Model, name: &CellName) -> bool

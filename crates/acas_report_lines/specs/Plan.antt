@@ -50,7 +50,7 @@ pub record Progress : Type 0 where
 
 -- how far a pen is, where this was written
 abbrev pub progress : Option (List ℕ) → Pen → Progress
-progress written pen = record { written = written; waits = pen.buffer; counts = pen.counts }
+progress written pen = record { written = written; waits = pen.out.buffer; counts = pen.counts }
 
 -- these items were ruled on, printed and counted
 pub record Wrote {N X R : Type 0} (plan : Plan N X R) (old new : Progress) (items : List X) : Type 0 where

@@ -1,5 +1,5 @@
 -- The report of a box file.
-use Rattle.std.specs.Prelude.{ℕ, List, [], ◌∷◌, ◌++◌, length, Bool, Option}
+use Rattle.std.specs.Prelude.{ℕ, ◌<◌, List, [], ◌∷◌, ◌++◌, length, Bool, Option}
 use Rattle.acas_spec.specs.Model.{ModelData}
 use Rattle.acas_rulings.specs.Boxes.{AuditedBox, box_at}
 use Rattle.acas_cells.specs.Cells.{below}
@@ -9,6 +9,10 @@ use Rattle.acas_report_lines.specs.Text.{line_of_box, ruling_text, box_counts_te
 use Rattle.acas_report_lines.specs.Report.{Ruled, IsReportOn, IsBegun, lines_of, counts_of}
 use Rattle.acas_report_lines.specs.declared.counts.Counts.{Counts}
 use Rattle.acas_report_lines.specs.declared.counts.Which.TheVariants as which
+
+-- each of the boxes is such a box
+abbrev pub IsEachBox : (AuditedBox → Type 0) → List AuditedBox → Type 0
+IsEachBox IsSuch boxes = (place : ℕ) → place < length boxes → IsSuch (box_at boxes place)
 
 -- the places of boxes, from 0 on
 abbrev pub places : List AuditedBox → List ℕ

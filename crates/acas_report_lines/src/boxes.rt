@@ -5,7 +5,7 @@ ghost use Rattle.acas_outside.specs.Bytes.{Appends};
 ghost use Rattle.acas_outside.specs.Frame.{Emits};
 ghost use Rattle.acas_rulings.specs.Boxes.{AuditedBox, audited, box_at};
 ghost use Rattle.acas_report_lines.specs.Plan.{Broke, Room, Wrote, box_plan, progress, total};
-ghost use Rattle.acas_report_lines.specs.Regions.{IsSaidAt, boxes_text, places};
+ghost use Rattle.acas_report_lines.specs.Regions.{IsEachBox, IsSaidAt, boxes_text, places};
 ghost use Rattle.acas_report_lines.specs.Report.{IsBegun, IsReportOn};
 
 use crate::counts::Counts;
@@ -19,7 +19,7 @@ use acas_rulings::{AuditBox, Boxes};
 use std::alloc::Global;
 
 /// A source of rulings of some kind on boxes.
-pub(crate) trait BoxSource {
+pub trait BoxSource {
     /// What is said of a box.
     type Ruling: Said + Copy;
 
@@ -35,17 +35,24 @@ pub(crate) trait BoxSource {
         ensures { rules self.now model.now (audited area.now) result };
 }
 
+/// Boxes beside a model, and what rules on them.
+#[derive(Drop)]
+struct Audited<'a, R> {
+    model: &'a Model,
+    boxes: &'a Boxes,
+    rulings: &'a R,
+}
+
 /// Writes the report on boxes, with rulings from a source of them, and answers its counts, with no clear cells. It takes all its memory
 /// before the first byte goes out.
-pub(crate) fn write_boxes_by<R: BoxSource, S: Sink>(
+pub fn write_boxes_by<R: BoxSource, S: Sink>(
     alloc: Global,
     model: &Model,
     boxes: &Boxes,
     rulings: &R,
     sink: &mut S,
 ) -> Result<Counts, PrintFault>
-    requires { (place : ℕ) → place < length boxes.now
-        → R.takes rulings.now model.now (box_at boxes.now place) }
+    requires { IsEachBox (R.takes rulings.now model.now) boxes.now }
     ensures report { IfOk result (λ counts. (text : List ℕ)
         × IsReportOn (IsSaidAt (R.rules rulings.now model.now) boxes.now) R.Ruling.certified (places boxes.now) 0
         (boxes_text R.Ruling.certified R.Ruling.text) counts text
@@ -59,7 +66,12 @@ pub(crate) fn write_boxes_by<R: BoxSource, S: Sink>(
     let Ok(mut pen) = Pen::make(alloc) else {
         return Err(PrintFault::Memory);
     };
-    match write_whole(model, boxes, rulings, sink, &mut pen) {
+    let audited = Audited {
+        model,
+        boxes,
+        rulings,
+    };
+    match write_whole(&audited, sink, &mut pen) {
         Ok(()) => Ok(pen.counts),
         Err(_) => Err(PrintFault::Sink),
     }
@@ -67,81 +79,79 @@ pub(crate) fn write_boxes_by<R: BoxSource, S: Sink>(
 
 // Writes the lines of all boxes, and then the counts, with a pen that has written and counted nothing.
 fn write_whole<R: BoxSource, S: Sink>(
-    model: &Model,
-    boxes: &Boxes,
-    rulings: &R,
+    on: &Audited<'_, R>,
     sink: &mut S,
     pen: &mut Pen,
 ) -> Result<(), Failed>
-    requires boxes { (place : ℕ) → place < length boxes.now
-        → R.takes rulings.now model.now (box_at boxes.now place) }
-    requires empty { pen.old.buffer ≡ [] }
+    requires boxes { IsEachBox (R.takes on.now.rulings.now on.now.model.now) on.now.boxes.now }
+    requires empty { pen.old.out.buffer ≡ [] }
     requires certified { pen.old.counts.certified ≡ 0 }
     requires reported { pen.old.counts.reported ≡ 0 }
     requires clear { pen.old.counts.clear ≡ 0 }
     ensures ok { OnOk result ((text : List ℕ)
-        × IsReportOn (IsSaidAt (R.rules rulings.now model.now) boxes.now) R.Ruling.certified (places boxes.now) 0
-        (boxes_text R.Ruling.certified R.Ruling.text) pen.new.counts text
+        × IsReportOn (IsSaidAt (R.rules on.now.rulings.now on.now.model.now) on.now.boxes.now)
+        R.Ruling.certified (places on.now.boxes.now) 0 (boxes_text R.Ruling.certified R.Ruling.text) pen.new.counts text
         × Appends (S.written sink.old) (S.written sink.new) text) }
     ensures err { OnErr result
-        (IsBegun (IsSaidAt (R.rules rulings.now model.now) boxes.now) (places boxes.now)
+        (IsBegun (IsSaidAt (R.rules on.now.rulings.now on.now.model.now) on.now.boxes.now)
+        (places on.now.boxes.now)
         (boxes_text R.Ruling.certified R.Ruling.text) (S.written sink.old) (S.written sink.new)) }
     ensures frame { Emits S.Sink sink.old sink.new (IsErr result) }
 {
     // There is room for the counts, since the number of boxes is one of 32 bits.
-    let _ = boxes.len();
-    write_boxes(model, boxes, rulings, sink, pen)?;
+    let _ = on.boxes.len();
+    write_boxes(on, sink, pen)?;
     let counts = pen.counts;
-    write_box_counts(&mut pen.line, &counts);
-    pen.end(sink)?;
+    write_box_counts(&mut pen.out.line, &counts);
+    pen.out.end(sink)?;
     Ok(())
 }
 
 // Writes the lines of all boxes.
 fn write_boxes<R: BoxSource, S: Sink>(
-    model: &Model,
-    boxes: &Boxes,
-    rulings: &R,
+    on: &Audited<'_, R>,
     sink: &mut S,
     pen: &mut Pen,
 ) -> Result<(), Failed>
-    requires boxes { (place : ℕ) → place < length boxes.now
-        → R.takes rulings.now model.now (box_at boxes.now place) }
-    requires room { Room (box_plan (R.rules rulings.now model.now) R.Ruling.certified R.Ruling.text boxes.now)
-        pen.old.counts (places boxes.now) }
-    ensures ok { OnOk result (Wrote (box_plan (R.rules rulings.now model.now) R.Ruling.certified R.Ruling.text boxes.now)
-        (progress (S.written sink.old) pen.old) (progress (S.written sink.new) pen.new) (places boxes.now)) }
-    ensures err { OnErr result (Broke (box_plan (R.rules rulings.now model.now) R.Ruling.certified R.Ruling.text boxes.now)
-        (S.written sink.old) pen.old.buffer (S.written sink.new) (places boxes.now)) }
+    requires boxes { IsEachBox (R.takes on.now.rulings.now on.now.model.now) on.now.boxes.now }
+    requires room { Room
+        (box_plan (R.rules on.now.rulings.now on.now.model.now) R.Ruling.certified R.Ruling.text on.now.boxes.now)
+        pen.old.counts (places on.now.boxes.now) }
+    ensures ok { OnOk result (Wrote
+        (box_plan (R.rules on.now.rulings.now on.now.model.now) R.Ruling.certified R.Ruling.text on.now.boxes.now)
+        (progress (S.written sink.old) pen.old) (progress (S.written sink.new) pen.new) (places on.now.boxes.now)) }
+    ensures err { OnErr result (Broke
+        (box_plan (R.rules on.now.rulings.now on.now.model.now) R.Ruling.certified R.Ruling.text on.now.boxes.now)
+        (S.written sink.old) pen.old.out.buffer (S.written sink.new) (places on.now.boxes.now)) }
     ensures frame { Emits S.Sink sink.old sink.new (IsErr result) }
 {
-    for place in 0..boxes.len() {
-        write_box(model, boxes, rulings, place, sink, pen)?;
+    for place in 0..on.boxes.len() {
+        write_box(on, place, sink, pen)?;
     }
     Ok(())
 }
 
 // Writes the line of a box, and counts it.
 fn write_box<R: BoxSource, S: Sink>(
-    model: &Model,
-    boxes: &Boxes,
-    rulings: &R,
+    on: &Audited<'_, R>,
     place: u32,
     sink: &mut S,
     pen: &mut Pen,
 ) -> Result<(), Failed>
-    requires takes { R.takes rulings.now model.now (box_at boxes.now place) }
-    requires place { place < length boxes.now }
+    requires takes { R.takes on.now.rulings.now on.now.model.now (box_at on.now.boxes.now place) }
+    requires place { place < length on.now.boxes.now }
     requires room { total pen.old.counts + 1 < 2 ^ 64 }
-    ensures ok { OnOk result (Wrote (box_plan (R.rules rulings.now model.now) R.Ruling.certified R.Ruling.text boxes.now)
+    ensures ok { OnOk result (Wrote
+        (box_plan (R.rules on.now.rulings.now on.now.model.now) R.Ruling.certified R.Ruling.text on.now.boxes.now)
         (progress (S.written sink.old) pen.old) (progress (S.written sink.new) pen.new) (place ∷ [])) }
-    ensures err { OnErr result (Broke (box_plan (R.rules rulings.now model.now) R.Ruling.certified R.Ruling.text boxes.now)
-        (S.written sink.old) pen.old.buffer (S.written sink.new) (place ∷ [])) }
+    ensures err { OnErr result (Broke
+        (box_plan (R.rules on.now.rulings.now on.now.model.now) R.Ruling.certified R.Ruling.text on.now.boxes.now)
+        (S.written sink.old) pen.old.out.buffer (S.written sink.new) (place ∷ [])) }
     ensures frame { Emits S.Sink sink.old sink.new (IsErr result) }
 {
-    let ruling = rulings.ruling(model, boxes.at(place));
+    let ruling = on.rulings.ruling(on.model, on.boxes.at(place));
     pen.counts.count(ruling.is_certified());
-    write_box_line(&mut pen.line, place, &ruling);
-    pen.buffer.print(sink, pen.line.bytes())?;
+    write_box_line(&mut pen.out.line, place, &ruling);
+    pen.out.buffer.print(sink, pen.out.line.bytes())?;
     Ok(())
 }

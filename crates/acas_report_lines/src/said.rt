@@ -9,10 +9,10 @@ use acas_rulings::Ruling;
 use acas_units::{LINE_BYTES, Line};
 
 /// The greatest number of bytes of what is said: a word, a meeting and the end of the line.
-pub(crate) const SAID_BYTES: usize = MEETING_BYTES + 10;
+pub const SAID_BYTES: usize = MEETING_BYTES + 10;
 
 /// What a line says of what is ruled on, and whether that is that nothing is endangered.
-pub(crate) trait Said {
+pub trait Said {
     /// It says that nothing is endangered.
     ghost certified: { Self → Bool };
 

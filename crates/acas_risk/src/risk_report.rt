@@ -15,8 +15,7 @@ use acas_base::{Advices, Model};
 use acas_means::LayerMeans;
 use acas_outside::{Failed, Sink};
 use acas_print::{Pen, PrintFault};
-use acas_units::{LINE_BYTES, Line};
-use std::alloc::{AllocError, Global};
+use std::alloc::Global;
 
 /// Writes for each state at the horizon, in order, bounds of the chance of contact under a table's policy and under the policy that is
 /// always clear of conflict, and of what the table's policy costs; and then how many states there are, which it answers. It takes all its

@@ -23,7 +23,7 @@ use Rattle.acas_command.specs.declared.status.Cause.TheVariants.{Done, Table as 
 use Rattle.acas_command.proofs.Refused.{behind-model, no_file_cause-may_print, not_refused}
 use Rattle.acas_command.proofs.Says.{says-model}
 use Rattle.acas_table_file.specs.Calls.{with_table}
-use Rattle.acas_table_file.specs.Worth.{RejectsTable}
+use Rattle.acas_table_file.specs.Worth.{RejectsTable, SaysTable}
 use Rattle.acas_table_file.proofs.Files.{behind-table, read-table, rejects-table, with_table-accepted}
 use Rattle.acas_risk.specs.RiskText.{risk_row, risk_text}
 use Rattle.acas_risk.proofs.Bounds.{rows_are_risks}
@@ -51,13 +51,9 @@ prints-risk model table files before after a whole =
     let behind : risk_of (get files model) (get files table) ≡ text_of_risk m given.0 = b.is ∙ looked in
     let is : a.outcome ≡ text_of_risk m given.0 = a.may ∙ behind in
     record {
-      bytes = b.bytes;
       m = m;
-      given = given.0;
       t = t;
-      says = says;
-      file = given.1;
-      accepted = accepted;
+      says = record { bytes = b.bytes; given = given.0; says = says; file = given.1; accepted = accepted };
       bounds = bounds;
       rows = risk_row m t.advice;
       risks = rows_are_risks m t.advice within (says_advisories m t.advice within bounds.policy);
@@ -69,10 +65,8 @@ rejected : (model table : List ℕ) (files : Files) (refusal : TableRefusal) (af
 rejected model table files refusal after a =
     rejects-table model table files (λ digest m. text_of_risk m) refusal (λ digest m bytes is. subst MayPrint is tt) (ap (λ (o : Outcome). o.cause) (sym a.may) ∙ a.refused)
 
-may_print : (files : Files) (model table bytes given : List ℕ) (m : ModelData) (t : Table) (o : Outcome) → SaysModel files model bytes m → get files table ≡ Some given → IsAcceptedTable m (sha256 bytes) given t
-    → o ≡ risk_of (get files model) (get files table) → MayPrint o.cause
-may_print files model table bytes given m t o says there accepted called =
-    subst (λ (p : Outcome). MayPrint p.cause) (sym (called ∙ read-table files model table bytes given m t (λ digest n. text_of_risk n) says there accepted)) tt
+may_print : (files : Files) (model table : List ℕ) (m : ModelData) (t : Table) (o : Outcome) → SaysTable model table files m t → o ≡ risk_of (get files model) (get files table) → MayPrint o.cause
+may_print files model table m t o says called = subst (λ (p : Outcome). MayPrint p.cause) (sym (called ∙ read-table files model table m t (λ digest n. text_of_risk n) says)) tt
 
 pub risk-worth : (model table : List ℕ) (cause : Cause) (before after : Outside) → Answers (CallsForRisk model table) cause before after
     → (cause ≡ Done → Given before.holds table (λ file. IsSomeAnd file IsBytes)) → IfSome before.holds (λ files. RiskIsWorth model table files cause before after)
@@ -84,7 +78,7 @@ risk-worth model table cause before after answers whole = by_holds before.holds 
     by_holds (Some files) agrees bytes = record {
       done = λ is. prints-risk model table files before after (subst (λ (c : Cause). Agrees (CallsForRisk model table) files c before after) is agrees) (bytes is);
       refused = λ refusal is. rejected model table files refusal after (subst (λ (c : Cause). Agrees (CallsForRisk model table) files c before after) is agrees);
-      not_refused = λ text given m t says there accepted.
+      not_refused = λ m t says.
           not_refused (CallsForRisk model table) files cause before after
-          (λ o called. may_print files model table text given m t o says there accepted called) answers.has_cause agrees;
+          (λ o called. may_print files model table m t o says called) answers.has_cause agrees;
     }

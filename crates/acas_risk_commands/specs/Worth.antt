@@ -1,33 +1,25 @@
 -- What `risk` is worth, in the words of the subject, over a folder that tells its files.
 use Rattle.std.specs.Prelude.{◌≡◌, ℕ, List, Some}
-use Rattle.std.specs.FinMap.{get}
-use Rattle.sha2.specs.Sha256.{sha256}
 use Rattle.acas_spec.specs.Model.{ModelData}
 use Rattle.acas_spec.specs.Table.{Table}
 use Rattle.acas_outside.specs.Bytes.{Appends}
 use Rattle.acas_outside.specs.Files.{Files}
 use Rattle.acas_outside.specs.Outside.{Outside}
 use Rattle.acas_policies.specs.Bounds.{HasTwoSidedBounds}
-use Rattle.acas_accept.specs.Accepted.{IsAcceptedTable}
 use Rattle.acas_risk.specs.RiskText.{AreRisks, RiskRow, risk_lines}
 use Rattle.acas_table_text.specs.declared.refusal.TableRefusal.{TableRefusal}
-use Rattle.acas_command.specs.Says.{SaysModel}
 use Rattle.acas_command.specs.Worth.{IsNotRefused}
 use Rattle.acas_command.specs.declared.status.Cause.{Cause}
 use Rattle.acas_command.specs.declared.status.Cause.TheVariants.{Done, Table as Refused}
-use Rattle.acas_table_file.specs.Worth.{RejectsTable}
+use Rattle.acas_table_file.specs.Worth.{RejectsTable, SaysTable}
 
 -- M says a model, T is the text of a table of it whose entries are all sound, and what was printed has for each state at the horizon
 -- bounds of the chance of contact under that table's policy and under the policy that is always clear of conflict, and of what the
 -- table's policy costs; and that table has two-sided bounds, which are of the same cost
 pub record PrintsRisk (model table : List ℕ) (files : Files) (before after : Outside) : Type 0 where
-  pub bytes : List ℕ
   pub m : ModelData
-  pub given : List ℕ
   pub t : Table
-  pub says : SaysModel files model bytes m
-  pub file : get files table ≡ Some given
-  pub accepted : IsAcceptedTable m (sha256 bytes) given t
+  pub says : SaysTable model table files m t
   pub bounds : HasTwoSidedBounds m t
   pub rows : ℕ → RiskRow
   pub risks : AreRisks m t.advice rows
@@ -39,5 +31,4 @@ pub record PrintsRisk (model table : List ℕ) (files : Files) (before after : O
 pub record RiskIsWorth (model table : List ℕ) (files : Files) (cause : Cause) (before after : Outside) : Type 0 where
   pub done : cause ≡ Done → PrintsRisk model table files before after
   pub refused : (refusal : TableRefusal) → cause ≡ Refused refusal → RejectsTable model table files
-  pub not_refused : (bytes given : List ℕ) (m : ModelData) (t : Table) → SaysModel files model bytes m → get files table ≡ Some given
-      → IsAcceptedTable m (sha256 bytes) given t → IsNotRefused cause before after
+  pub not_refused : (m : ModelData) (t : Table) → SaysTable model table files m t → IsNotRefused cause before after

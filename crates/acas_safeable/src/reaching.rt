@@ -1,7 +1,6 @@
 //! What is reached from a cell within a second.
 ghost use Rattle.std.specs.Prelude.{◌≡◌, ◌<◌, ◌≤◌, IfSome, None, unsigned_abs};
 ghost use Rattle.acas_cells.specs.Cells.{IsCellOf};
-ghost use Rattle.acas_flight.specs.Response.{demand_of};
 ghost use Rattle.acas_areas.specs.Limits.{interval_of};
 ghost use Rattle.acas_areas.specs.Sizes.{altitude_size};
 ghost use Rattle.acas_areas.specs.View.{area_of, demand_in};
@@ -13,24 +12,9 @@ use crate::outlook::ClearCell;
 use acas_areas::{Asked, BoxState};
 use acas_base::Model;
 use acas_frac::{Down, Up};
+use acas_region::asked_by;
 use acas_rulings::area_of_cell;
 use acas_units::{GREATEST_ALTITUDE, GREATEST_RATE, Span, TICKS_PER_FOOT};
-
-// What clear of conflict asks.
-fn clear_of_conflict(model: &Model) -> Asked
-    ensures { demand_in result ≡ demand_of model.now 0 }
-{
-    // A model within its limits has an advisory, and its numbers are within those of what is asked.
-    let _ = model.grid();
-    let interval = model.advisory(0);
-    Asked {
-        lo: interval.lo,
-        hi: interval.hi,
-        pull: model.pull() as u64,
-        limit: model.limit() as u64,
-        delay: model.delay() as u64,
-    }
-}
 
 // The altitude where it is within the limits.
 fn within(altitude: i128) -> Option<i64>
@@ -127,6 +111,8 @@ pub fn reached(model: &Model, cell: &ClearCell) -> Option<BoxState>
     ensures past { result ≡ None
         → ¬ IsWithinAltitudes (reached_area model.now cell.now.i cell.now.j cell.now.k) }
 {
+    // Opens the model's limits: it has an advisory, so that clear of conflict is one.
+    let _ = model.grid();
     let area = area_of_cell(model, cell.i, cell.j, cell.k);
-    reached_from(&clear_of_conflict(model), &area)
+    reached_from(&asked_by(model, 0), &area)
 }

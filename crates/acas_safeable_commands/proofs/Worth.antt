@@ -51,8 +51,8 @@ safeable-worth model table cause before after answers =
       refused = λ refusal is. rejects-table model table files (λ digest m bytes. prints []) refusal (λ digest m bytes is_refused. subst MayPrint is_refused tt)
           (report-refused looks (IsSafeableText model table) (IsSafeableTextBegun model table) files (Refused refusal) after (λ never. never)
           (subst (λ (c : Cause). Agrees (CallsForSafeable model table) files c before after) is agrees));
-      not_refused = λ bytes given m t says there accepted.
+      not_refused = λ m t says.
           not_refused (CallsForSafeable model table) files cause before after
           (λ o may. report-may_print looks (IsSafeableText model table) (IsSafeableTextBegun model table) files o
-          (subst (λ (p : Outcome). MayPrint p.cause) (sym (read-table files model table bytes given m t (λ digest n b. prints []) says there accepted)) tt) may) answers.has_cause agrees;
+          (subst (λ (p : Outcome). MayPrint p.cause) (sym (read-table files model table m t (λ digest n b. prints []) says)) tt) may) answers.has_cause agrees;
     }

@@ -1,8 +1,11 @@
 //! The value of a choice, and how many upper ones were formed. One such value is a backup of dynamic programming, as in ATC-371
 //! (Kochenderfer and Chryssanthacopoulos, MIT Lincoln Laboratory, 2011).
-ghost use Rattle.std.specs.Prelude.{◌≡◌, ◌+◌, ◌<◌, ◌^◌, ◌+ℤ◌};
+ghost use Rattle.std.specs.Prelude.{◌≡◌, ℕ, ◌+◌, ◌*◌, ◌<◌, ◌≤◌, ◌^◌, ◌+ℤ◌, length, unsigned_abs};
+ghost use Rattle.acas_spec.specs.Model.{ModelData, states, vertices};
+ghost use Rattle.acas_grid.specs.States as numbers;
 ghost use Rattle.acas_process.specs.Values.{millionths};
-ghost use Rattle.acas_means.specs.Values.{counted};
+ghost use Rattle.acas_means.specs.Layer.{AreWithin, layer_values};
+ghost use Rattle.acas_means.specs.Values.{counted, layer_mean, value_with_cost};
 
 use acas_base::Model;
 use acas_count::Counter;
@@ -29,9 +32,31 @@ pub(crate) fn count_formed(count: &mut Backups, formed: usize)
     count.raise(formed as u64, &FormedValue { formed: () });
 }
 
-/// The value of a choice by the mean under its advisory, in millionths: its action value. It counts one backup for the upper side and
-/// none for the lower.
-pub fn value_of_choice(mean: i64, choice: &Choice, side: Side, count: &mut Backups) -> i128
+/// What forms the mean of one side of a layer.
+pub trait MeanSource {
+    /// It forms the means of a model.
+    ghost serves: { Self → ModelData → Type 0 };
+
+    /// The mean of the layer below at a vertex under an advisory, in millionths, rounded at each point and once more at the end.
+    fn mean<R: Rounding>(
+        &self,
+        model: &Model,
+        vertex: u32,
+        advisory: u8,
+        side: Side,
+        below: &[Pair],
+    ) -> i64
+        requires serves { serves self.now model.now }
+        requires vertex { vertex < vertices model.now.grid }
+        requires advisory { advisory < model.now.grid.advisories }
+        requires below { length below.now ≡ states model.now.grid }
+        ensures value { result ≡ layer_mean R.round model.now side below.now vertex advisory }
+        ensures bounded { (most : ℕ) → AreWithin most side below.now → unsigned_abs result ≤ most };
+}
+
+// The value of a choice by the mean under its advisory, in millionths: its action value. It counts one backup for the upper side and
+// none for the lower.
+fn value_of_choice(mean: i64, choice: &Choice, side: Side, count: &mut Backups) -> i128
     requires { count.old + counted side < 2 ^ 64 }
     ensures value { result ≡ mean +ℤ millionths choice.now.cost }
     ensures count { count.new ≡ count.old + counted side }
@@ -40,4 +65,32 @@ pub fn value_of_choice(mean: i64, choice: &Choice, side: Side, count: &mut Backu
         count_formed(count, 1);
     }
     with_cost(mean, choice.cost)
+}
+
+/// The value of a choice at a vertex over the layer below, in millionths, by what forms its mean. The pairs of the layer stand in the
+/// order of the states' numbers. It counts one backup for the upper side and none for the lower.
+pub fn value_over<R: Rounding, S: MeanSource>(
+    model: &Model,
+    source: &S,
+    vertex: u32,
+    choice: &Choice,
+    side: Side,
+    below: &[Pair],
+    count: &mut Backups,
+) -> i128
+    requires serves { S.serves source.now model.now }
+    requires vertex { vertex < vertices model.now.grid }
+    requires advisory { choice.now.advisory < model.now.grid.advisories }
+    requires below { length below.now ≡ states model.now.grid }
+    requires count { count.old + counted side < 2 ^ 64 }
+    ensures value { let x = numbers.vertex_at model.now.grid vertex in
+        result ≡ value_with_cost R.round model.now (layer_values side model.now.grid below.now) x choice.now }
+
+    // It is at most the cost of the choice larger than the largest value below.
+    ensures bounded { (most : ℕ) → AreWithin most side below.now
+        → unsigned_abs result ≤ most + 1_000_000 * unsigned_abs choice.now.cost }
+    ensures count { count.new ≡ count.old + counted side }
+{
+    let mean = source.mean::<R>(model, vertex, choice.advisory, side, below);
+    value_of_choice(mean, choice, side, count)
 }

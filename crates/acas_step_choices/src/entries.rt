@@ -56,7 +56,7 @@ fn write_best(
 }
 
 /// Writes the best entries at a vertex, by the means there, with one list of choices at a time. It counts a backup for each choice.
-pub fn fill_best(
+pub(crate) fn fill_best(
     model: &Model,
     vertex_means: &VertexMeans,
     entries: &mut VertexEntries,

@@ -6,6 +6,8 @@ mod best;
 mod entries;
 mod priced;
 mod two;
+mod vertex;
 
-pub use backups::{Backups, value_of_choice};
-pub use entries::{ColumnEntries, VertexEntries, fill_best, fill_entries};
+pub use backups::{Backups, MeanSource, value_over};
+pub use entries::{ColumnEntries, VertexEntries, fill_entries};
+pub use vertex::{VertexMeansSource, entries_over};

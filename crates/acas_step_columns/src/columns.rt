@@ -1,4 +1,4 @@
-//! Both means of a layer column by column, by the stencils of a model: those of `means_at`, without a search of cells. Where two
+//! Both means of a layer at the vertices of a column under one advisory, by the stencils of a model, without a search of cells. Where two
 //! advisories lead to the same means from a column they are formed once.
 ghost use Rattle.std.specs.Prelude.{◌≡◌, ◌≢◌, ℕ, ◌+◌, ◌<◌, ◌≤◌, length, unsigned_abs};
 ghost use Rattle.acas_spec.specs.Model.{states};
@@ -19,25 +19,25 @@ use acas_step_narrow::{Raised, SideColumn, WIDE_SIZE, means_of_sums};
 use acas_step_stencils::Stencils;
 use acas_units::{GREATEST_ADVISORIES, GREATEST_VERTICES, Pair};
 
-// What the means of a column under an advisory are taken from.
+/// What the means of a column under an advisory are taken from.
 #[derive(Clone, Copy)]
-enum Source {
-    // Those under an earlier advisory.
+pub(crate) enum Source {
+    /// Those under an earlier advisory.
     Twin(u8),
 
-    // Sums of 64 bits.
+    /// Sums of 64 bits.
     Sums,
 
-    // The layer below, both sides at once in 128 bits.
+    /// The layer below, both sides at once in 128 bits.
     Wide,
 
-    // The layer below, each side by itself.
+    /// The layer below, each side by itself.
     Layer,
 }
 
-// Finds what the means of a column under an advisory are to be taken from, and writes their sums where 64 bits hold them: no value is
-// too large for the weights of the cells.
-fn source_of(
+/// Finds what the means of a column under an advisory are to be taken from, and writes their sums where 64 bits hold them: no value is
+/// too large for the weights of the cells.
+pub(crate) fn source_of(
     model: &Model,
     stencils: &Stencils,
     reach: Reach,
@@ -153,8 +153,8 @@ fn set_pair(pairs: &mut VertexMeans, advisory: u8, pair: Pair)
     pairs[usize::from(advisory)] = pair;
 }
 
-// Writes both means at the vertices of a column under an advisory, where those under the earlier advisories stand already.
-fn fill_advisory(
+/// Writes both means at the vertices of a column under an advisory, where those under the earlier advisories stand already.
+pub(crate) fn fill_advisory(
     model: &Model,
     stencils: &Stencils,
     reach: Reach,
@@ -194,53 +194,5 @@ fn fill_advisory(
             &means[i as usize],
         );
         set_pair(&mut means[i as usize], advisory, pair);
-    }
-}
-
-/// Writes both means of a layer at the vertices of a column, under each advisory of the model by its number, by the model's stencils
-/// and the layer's reach. They are those of `means_at`. It takes no memory.
-pub fn fill_column(
-    model: &Model,
-    stencils: &Stencils,
-    reach: Reach,
-    column: u32,
-    below: &[Pair],
-    means: &mut ColumnMeans,
-)
-    requires stencils { AreStencilsOf model.now stencils.now }
-    requires horizon { 0 < model.now.grid.horizon }
-    requires reach { IsReach model.now.grid below.now reach }
-    requires column { column < columns model.now.grid }
-    requires below { length below.now ≡ states model.now.grid }
-    ensures means { AreColumnMeans model.now below.now column means.new }
-
-    // No mean is larger than the largest value.
-    ensures bounded { (most : ℕ) (side : Side) → AreWithin most side below.now
-        → AreAllWithin most side means.old → AreAllWithin most side means.new }
-{
-    let _ = model.grid();
-    let changes = changes_from(model, own_rate_at(model, column));
-    let mut blend_uppers = [0u64; GREATEST_VERTICES as usize];
-    let mut blend_lowers = [0u64; GREATEST_VERTICES as usize];
-    let mut uppers = [0u64; GREATEST_VERTICES as usize];
-    let mut lowers = [0u64; GREATEST_VERTICES as usize];
-    for advisory in 0..advisory_count(model) {
-        let source = source_of(
-            model,
-            stencils,
-            reach,
-            column,
-            &changes,
-            advisory,
-            below,
-            &mut blend_uppers,
-            &mut blend_lowers,
-            &mut uppers,
-            &mut lowers,
-        );
-        fill_advisory(
-            model, stencils, reach, column, &changes, advisory, source, below, &uppers, &lowers,
-            means,
-        );
     }
 }

@@ -6,5 +6,4 @@ mod columns;
 mod stencil_means;
 mod wide_means;
 
-pub use columns::fill_column;
 pub use stencil_means::StencilMeans;

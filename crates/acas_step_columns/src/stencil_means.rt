@@ -1,11 +1,12 @@
-//! The means of a model's layers, by its stencils.
+//! The means of a model's layers, column by column, by its stencils.
 ghost use Rattle.acas_step_stencils.specs.Stencils.{AreStencilsOf};
 
-use crate::columns::fill_column;
+use crate::columns::{fill_advisory, source_of};
 use acas_base::Model;
-use acas_means::{ColumnMeans, LayerMeans, Reach};
+use acas_means::{ColumnMeans, LayerMeans, Reach, advisory_count};
+use acas_step::{changes_from, own_rate_at};
 use acas_step_stencils::Stencils;
-use acas_units::Pair;
+use acas_units::{GREATEST_VERTICES, Pair};
 use std::alloc::{AllocError, Global};
 
 /// The stencils of a model, which form the means of its layers.
@@ -31,6 +32,31 @@ impl LayerMeans for StencilMeans {
         below: &[Pair],
         means: &mut ColumnMeans,
     ) {
-        fill_column(model, &self.stencils, reach, column, below, means);
+        let _ = model.grid();
+        let stencils = &self.stencils;
+        let changes = changes_from(model, own_rate_at(model, column));
+        let mut blend_uppers = [0u64; GREATEST_VERTICES as usize];
+        let mut blend_lowers = [0u64; GREATEST_VERTICES as usize];
+        let mut uppers = [0u64; GREATEST_VERTICES as usize];
+        let mut lowers = [0u64; GREATEST_VERTICES as usize];
+        for advisory in 0..advisory_count(model) {
+            let source = source_of(
+                model,
+                stencils,
+                reach,
+                column,
+                &changes,
+                advisory,
+                below,
+                &mut blend_uppers,
+                &mut blend_lowers,
+                &mut uppers,
+                &mut lowers,
+            );
+            fill_advisory(
+                model, stencils, reach, column, &changes, advisory, source, below, &uppers,
+                &lowers, means,
+            );
+        }
     }
 }

@@ -11,7 +11,8 @@ use Rattle.acas_units.specs.declared.pair.Entry.{Entry}
 use Rattle.acas_units.specs.declared.pair.Pair.{Pair}
 use Rattle.acas_process.specs.Compiled.{compiled}
 use Rattle.acas_means.specs.Entries.{IsEntryOf, IsStateEntry}
-use Rattle.acas_sweep.specs.Entries.{SameElsewhere, listed_entry}
+use Rattle.acas_step_choices.specs.Best.{entry_at}
+use Rattle.acas_sweep.specs.Entries.{AreWritten, SameElsewhere, listed_entry}
 use Rattle.acas_sweep.specs.Filled.{AreEndings}
 use Rattle.acas_sweep.specs.Turns.{turn}
 use Rattle.acas_sweep.proofs.Turns.{turn-same}
@@ -51,11 +52,12 @@ states_next g P v c pairs advice pairs' advice' known is so_far at_vertex others
 
 -- ---- with no second to go
 
-pub endings_next : (m : ModelData) (v p : ℕ) (pairs : List Pair) (advice : List ℕ) (e : Entry) → v < vertices m.grid
-    → state_number m.grid p v < length pairs → state_number m.grid p v < length advice → AreEndings m v p pairs advice → IsEntryOf (compiled m) 0 0 (vertex_at m.grid v) e
-    → AreEndings m v (p + 1) (set pairs (state_number m.grid p v) e.pair) (set advice (state_number m.grid p v) e.advice)
-endings_next m v p pairs advice e inside h k so_far ending = record {
-  entry = entries_next m.grid (λ (q : ℕ) (x : Entry). IsEntryOf (compiled m) 0 q (vertex_at m.grid v) x) v p pairs advice e inside h k so_far.entry
+-- the entries that are written at a vertex are all the ending there
+pub endings_of : (m : ModelData) (v : ℕ) (entries : List Entry) (pairs : List Pair) (advice : List ℕ) (e : Entry) → ((p : ℕ) → p < m.grid.advisories → entry_at entries p ≡ e)
+    → IsEntryOf (compiled m) 0 0 (vertex_at m.grid v) e → AreWritten m.grid v m.grid.advisories entries pairs advice → AreEndings m v m.grid.advisories pairs advice
+endings_of m v entries pairs advice e same ending written = record {
+  entry = λ p known.
+      subst (λ (x : Entry). IsEntryOf (compiled m) 0 p (vertex_at m.grid v) x) (sym (written.entry p known ∙ same p known))
       (record { upper = ending.upper; lower = ending.lower; advice = ending.advice });
 }
 

@@ -4,3 +4,4 @@ pub mod Entries
 pub mod Filled
 pub mod Handed
 pub mod Room
+pub mod Sweeping

@@ -17,6 +17,7 @@ use acas_base::Model;
 use acas_means::{ColumnMeans, LayerMeans, column_count, reach_of, state_among, vertex_in_column};
 use acas_plane::PlaneBlock;
 use acas_step_choices::{Backups, ColumnEntries, VertexEntries, fill_entries};
+use acas_units::GREATEST_ADVISORIES;
 
 // Writes the entries of a vertex with no second to go, under all present advisories.
 fn put_endings(model: &Model, vertex: u32, block: &mut PlaneBlock, advice: &mut [u8])
@@ -29,14 +30,9 @@ fn put_endings(model: &Model, vertex: u32, block: &mut PlaneBlock, advice: &mut 
         (pairs_in block.new.work) advice.new }
     ensures filled { IsFilledTo model.now.grid (turn model.now.grid vertex + 1) 0 block.new }
 {
-    let grid = model.grid();
-    let width = grid.vertices();
-    let entry = terminal_entry(model, vertex);
-    for present in 0..grid.advisories as u8 {
-        let state = state_among(grid, width, present, vertex);
-        block.put(state, entry.pair);
-        advice[state as usize] = entry.advice;
-    }
+    let _ = model.grid();
+    let entries = [terminal_entry(model, vertex); GREATEST_ADVISORIES as usize];
+    put_vertex(model, vertex, &entries, block, advice);
 }
 
 /// Writes the layer with no second to go.

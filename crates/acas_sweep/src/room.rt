@@ -1,10 +1,8 @@
 //! The memory of a sweep, which is taken before anything is written.
-ghost use Rattle.std.specs.Prelude.{◌≡◌, ◌+◌, ◌≤◌, ◌^◌, IfOk, OnOk, OnErr};
-ghost use Rattle.acas_spec.specs.Model.{entries, states};
-ghost use Rattle.acas_outside.specs.Counts.{Rose};
-ghost use Rattle.acas_sweep.specs.Handed.{AddsBelow, CutBelow, compiled_layer};
-ghost use Rattle.acas_sweep.specs.Layers.{backup_count};
+ghost use Rattle.std.specs.Prelude.{◌≡◌, ◌+◌, ◌≤◌, ◌^◌, IfOk};
+ghost use Rattle.acas_spec.specs.Model.{states};
 ghost use Rattle.acas_sweep.specs.Room.{IsRoomFor};
+ghost use Rattle.acas_sweep.specs.Sweeping.{HandsTable, RaisesCounts};
 
 use crate::laws::backups_are_few;
 use crate::sink::LayerSink;
@@ -34,8 +32,8 @@ impl SweepRoom {
     }
 }
 
-/// Hands all layers of the compiled table of a model to a sink, by what forms the model's means. It takes no memory. It counts the backups and the turned pairs of the
-/// sweep.
+/// Hands all layers of the compiled table of a model to a sink, by what forms the model's means. It takes no memory. It counts the backups
+/// and the turned pairs of the sweep.
 pub fn sweep_to<M: LayerMeans, S: LayerSink>(
     model: &Model,
     layer_means: &M,
@@ -50,16 +48,8 @@ pub fn sweep_to<M: LayerMeans, S: LayerSink>(
     requires left { S.left rows.old ≡ model.now.grid.horizon + 1 }
     requires backups { backups.old ≤ 2 ^ 63 }
     requires turned { turned.old ≤ 2 ^ 63 }
-    ensures ok { OnOk result
-        (AddsBelow S.adds (compiled_layer model.now) rows.old (model.now.grid.horizon + 1) rows.new) }
-    ensures err { OnErr result
-        (CutBelow S.adds (compiled_layer model.now) S.cuts rows.old (model.now.grid.horizon + 1) rows.new) }
-    ensures failed { OnErr result (Rose (S.faults rows.old) (S.faults rows.new)) }
-    ensures faults { S.faults rows.old ≤ S.faults rows.new }
-    ensures counted { OnOk result (backups.new ≡ backups.old + backup_count model.now) }
-    ensures turns { OnOk result (turned.new ≡ turned.old + entries model.now.grid) }
-    ensures rising { backups.old ≤ backups.new }
-    ensures rising_turned { turned.old ≤ turned.new }
+    ensures hands { HandsTable S.LayerSink model.now rows.old rows.new result }
+    ensures counts { RaisesCounts model.now backups.old backups.new turned.old turned.new result }
 {
     // By the model's limits a table takes fewer backups, and has fewer entries, than the counters still hold.
     let _ = model.grid();

@@ -4,8 +4,9 @@ ghost use Rattle.acas_spec.specs.Model.{entries, states};
 ghost use Rattle.acas_outside.specs.Counts.{Rose};
 ghost use Rattle.acas_plane.specs.Plane.{fresh, missing_in};
 ghost use Rattle.acas_sweep.specs.Filled.{pairs_in};
-ghost use Rattle.acas_sweep.specs.Handed.{AddsBelow, CutBelow, compiled_layer, plane_layer};
+ghost use Rattle.acas_sweep.specs.Handed.{plane_layer};
 ghost use Rattle.acas_sweep.specs.Layers.{backup_count};
+ghost use Rattle.acas_sweep.specs.Sweeping.{HandsTable, RaisesCounts};
 
 use crate::plane::{put_first, put_over};
 use crate::sink::{LayerFailed, LayerSink};
@@ -70,16 +71,8 @@ pub fn sweep<M: LayerMeans, S: LayerSink>(
     requires left { S.left rows.old ≡ model.now.grid.horizon + 1 }
     requires backups { count.old + backup_count model.now < 2 ^ 64 }
     requires turns { turned.old + entries model.now.grid < 2 ^ 64 }
-    ensures ok { OnOk result
-        (AddsBelow S.adds (compiled_layer model.now) rows.old (model.now.grid.horizon + 1) rows.new) }
-    ensures err { OnErr result
-        (CutBelow S.adds (compiled_layer model.now) S.cuts rows.old (model.now.grid.horizon + 1) rows.new) }
-    ensures failed { OnErr result (Rose (S.faults rows.old) (S.faults rows.new)) }
-    ensures faults { S.faults rows.old ≤ S.faults rows.new }
-    ensures backups { OnOk result (count.new ≡ count.old + backup_count model.now) }
-    ensures turns { OnOk result (turned.new ≡ turned.old + entries model.now.grid) }
-    ensures rising { count.old ≤ count.new }
-    ensures rising_turned { turned.old ≤ turned.new }
+    ensures hands { HandsTable S.LayerSink model.now rows.old rows.new result }
+    ensures counts { RaisesCounts model.now count.old count.new turned.old turned.new result }
 {
     let none = Pair { upper: 0, lower: 0 };
     let no_entry = Entry {

@@ -25,7 +25,15 @@ use Rattle.acas_table_commands.specs.Calls.{CallsForCompile, CallsForValues, com
 use Rattle.acas_table_rows.specs.StoredLine.{compiled_line}
 use Rattle.acas_table_rows.specs.TableFile.{compiled_text}
 use Rattle.acas_table_lines.specs.ValuesText.{values_text}
-use Rattle.acas_table_commands.specs.Worth.{CompileIsWorth, PrintsTable, StoresTable, ValuesIsWorth}
+use Rattle.acas_table_commands.specs.Worth.{CompileIsWorth, IsTightTableOf, PrintsTable, StoresTable, ValuesIsWorth}
+
+-- the compiled table of a model that a file says
+compiled-tight : (model : List ℕ) (files : Files) (bytes : List ℕ) (m : ModelData) → SaysModel files model bytes m → IsTightTableOf model files bytes m (compiled m)
+compiled-tight model files bytes m says = record {
+  says = says;
+  bounds = two_sided_bounds m (compiled m) says.text.within (compiled_is_sound m says.text.within);
+  tight = compiled_is_tight m says.text.within;
+}
 
 -- what `values` goes on with
 abbrev pub rest_of_values : List ℕ → ModelData → Outcome
@@ -41,9 +49,7 @@ prints-table model files before after a =
       bytes = b.bytes;
       m = b.m;
       t = compiled b.m;
-      says = says;
-      bounds = two_sided_bounds b.m (compiled b.m) says.text.within (compiled_is_sound b.m says.text.within);
-      tight = compiled_is_tight b.m says.text.within;
+      made = compiled-tight model files b.bytes b.m says;
       printed = subst (λ (o : Outcome). Appends before.written after.written o.output) (a.may ∙ b.is) a.printed;
     }
 
@@ -71,9 +77,7 @@ stores-table model table files after o called prints stored =
       bytes = b.bytes;
       m = b.m;
       t = compiled b.m;
-      says = says;
-      bounds = two_sided_bounds b.m (compiled b.m) says.text.within (compiled_is_sound b.m says.text.within);
-      tight = compiled_is_tight b.m says.text.within;
+      made = compiled-tight model files b.bytes b.m says;
       accepted = compiled_is_accepted b.m Layered (sha256 b.bytes) says.text.within;
       stored = subst (λ (p : Outcome). after.holds ≡ Some (with_file p.file files)) (called ∙ b.is) stored;
     }

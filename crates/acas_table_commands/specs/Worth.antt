@@ -17,14 +17,18 @@ use Rattle.acas_command.specs.declared.status.Cause.{Cause}
 use Rattle.acas_command.specs.declared.status.Cause.TheVariants.{Done, Output}
 use Rattle.acas_table_lines.specs.ValuesText.{table_lines}
 
+-- M says the model m by these bytes, and t is a table of it that has two-sided bounds and is tight
+pub record IsTightTableOf (model : List ℕ) (files : Files) (bytes : List ℕ) (m : ModelData) (t : Table) : Type 0 where
+  pub says : SaysModel files model bytes m
+  pub bounds : HasTwoSidedBounds m t
+  pub tight : IsTight m t
+
 -- M says a model, and what was printed are the lines of a table of it, which has two-sided bounds and is tight
 pub record PrintsTable (model : List ℕ) (files : Files) (before after : Outside) : Type 0 where
   pub bytes : List ℕ
   pub m : ModelData
   pub t : Table
-  pub says : SaysModel files model bytes m
-  pub bounds : HasTwoSidedBounds m t
-  pub tight : IsTight m t
+  pub made : IsTightTableOf model files bytes m t
   pub printed : Appends before.written after.written (table_lines m t)
 
 -- M says a model, T holds the text in version 2 of a table of it, which has two-sided bounds and is tight, and whose entries are all
@@ -33,9 +37,7 @@ pub record StoresTable (model table : List ℕ) (files : Files) (after : Outside
   pub bytes : List ℕ
   pub m : ModelData
   pub t : Table
-  pub says : SaysModel files model bytes m
-  pub bounds : HasTwoSidedBounds m t
-  pub tight : IsTight m t
+  pub made : IsTightTableOf model files bytes m t
   pub accepted : IsAcceptedTable m (sha256 bytes) (table_text Layered (sha256 bytes) m.grid t) t
   pub stored : after.holds ≡ Some (insert files table (table_text Layered (sha256 bytes) m.grid t))
 

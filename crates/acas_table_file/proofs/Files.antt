@@ -29,7 +29,7 @@ use Rattle.acas_command.proofs.Refused.{IsNoFileCause, behind-model}
 use Rattle.acas_command.proofs.Says.{file-says, read-model, says-model}
 use Rattle.acas_table_file.specs.AcceptedFile.{IsLayersFile, IsTableFile, IsTableOf}
 use Rattle.acas_table_file.specs.Calls.{with_acceptance, with_table}
-use Rattle.acas_table_file.specs.Worth.{RejectsTable, TellsAdvices}
+use Rattle.acas_table_file.specs.Worth.{RejectsTable, SaysTable, TellsAdvices}
 
 pub with_table-accepted : (m : ModelData) (digest bytes : List ℕ) (rest : List ℕ → Outcome) → first_refusal m digest bytes ≡ None → with_table m digest (Some bytes) rest ≡ rest bytes
 with_table-accepted m digest bytes rest none = rw none refl
@@ -121,12 +121,14 @@ tells-advices model table files m advices a =
     let says : SaysModel files model bytes m = file-says files model a.digest m a.model_file in
     let none : first_refusal m (sha256 bytes) given ≡ None = subst (λ (d : List ℕ). first_refusal m d given ≡ None) a.model_file.hashed a.table_file.accepted in
     record {
-      bytes = bytes;
-      given = given;
       t = given_table m.grid given;
-      says = says;
-      file = a.table_file.there;
-      accepted = given_is_accepted m (sha256 bytes) given says.text.within a.table_file.whole none;
+      says = record {
+        bytes = bytes;
+        given = given;
+        says = says;
+        file = a.table_file.there;
+        accepted = given_is_accepted m (sha256 bytes) given says.text.within a.table_file.whole none;
+      };
       tabled = record {
         each = λ n present x some entry.
             a.table_file.held.each n (state_number m.grid present (vertex_number m.grid x)) some entry.seconds (state_number-below m.grid present x entry.present entry.vertex);
@@ -134,12 +136,13 @@ tells-advices model table files m advices a =
     }
 
 -- what goes on behind the files of a model and of such a table
-pub read-table : (files : Files) (model table bytes given : List ℕ) (m : ModelData) (t : Table) (rest : List ℕ → ModelData → List ℕ → Outcome) → SaysModel files model bytes m → get files table ≡ Some given
-    → IsAcceptedTable m (sha256 bytes) given t → with_model (get files model) (λ digest n. with_table n digest (get files table) (rest digest n)) ≡ rest (sha256 bytes) m given
-read-table files model table bytes given m t rest says there accepted =
-    read-model files model bytes m (λ digest n. with_table n digest (get files table) (rest digest n)) says
-    ∙ ap (λ (file : Option (List ℕ)). with_table m (sha256 bytes) file (rest (sha256 bytes) m)) there
-    ∙ with_table-accepted m (sha256 bytes) given (rest (sha256 bytes) m) (accepted_has_none m (sha256 bytes) given t says.text.within (length-sha256 bytes) accepted)
+pub read-table : (files : Files) (model table : List ℕ) (m : ModelData) (t : Table) (rest : List ℕ → ModelData → List ℕ → Outcome) (s : SaysTable model table files m t)
+    → with_model (get files model) (λ digest n. with_table n digest (get files table) (rest digest n)) ≡ rest (sha256 s.bytes) m s.given
+read-table files model table m t rest s =
+    let digest : List ℕ = sha256 s.bytes in
+    read-model files model s.bytes m (λ d n. with_table n d (get files table) (rest d n)) s.says
+    ∙ ap (λ (file : Option (List ℕ)). with_table m digest file (rest digest m)) s.file
+    ∙ with_table-accepted m digest s.given (rest digest m) (accepted_has_none m digest s.given t s.says.text.within (length-sha256 s.bytes) s.accepted)
 
 -- a file that is told to be bytes
 pub bytes-of : (file : Option (List ℕ)) (bytes : List ℕ) → file ≡ Some bytes → IsSomeAnd file IsBytes → IsBytes bytes

@@ -16,21 +16,21 @@ use Rattle.acas_table_file.specs.Calls.{with_table}
 use Rattle.acas_command.specs.Outcome.{Outcome}
 use Rattle.acas_command.specs.declared.status.Cause.{Cause}
 
--- the file is an accepted table of the model whose text has this digest, and these are its advices with at least one second to go
-pub record IsTableFile (model : ModelData) (digest : List ℕ) (file : Option (List ℕ)) (advices : AdvicesData) : Type 0 where
+-- the file is an accepted table of the model whose text has this digest, and what was kept of it has this relation to its bytes
+pub record IsAcceptedFile {A : Type 0} (Has : ModelData → List ℕ → A → Type 0) (model : ModelData) (digest : List ℕ) (file : Option (List ℕ)) (kept : A) : Type 0 where
   pub bytes : List ℕ
   pub there : file ≡ Some bytes
   pub accepted : first_refusal model digest bytes ≡ None
   pub whole : IsBytes bytes
-  pub held : HasAdvices model bytes advices
+  pub held : Has model bytes kept
 
--- the same, and these are its layers
-pub record IsLayersFile (model : ModelData) (digest : List ℕ) (file : Option (List ℕ)) (layers : LayersData) : Type 0 where
-  pub bytes : List ℕ
-  pub there : file ≡ Some bytes
-  pub accepted : first_refusal model digest bytes ≡ None
-  pub whole : IsBytes bytes
-  pub held : HasLayers model bytes layers
+-- such a file, whose advices with at least one second to go these are
+abbrev pub IsTableFile : ModelData → List ℕ → Option (List ℕ) → AdvicesData → Type 0
+IsTableFile model digest file advices = IsAcceptedFile HasAdvices model digest file advices
+
+-- such a file, whose layers these are
+abbrev pub IsLayersFile : ModelData → List ℕ → Option (List ℕ) → LayersData → Type 0
+IsLayersFile model digest file layers = IsAcceptedFile HasLayers model digest file layers
 
 -- M is the file of a model, T that of an accepted table of it, and these are the table's advices
 pub record IsTableOf (model table : List ℕ) (files : Files) (m : ModelData) (advices : AdvicesData) : Type 0 where

@@ -1,13 +1,11 @@
 //! The lines of a table's entries.
-ghost use Rattle.std.specs.Prelude.{◌≡◌, ◌+◌, ◌≤◌, ◌<◌, ◌++◌, length};
-ghost use Rattle.std.specs.Fmt.{signed_decimal};
+ghost use Rattle.std.specs.Prelude.{◌≡◌, ◌≤◌, ◌<◌, length};
 ghost use Rattle.acas_grid.specs.Grid.{IsVertex};
-ghost use Rattle.acas_command.specs.Fields.{field};
 ghost use Rattle.acas_table_lines.specs.Heads.{line_behind, line_head};
 ghost use Rattle.acas_table_lines.specs.ValuesText.{advice_text};
 
 use acas_base::Model;
-use acas_command::{put_count_field, put_millionths_field, put_number};
+use acas_command::{put_count_field, put_millionths_field, put_name_field, put_number_field};
 use acas_grid::Vertex;
 use acas_units::{GREATEST_NAME_BYTES, LINE_BYTES, Line, Pair, TICKS_PER_FOOT};
 
@@ -49,29 +47,6 @@ pub(crate) fn write_entry(
     put_millionths_field(line, pair.upper);
     line.push(advice_name(model, n, advice));
     line.push(b"\n");
-}
-
-// Appends a name and a space.
-#[tactic(auto, unfolding(acas_command::specs::Fields::field))]
-fn put_name_field(line: &mut Line, name: &[u8])
-    requires short { length name.now ≤ GREATEST_NAME_BYTES }
-    requires room { length line.old + GREATEST_NAME_BYTES + 1 ≤ LINE_BYTES }
-    ensures value { line.new ≡ line.old ++ field name.now }
-    ensures room { length line.new ≤ length line.old + GREATEST_NAME_BYTES + 1 }
-{
-    line.push(name);
-    line.push(b" ");
-}
-
-// Appends a number and a space.
-#[tactic(auto, unfolding(acas_command::specs::Fields::field))]
-fn put_number_field(line: &mut Line, value: i64)
-    requires { length line.old + 21 ≤ LINE_BYTES }
-    ensures value { line.new ≡ line.old ++ field (signed_decimal value) }
-    ensures room { length line.new ≤ length line.old + 21 }
-{
-    put_number(line, value);
-    line.push(b" ");
 }
 
 // The advice by name, and `-` with no second to go and where its number is no advisory's.

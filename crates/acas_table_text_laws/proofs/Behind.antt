@@ -5,7 +5,6 @@ use Rattle.std.proofs.lemmas.Bool.{cases_lt}
 use Rattle.acas_table_text.specs.Shape.{IsShape, entry_count}
 use Rattle.acas_table_text.specs.Format.{digest_start, group_size, hashed_from, last_group, length_of}
 use Rattle.acas_table_text.specs.declared.format.Format.{Format}
-use Rattle.acas_table_text.specs.declared.format.Format.TheVariants.{Layered, Whole}
 use Rattle.acas_table_text.specs.declared.shape.TableShape.{TableShape}
 use Rattle.acas_table_text.proofs.Groups.{all_groups, ended_of, ended-at, ended-first, ended-within, group_of_left, group-none_left, some_group}
 
@@ -94,14 +93,6 @@ pub hashed-before : (f : Format) (s : TableShape) (k : ℕ) → hashed_from f s 
 hashed-before f s zero = omega arith
 hashed-before f s (suc k) = omega arith
 
--- a file in version 1 is not longer than one in version 2
-pub whole-shorter : (s : TableShape) → length_of Whole s ≤ length_of Layered s
-whole-shorter s = omega arith
-
-pub any-shorter : (f : Format) (s : TableShape) → length_of f s ≤ length_of Layered s
-any-shorter Whole s = whole-shorter s
-any-shorter Layered s = omega arith
-
 -- an entry is in its table, and the groups before it in theirs
 pub group-in : (f : Format) (s : TableShape) (i : ℕ) → IsShape s → i < entry_count s → i / group_size f s ≤ last_group f s
 group-in f s i shape within =
@@ -112,18 +103,4 @@ group-in f s i shape within =
           let order : (last_group f s + 1) * g ≤ i / g * g = mul-le (last_group f s + 1) g (i / g) g (omega arith) (omega arith) in
           absurd (omega (arith, all_groups f s))
       | inr le ↦ le
-    ]
-
--- where all entries were given, those of the last group were
-pub all_given : (f : Format) (s : TableShape) (groups left i : ℕ) → IsShape s → i ≡ entry_count s → groups ≤ last_group f s → left ≤ group_size f s
-    → i + left ≡ (groups + 1) * group_size f s → (groups ≡ last_group f s) × (left ≡ 0)
-all_given f s groups left i shape all most few place =
-    let g = group_size f s in
-    let order : (groups + 1) * g ≤ (last_group f s + 1) * g = mul-le (groups + 1) g (last_group f s + 1) g (omega arith) (omega arith) in
-    let none : left ≡ 0 = omega (arith, all_groups f s) in
-    elim (cases_lt groups (last_group f s)) [
-      | inl fewer ↦
-          let less : (groups + 2) * g ≤ (last_group f s + 1) * g = mul-le (groups + 2) g (last_group f s + 1) g (omega arith) (omega arith) in
-          absurd (omega (arith, all_groups f s, some_group f s shape))
-      | inr le ↦ (omega arith, none)
     ]

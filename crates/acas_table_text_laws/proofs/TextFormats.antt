@@ -1,19 +1,15 @@
 -- The format of texts, and of bytes that are cut.
-use Rattle.std.proofs.Common.{◌≡◌, ℕ, ◌<◌, ◌≤◌, Bool, cond, eqb, List, ◌++◌, length, take, sym, ◌∙◌, ap, arith}
-use Rattle.std.proofs.lemmas.Bool.{lt-ltb}
+use Rattle.std.proofs.Common.{◌≡◌, ℕ, ◌≤◌, cond, eqb, List, ◌++◌, length, take, sym, ◌∙◌, ap, arith}
 use Rattle.std.proofs.lemmas.List.{length-take-le}
 use Rattle.byteorder.specs.Endian.{little_number}
 use Rattle.acas_units.specs.declared.pair.Entry.{Entry}
-use Rattle.acas_table_text.specs.Format.{format_of, part}
+use Rattle.acas_table_text.specs.Format.{format_of}
 use Rattle.acas_table_text.specs.Text.{chain, groups_of, header, text_of_layers}
 use Rattle.acas_table_text.specs.declared.format.Format.{Format}
 use Rattle.acas_table_text.specs.declared.format.Format.TheVariants.{Layered, Whole}
 use Rattle.acas_table_text.specs.declared.shape.TableShape.{TableShape}
 use Rattle.acas_table_text.proofs.Parts.{part-take}
 use Rattle.acas_table_text.proofs.Formats.{format_long}
-
-pub format_short : (bytes : List ℕ) → length bytes < 8 → format_of bytes ≡ Layered
-format_short bytes short = ap (λ (b : Bool). cond b Layered (cond (eqb (little_number 4 (part bytes 4 4)) 1) Whole Layered)) (lt-ltb (length bytes) 8 short)
 
 -- bytes that are cut behind their version
 pub format_of_take : (bytes : List ℕ) (n : ℕ) → n ≤ length bytes → 8 ≤ n → format_of (take n bytes) ≡ format_of bytes

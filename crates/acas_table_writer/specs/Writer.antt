@@ -1,6 +1,9 @@
 -- A writer that has appended a header and layers.
-use Rattle.std.specs.Prelude.{◌≡◌, ℕ, List, length}
+use Rattle.std.specs.Prelude.{◌≡◌, ℕ, List, [], ◌∷◌, ◌++◌, length, Result, OnOk, OnErr, IsErr}
 use Rattle.acas_units.specs.declared.pair.Entry.{Entry}
+use Rattle.acas_outside.specs.Files.{Grows, GrowsPart}
+use Rattle.acas_outside.specs.Frame.{OnlyWrites}
+use Rattle.acas_outside.specs.declared.folder.Folder.{Ghosts as FolderMeanings}
 use Rattle.acas_table_text.specs.Text.{header}
 use Rattle.acas_table_text.specs.Growth.{base, ending, layer_bytes}
 use Rattle.acas_table_writer.specs.Pieces.{Holds}
@@ -51,3 +54,14 @@ next_bytes w layers layer = layer_bytes w.format (base w.format w.head layers) l
 -- and what it appends at the end
 abbrev pub last_bytes : WriterState → List (List Entry) → List ℕ
 last_bytes w layers = ending w.format (base w.format w.head layers)
+
+-- a call of a writer that appends one more layer, or where it failed the first of its bytes and not all
+pub record AppendsLayer {F X E : Type 0} (d : FolderMeanings F) (old new : F) (name : List ℕ) (before now : TableWriter)
+    (layer : List Entry) (result : Result X E) : Type 0 where
+  pub ok : (layers : List (List Entry)) → HasWritten before layers → OnOk result
+      (Grows (d.holds old) (d.holds new) name (next_bytes (writer_state before) layers layer))
+  pub err : (layers : List (List Entry)) → HasWritten before layers → OnErr result
+      (GrowsPart (d.holds old) (d.holds new) name (next_bytes (writer_state before) layers layer))
+  pub written : (layers : List (List Entry)) → HasWritten before layers
+      → OnOk result (HasWritten now (layers ++ layer ∷ []))
+  pub frame : OnlyWrites d old new (IsErr result)

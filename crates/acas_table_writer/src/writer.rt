@@ -46,7 +46,7 @@ impl TableWriter {
     ghost use Rattle.acas_table_text.specs.Shape.{shape_of};
     ghost use Rattle.acas_table_text.specs.Text.{layer_of};
     ghost use Rattle.acas_table_text.specs.Format.{format_of_version, length_of};
-    ghost use Rattle.acas_table_writer.specs.Writer.{writer_state, new_writer, HasWritten, next_bytes, last_bytes};
+    ghost use Rattle.acas_table_writer.specs.Writer.{AppendsLayer, writer_state, new_writer, HasWritten, last_bytes};
 
     /// A writer of tables of version 2 for a model, whose text has this digest.
     pub fn new(alloc: Global, model: &Model, digest: &[u8; 32]) -> Result<TableWriter, AllocError>
@@ -135,18 +135,11 @@ impl TableWriter {
         requires more { (writer_state self.old).given < (writer_state self.old).shape.horizon + 1 }
         requires pairs { length pairs.now ≡ (writer_state self.old).shape.states }
         requires advice { length advice.now ≡ (writer_state self.old).shape.states }
-        ensures ok { (layers : List (List TableEntry)) → HasWritten self.old layers → OnOk result
-            (Grows (F.holds folder.old) (F.holds folder.new) name.now
-            (next_bytes (writer_state self.old) layers (layer_of pairs.now advice.now))) }
-        ensures err { (layers : List (List TableEntry)) → HasWritten self.old layers → OnErr result
-            (GrowsPart (F.holds folder.old) (F.holds folder.new) name.now
-            (next_bytes (writer_state self.old) layers (layer_of pairs.now advice.now))) }
-        ensures written { (layers : List (List TableEntry)) → HasWritten self.old layers →
-            OnOk result (HasWritten self.new (layers ++ layer_of pairs.now advice.now ∷ [])) }
+        ensures appends { AppendsLayer F.Folder folder.old folder.new name.now self.old self.new
+            (layer_of pairs.now advice.now) result }
         ensures state { let old = writer_state self.old in writer_state self.new ≡ (if is_ok result
             then record old { given = old.given + 1 }
             else record old { phase = Phase.Failed }) }
-        ensures frame { OnlyWrites F.Folder folder.old folder.new (IsErr result) }
     {
         self.phase = Phase::Failed;
         append_layer(&mut self.pieces, self.format, pairs, advice, folder, name)?;

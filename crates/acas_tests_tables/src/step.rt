@@ -8,11 +8,13 @@ use crate::models::{FOUR, NOISY, WIDE};
 use acas_base::{Choice, Model};
 use acas_frac::{Down, Up};
 use acas_grid::{Point, state_present};
-use acas_means::{ColumnMeans, Side, column_count, reach_of, terminal, vertex_in_column};
+use acas_means::{
+    ColumnMeans, LayerMeans, Side, column_count, reach_of, terminal, vertex_in_column,
+};
 use acas_plain::backup;
 use acas_step::{Corner, CornerSet, corners, mean, means_at, moved};
 use acas_step_choices::Backups;
-use acas_step_columns::fill_column;
+use acas_step_columns::StencilMeans;
 use acas_step_stencils::Stencils;
 use acas_tests_data::model_of;
 use acas_units::{GREATEST_ADVISORIES, GREATEST_VERTICES, Pair};
@@ -265,9 +267,9 @@ fn are_plain(model: &Model, column: u32, means: &ColumnMeans, below: &[Pair]) ->
     same
 }
 
-// Whether the means by the stencils of a model are the plain ones in each column, and there is a second to go.
-fn same_means(model: &Model, stencils: &Stencils, below: &[Pair]) -> bool
-    requires { AreStencilsOf model.now stencils.now }
+// Whether the means that are formed for a model are the plain ones in each column, and there is a second to go.
+fn same_means<M: LayerMeans>(model: &Model, layer_means: &M, below: &[Pair]) -> bool
+    requires { M.fits layer_means.now model.now }
 {
     let grid = model.grid();
     if grid.horizon == 0 || below.len() != grid.states() as usize {
@@ -278,7 +280,7 @@ fn same_means(model: &Model, stencils: &Stencils, below: &[Pair]) -> bool
     let mut means = [none; GREATEST_VERTICES as usize];
     let mut same = true;
     for column in 0..column_count(grid) {
-        fill_column(model, stencils, reach, column, below, &mut means);
+        layer_means.fill_column(model, reach, column, below, &mut means);
         same = same && are_plain(model, column, &means, below);
     }
     same
@@ -290,7 +292,10 @@ fn gives_the_plain_step(alloc: Global, text: &str, below: &[Pair]) -> Option<boo
     let Ok(stencils) = Stencils::make(alloc, &model) else {
         return None;
     };
-    Some(same_corners(&model, &stencils) && same_means(&model, &stencils, below))
+    let Ok(stencil_means) = StencilMeans::make(alloc, &model) else {
+        return None;
+    };
+    Some(same_corners(&model, &stencils) && same_means(&model, &stencil_means, below))
 }
 
 #[test]

@@ -8,9 +8,9 @@ use Rattle.acas_race.proofs.apart.is_apart.Goals as goal
 
 pub returns : goal.returns
 returns c =
-    let h : c.natural-half.result ≡ c.args.model.now.half = omega (arith, ints, c.half.ensures, c.natural-half.ensures) in
-    let may = may_of c.args.may.now in
-    let area = area_of c.args.area.now in
-    let w = times_of c.args.window.now in
-    subst (λ (n : ℕ). IsTrue c.is_apart_of.result ↔ IsApart n (demand_of c.args.model.now c.args.advisory) may area w) h
+    let h : c.natural-half.result ≡ c.args.on.now.model.now.half = omega (arith, ints, c.half.ensures, c.natural-half.ensures) in
+    let may = may_of c.args.on.now.may.now in
+    let area = area_of c.args.on.now.area.now in
+    let w = times_of c.args.on.now.window.now in
+    subst (λ (n : ℕ). IsTrue c.is_apart_of.result ↔ IsApart n (demand_of c.args.on.now.model.now c.args.on.now.advisory) may area w) h
     (subst (λ (a : Demand). IsTrue c.is_apart_of.result ↔ IsApart c.natural-half.result a may area w) c.asked_by.ensures c.is_apart_of.ensures)

@@ -8,12 +8,12 @@ use Rattle.acas_race.proofs.search.search_times.Goals as goal
 
 pub returns-clause-low : goal.returns-clause-low
 returns-clause-low c =
-    let w = times_of c.args.window.now in
-    subst (λ (a : Demand). IsFirstLeastTime (low_race a (may_of c.args.may.now) (area_of c.args.area.now)) w c.nearest_time.result) c.asked_by-asked.ensures
+    let w = times_of c.args.on.now.window.now in
+    subst (λ (a : Demand). IsFirstLeastTime (low_race a (may_of c.args.on.now.may.now) (area_of c.args.on.now.area.now)) w c.nearest_time.result) c.asked_by-asked.ensures
     (subst (λ (r : Race). IsFirstLeastTime r w c.nearest_time.result) c.low_contest.ensures c.nearest_time.ensures.least)
 
 pub returns-clause-high : goal.returns-clause-high
 returns-clause-high c =
-    let w = times_of c.args.window.now in
-    subst (λ (a : Demand). IsFirstLeastTime (turned (high_race a (may_of c.args.may.now) (area_of c.args.area.now))) w c.nearest_time-2.result) c.asked_by-asked.ensures
+    let w = times_of c.args.on.now.window.now in
+    subst (λ (a : Demand). IsFirstLeastTime (turned (high_race a (may_of c.args.on.now.may.now) (area_of c.args.on.now.area.now))) w c.nearest_time-2.result) c.asked_by-asked.ensures
     (subst (λ (r : Race). IsFirstLeastTime r w c.nearest_time-2.result) c.high_contest.ensures c.nearest_time-2.ensures.least)

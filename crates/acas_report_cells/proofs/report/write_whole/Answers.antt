@@ -1,4 +1,4 @@
-use Rattle.std.proofs.Common.{arith}
+use Rattle.std.proofs.Common.{arith, refl}
 use Rattle.acas_outside.proofs.Appended.{on_err_always}
 use Rattle.acas_report_lines.proofs.Whole.{whole, begun_before, begun_last}
 use Rattle.acas_report_cells.proofs.CellCounts.{room_whole}
@@ -28,7 +28,7 @@ returns-clause-ok g c =
     let is = of_cells c.args.audit.now.model.now c.args.audit.now.advices.now c.args.audit.now.which in
     whole _ _ _ _ _ _ is _ _ _ _ _ c.in_ok-write_cells.ensures.ok
     (record { waits = c.requires.empty; certified = c.requires.certified; reported = c.requires.reported; clear = c.requires.clear })
-    c.end.ensures.counts c.write_counts.ensures.value c.in_ok-end.ensures.ok
+    refl c.write_counts.ensures.value c.in_ok-end.ensures.ok
 
 pub write_cells-requires-clause-decisions : goal.write_cells-requires-clause-decisions
 write_cells-requires-clause-decisions g c = omega (arith, c.requires.decisions, decisions_fit c.args.audit.now.model.now c.grid.ensures.valid)

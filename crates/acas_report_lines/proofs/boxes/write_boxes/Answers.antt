@@ -13,7 +13,7 @@ loop-place-init g c = record { wrote = wrote_none _ _; frame = grind arith }
 
 pub loop-place-preserved : goal.loop-place-preserved
 loop-place-preserved g c = record {
-  wrote = wrote_more (box_plan (g.R.BoxSource.rules c.args.rulings.now c.args.model.now) g.R.Ruling.Said.certified g.R.Ruling.Said.text c.args.boxes.now) (λ place. place ∷ []) c.loop-place.place _ _ _ c.loop-place.invariant.wrote c.in_ok-write_box.ensures.ok;
+  wrote = wrote_more (box_plan (g.R.BoxSource.rules c.args.on.now.rulings.now c.args.on.now.model.now) g.R.Ruling.Said.certified g.R.Ruling.Said.text c.args.on.now.boxes.now) (λ place. place ∷ []) c.loop-place.place _ _ _ c.loop-place.invariant.wrote c.in_ok-write_box.ensures.ok;
   frame = grind arith;
 }
 
@@ -22,11 +22,11 @@ write_box-requires-clause-takes g c = c.requires.boxes c.loop-place.place (omega
 
 pub write_box-requires-clause-room : goal.write_box-requires-clause-room
 write_box-requires-clause-room g c =
-    let here : c.loop-place.place < length c.args.boxes.now = omega arith in
-    room_single (IsSaidAt (g.R.BoxSource.rules c.args.rulings.now c.args.model.now) c.args.boxes.now) g.R.Ruling.Said.certified (line_of_box g.R.Ruling.Said.text) which.All c.loop-place.place _
-    (room_left (box_plan (g.R.BoxSource.rules c.args.rulings.now c.args.model.now) g.R.Ruling.Said.certified g.R.Ruling.Said.text c.args.boxes.now) (λ place. place ∷ []) (length c.args.boxes.now) c.loop-place.place _ _ here c.requires.room c.loop-place.invariant.wrote)
+    let here : c.loop-place.place < length c.args.on.now.boxes.now = omega arith in
+    room_single (IsSaidAt (g.R.BoxSource.rules c.args.on.now.rulings.now c.args.on.now.model.now) c.args.on.now.boxes.now) g.R.Ruling.Said.certified (line_of_box g.R.Ruling.Said.text) which.All c.loop-place.place _
+    (room_left (box_plan (g.R.BoxSource.rules c.args.on.now.rulings.now c.args.on.now.model.now) g.R.Ruling.Said.certified g.R.Ruling.Said.text c.args.on.now.boxes.now) (λ place. place ∷ []) (length c.args.on.now.boxes.now) c.loop-place.place _ _ here c.requires.room c.loop-place.invariant.wrote)
 
 pub returns-in_err-write_box-clause-err : goal.returns-in_err-write_box-clause-err
 returns-in_err-write_box-clause-err g c =
-    let here : c.loop-place.place < length c.args.boxes.now = omega arith in
-    on_err_always _ (broke_more (box_plan (g.R.BoxSource.rules c.args.rulings.now c.args.model.now) g.R.Ruling.Said.certified g.R.Ruling.Said.text c.args.boxes.now) (λ place. place ∷ []) (length c.args.boxes.now) c.loop-place.place _ _ _ here c.loop-place.invariant.wrote c.in_err-write_box.ensures.err)
+    let here : c.loop-place.place < length c.args.on.now.boxes.now = omega arith in
+    on_err_always _ (broke_more (box_plan (g.R.BoxSource.rules c.args.on.now.rulings.now c.args.on.now.model.now) g.R.Ruling.Said.certified g.R.Ruling.Said.text c.args.on.now.boxes.now) (λ place. place ∷ []) (length c.args.on.now.boxes.now) c.loop-place.place _ _ _ here c.loop-place.invariant.wrote c.in_err-write_box.ensures.err)

@@ -1,39 +1,9 @@
-use Rattle.std.proofs.Common.{◌≡◌, ℕ, ◌<◌, length, set, ap, ◌∙◌, arith}
-use Rattle.acas_spec.specs.Model.{GridData, states}
-use Rattle.acas_grid.specs.Grid.{state_number}
-use Rattle.acas_plane.specs.Plane.{Plane}
-use Rattle.acas_sweep.specs.Filled.{pairs_in}
-use Rattle.acas_sweep.proofs.Filled.{filled_next, length-pairs_in, next_free, pairs_in-set}
-use Rattle.acas_sweep.proofs.Over.{elsewhere_next}
-use Rattle.acas_sweep.proofs.Placed.{endings_next}
+use Rattle.std.proofs.Common.{replicate, arith}
+use Rattle.std.proofs.lemmas.List.{get_or-replicate}
+use Rattle.acas_sweep.proofs.Placed.{endings_of}
 use Rattle.acas_sweep.proofs.plane.put_endings.Goals as goal
 
-pub put-requires-clause-in_range : goal.put-requires-clause-in_range
-put-requires-clause-in_range c = rw (c.loop-present.invariant.filled.state_count, ← c.grid-grid.ensures.value) c.state_among-state.ensures.below
-
-pub put-requires-clause-free : goal.put-requires-clause-free
-put-requires-clause-free c =
+pub returns-clause-endings : goal.returns-clause-endings
+returns-clause-endings c =
     let m = c.args.model.now in
-    let state : c.state_among-state.result ≡ state_number m.grid c.loop-present.present c.args.vertex = c.state_among-state.ensures.value ∙ ap (λ (g : GridData). state_number g c.loop-present.present c.args.vertex) c.grid-grid.ensures.value in
-    let end : c.grid.inside.advisories ≡ m.grid.advisories = ap (λ (g : GridData). g.advisories) (c.grid.view_is ∙ c.grid-grid.ensures.value) in
-    rw state (next_free m.grid c.args.vertex c.loop-present.present c.loop-present.block c.requires.vertex (omega (arith, end)) c.loop-present.invariant.filled)
-
-pub loop-present-preserved : goal.loop-present-preserved
-loop-present-preserved c =
-    let m = c.args.model.now in
-    let v = c.args.vertex in
-    let present = c.loop-present.present in
-    let so_far = c.loop-present.invariant in
-    let e = c.terminal_entry-entry.result in
-    let state : c.state_among-state.result ≡ state_number m.grid present v = c.state_among-state.ensures.value ∙ ap (λ (g : GridData). state_number g present v) c.grid-grid.ensures.value in
-    let below : state_number m.grid present v < states m.grid = rw (← state, ← c.grid-grid.ensures.value) c.state_among-state.ensures.below in
-    let end : c.grid.inside.advisories ≡ m.grid.advisories = ap (λ (g : GridData). g.advisories) (c.grid.view_is ∙ c.grid-grid.ensures.value) in
-    let pairs = pairs_in c.loop-present.block.work in
-    let shown : pairs_in c.put.new.self.work ≡ set pairs (state_number m.grid present v) e.pair =
-    ap (λ (b : Plane). pairs_in b.work) c.put.ensures ∙ pairs_in-set c.loop-present.block.work c.state_among-state.result e.pair ∙ ap (λ (i : ℕ). set pairs i e.pair) state in
-    let long : state_number m.grid present v < length pairs = omega (arith, below, length-pairs_in c.loop-present.block.work, so_far.filled.place_count) in
-    record {
-      endings = rw (shown, state) (endings_next m v present pairs c.loop-present.advice e c.requires.vertex long (omega arith) so_far.endings c.terminal_entry-entry.ensures);
-      others = rw (shown, state) (elsewhere_next m.grid v present (pairs_in c.args.block.now.work) c.args.advice.now pairs c.loop-present.advice e c.requires.vertex so_far.others);
-      filled = rw (c.put.ensures, state) (filled_next m.grid v present c.loop-present.block e.pair c.requires.vertex (omega (arith, end)) so_far.filled);
-    }
+    endings_of m c.args.vertex (replicate 16 c.terminal_entry-entries.result) _ _ c.terminal_entry-entries.result (λ p known. grind (arith, get_or-replicate)) c.terminal_entry-entries.ensures c.put_vertex.ensures.written

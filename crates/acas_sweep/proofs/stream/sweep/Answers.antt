@@ -16,14 +16,19 @@ use Rattle.acas_sweep.proofs.stream.sweep.Goals as goal
 pub put_first-requires-clause-filled : goal.put_first-requires-clause-filled
 put_first-requires-clause-filled g c = filled_none c.args.model.now.grid c.args.block.now (ap (λ (p : Plane). p.states) c.requires.block) (ap (λ (p : Plane). p.work) c.requires.block)
 
-pub returns-in-Err-clause-err : goal.returns-in-Err-clause-err
-returns-in-Err-clause-err g c =
+pub returns-in-Err-clause-hands : goal.returns-in-Err-clause-hands
+returns-in-Err-clause-hands g c =
     let m = c.args.model.now in
     let pairs = pairs_in c.put_first.new.block.work in
     let advice = c.put_first.new.advice in
     let layer : IsLayer m (compiled m) 0 pairs advice =
     layer_of_entries m 0 pairs advice (length-pairs_in c.put_first.new.block.work ∙ c.put_first.ensures.filled.place_count) (omega (arith, c.put_first.auto.advice, c.requires.advice)) c.put_first.ensures.entries in
-    (0, omega arith, c.args.rows.now, refl, subst (λ (l : LayerData). g.S.LayerSink.cuts c.args.rows.now l c.hand_on.new.rows) (compiled_layer-is m 0 pairs advice layer) c.in-Err.ensures.err)
+    record {
+      ok = tt;
+      err = (0, omega arith, c.args.rows.now, refl, subst (λ (l : LayerData). g.S.LayerSink.cuts c.args.rows.now l c.hand_on.new.rows) (compiled_layer-is m 0 pairs advice layer) c.in-Err.ensures.err);
+      failed = c.in-Err.ensures.failed;
+      faults = c.hand_on.ensures.faults;
+    }
 
 pub loop-n-init : goal.loop-n-init
 loop-n-init g c =
@@ -68,8 +73,8 @@ hand_on-requires-in-loop-n-clause-turned g c =
     let inside : c.loop-n.n + 1 + 1 ≤ m.grid.horizon + 1 = omega (arith, c.loop-n-test.true, ap (λ (h : GridData). h.horizon) c.behind-model.view_is, ap (λ (h : GridData). h.horizon) c.grid.ensures.value) in
     omega (arith, c.loop-n.invariant.turned, c.put_over.ensures.filled.state_count, c.requires.turns, mul-le-mul_right (states m.grid) inside)
 
-pub returns-in-Err-hand_on-clause-err : goal.returns-in-Err-hand_on-clause-err
-returns-in-Err-hand_on-clause-err g c =
+pub returns-in-Err-hand_on-clause-hands : goal.returns-in-Err-hand_on-clause-hands
+returns-in-Err-hand_on-clause-hands g c =
     let m = c.args.model.now in
     let n = c.loop-n.n in
     let pairs = pairs_in c.put_over.new.block.work in
@@ -78,7 +83,12 @@ returns-in-Err-hand_on-clause-err g c =
     let layer : IsLayer m (compiled m) (n + 1) pairs advice =
     layer_over m n c.loop-n.block.finished pairs advice c.grid.ensures.valid c.loop-n.invariant.below c.put_over.ensures.over
     (length-pairs_in c.put_over.new.block.work ∙ c.put_over.ensures.filled.place_count) (omega (arith, c.put_over.auto.advice, c.loop-n.invariant.advice_count)) in
-    (n + 1, inside, c.loop-n.rows, c.loop-n.invariant.added, subst (λ (l : LayerData). g.S.LayerSink.cuts c.loop-n.rows l c.hand_on-in-loop-n.new.rows) (compiled_layer-is m (n + 1) pairs advice layer) c.in-Err-hand_on.ensures.err)
+    record {
+      ok = tt;
+      err = (n + 1, inside, c.loop-n.rows, c.loop-n.invariant.added, subst (λ (l : LayerData). g.S.LayerSink.cuts c.loop-n.rows l c.hand_on-in-loop-n.new.rows) (compiled_layer-is m (n + 1) pairs advice layer) c.in-Err-hand_on.ensures.err);
+      failed = omega (arith, c.loop-n.invariant.later, c.in-Err-hand_on.ensures.failed);
+      faults = omega (arith, c.loop-n.invariant.later, c.hand_on-in-loop-n.ensures.faults);
+    }
 
 pub loop-n-preserved : goal.loop-n-preserved
 loop-n-preserved g c =

@@ -43,7 +43,7 @@ returns-in_err-layer-clause-err g c =
     on_err_always _
     (inr
     (part_of_next c.args.found.now.digest s layer _ _ _ c.args.name.now c.loop-n.n (writer_state c.loop-n.begun) _ within c.loop-n.invariant.writing.state same c.loop-n.invariant.stored
-    (c.in_err-layer.ensures.err _ c.loop-n.invariant.writing.written)))
+    (c.in_err-layer.ensures.appends.err _ c.loop-n.invariant.writing.written)))
 
 pub loop-n-preserved : goal.loop-n-preserved
 loop-n-preserved g c =
@@ -54,10 +54,10 @@ loop-n-preserved g c =
     record {
       stored =
           stored_next c.args.found.now.digest s layer _ _ _ c.args.name.now c.loop-n.n (writer_state c.loop-n.begun) _ c.loop-n.invariant.writing.state same c.loop-n.invariant.stored
-          (c.in_ok-layer.ensures.ok _ c.loop-n.invariant.writing.written);
+          (c.in_ok-layer.ensures.appends.ok _ c.loop-n.invariant.writing.written);
       writing =
           writing_next c.args.found.now.digest s layer done c.loop-n.n c.loop-n.begun c.layer.new.self _ c.loop-n.invariant.writing.state same c.in_ok-layer.ensures.state
-          (c.in_ok-layer.ensures.written _ c.loop-n.invariant.writing.written);
+          (c.in_ok-layer.ensures.appends.written _ c.loop-n.invariant.writing.written);
       frame = grind arith;
     }
 

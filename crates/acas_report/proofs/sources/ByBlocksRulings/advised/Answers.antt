@@ -22,5 +22,5 @@ pub returns : goal.returns
 returns c = λ a.
     c.union.ensures.more a
     ∙ ap (λ (s : AdviceSet). holds s a || holds c.reported.result a) c.certified.ensures
-    ∙ ap (λ (s : AdviceSet). holds (certified_at c.args.self.now.0 c.args.i c.args.j c.args.k) a || holds s a) c.reported.ensures
-    ∙ c.requires.ready.tabled c.args.i c.args.j c.args.k a c.requires.cell
+    ∙ ap (λ (s : AdviceSet). holds (certified_at c.args.self.now.0 c.args.at.i c.args.at.j c.args.at.k) a || holds s a) c.reported.ensures
+    ∙ c.requires.ready.tabled c.args.at.i c.args.at.j c.args.at.k a c.requires.cell

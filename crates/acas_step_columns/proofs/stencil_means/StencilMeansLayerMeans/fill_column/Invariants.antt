@@ -4,7 +4,7 @@ use Rattle.acas_means.specs.Columns.{AreAllWithin, pairs_at, vertex_in}
 use Rattle.acas_means.specs.Layer.{AreWithin, pair_at}
 use Rattle.acas_means.specs.Means.{AreMeansAt}
 use Rattle.acas_means.specs.declared.layer.Side.{Side}
-use Rattle.acas_step_columns.proofs.columns.fill_column.Given as goal
+use Rattle.acas_step_columns.proofs.stencil_means.StencilMeansLayerMeans.fill_column.Given as goal
 
 abbrev pub invariant-loop-advisory : goal.invariant-loop-advisory
 invariant-loop-advisory l = record {

@@ -1,6 +1,6 @@
 use Rattle.std.proofs.Common.{◌<◌, length, arith}
 use Rattle.acas_means.proofs.ColumnLaws.{vertex_in-below}
-use Rattle.acas_step_columns.proofs.columns.fill_column.Goals as goal
+use Rattle.acas_step_columns.proofs.stencil_means.StencilMeansLayerMeans.fill_column.Goals as goal
 
 pub own_rate_at-requires : goal.own_rate_at-requires
 own_rate_at-requires c =
