@@ -1,109 +1,22 @@
-//! Cases: whole runs of the top call over files and outputs in memory, as data.
-//!
-//! A text of cases is TOML, a list `[[cases]]`. Each item stands for one case, or for several that differ in a few values:
-//!
-//! - `name`: what is shown where a case fails.
-//! - `rows`: lists of values, a case for each list. In every text below, `$1` stands for the first value, and so on.
-//! - `numbers`: a case for each number from 0 up to but not this one, and each row. The number is `$1`, the row's values follow.
-//! - `forms`: a case for each form of words, or for each of its files, whose values follow then: `all`, `file`, `text` or `table`, as
-//!   `forms` says. Its files stand there at the start too, but for those that the item makes anew.
-//!
-//! What there is at the start:
-//!
-//! - `files`: lists, each the name of a file and the steps that make its bytes. `without`: the name of a file that is not there.
-//! - `most`: the most bytes that a call takes or gives, 65536 where it is left out.
-//! - `failing`: the calls that fail, each a kind and a number counted from 0, as `read 0`. The kinds are `read`, `create`,
-//!   `append`, `write` (of the output) and `error` (a write of the error output).
-//! - `endless`: the name of a file that never ends: behind its bytes there is a `#` for ever. `stuck`: the kind, `write` or `error`,
-//!   of the output that takes nothing.
-//! - `runs`: the commands, one after the other over the same folder and outputs, as in a shell: `acas values 'a b'`.
-//!
-//! What is to be there at the end. What is left out is to be empty, or as before:
-//!
-//! - `ends`: the exit code and the cause of each run, as `5 table`. Or `codes`: the code of the last run of each case, a digit
-//!   for each.
-//! - `output`: all that is printed. Or some of `output_has`: texts that stand in it; `output_length`: its length in bytes;
-//!   `output_sha256`: its digest.
-//! - `error`: all of the error output. Or `error_begins`: what its one line begins with.
-//! - `lines_sha256`: in the place of both, the digest of the outputs of all cases of the item, one after the other.
-//! - `after`: the files that are not as before, made as at the start. `after_sha256`: files with the digests of their bytes.
-//!   `absent`: the names of no file.
-//! - `taken`: how many bytes the reads gave in all.
-//! - `backups`, `turned`, `decisions`: how many backups, turned pairs and decisions of blocks the runs count together. These and
-//!   `taken` are not looked at where they are left out, and no number is where its text is empty.
-//! - `each_call`: the numbers of calls of each kind, in the order above, as `4 0 0 1 0`. Each of these calls is made to fail in turn:
-//!   the code is to say whose call it was, what is printed is to be a part of what is printed else, and a file that the run changes
-//!   is to be as before where a read or the create fails, and a part of what it becomes else where an append fails. Where a
-//!   write fails, all that the writes before it can take is printed, as of an output of one block.
-//!
-//! The steps, each on the bytes that the earlier ones made:
-//!
-//! - `model NAME`, `text TEXT`, `hex DIGITS`, `held FILE`, `compiled FILE`: puts behind them the text of a model of `acas_tests_data`, a
-//!   text, bytes, the bytes of a file that stands before this one, or the table that is compiled of it. `pad BYTE LENGTH`: the byte until
-//!   they are so long.
-//! - `replace OLD => NEW`: the first such text, which has to stand there; a bar stands for the end of a line. `cut LENGTH`: the first bytes alone.
-//! - `put PLACE DIGITS`: bytes in the place of others. `flip PLACE NUMBER`: the bits of a byte that the number has.
-//! - Of a table, of either version: `upper LAYER STATE VALUE`, `lower LAYER STATE VALUE`, `advice LAYER STATE BYTE`: a part of an
-//!   entry. `advices LAYER STATE DIGITS`: the advices of a layer from a state on. `values UPPER LOWER`: the values of each entry.
-//!   `seal COUNT`: its digests, made anew: one behind so many entries, those of a layer or, in version 1, all. `whole`: of one
-//!   of version 2, as `compile` stores it, the same entries in version 1.
-//!
-//! The values that cases compare with are from an implementation of the definitions apart from the program, `bench/reference`,
-//! `bench/audits` and `bench/rows`, or worked out by hand. None is from the program.
+//! Runs the cases of `acas_rows`, which says how a case is written.
 #![tactic(auto)]
 
 #[cfg(test)]
-mod advisories;
-#[cfg(test)]
-mod audits;
-#[cfg(test)]
-mod bounds;
-#[cfg(test)]
-mod boxes;
-#[cfg(test)]
 mod cases;
 #[cfg(test)]
-mod changed_bits;
-#[cfg(test)]
-mod clear_cells;
-#[cfg(test)]
-mod counts;
-#[cfg(test)]
-mod documents;
-#[cfg(test)]
-mod drills;
-#[cfg(test)]
 mod each_call;
-#[cfg(test)]
-mod entries;
-#[cfg(test)]
-mod every_form;
-#[cfg(test)]
-mod failing;
 #[cfg(test)]
 mod fault;
 #[cfg(test)]
 mod forms;
 #[cfg(test)]
-mod headers;
-#[cfg(test)]
 mod hostile;
 #[cfg(test)]
 mod judge;
 #[cfg(test)]
-mod manoeuvres;
-#[cfg(test)]
-mod migrations;
-#[cfg(test)]
-mod numbers;
-#[cfg(test)]
 mod outside;
 #[cfg(test)]
-mod replays;
-#[cfg(test)]
 mod report;
-#[cfg(test)]
-mod risks;
 #[cfg(test)]
 mod runner;
 #[cfg(test)]
@@ -111,10 +24,6 @@ mod sees;
 #[cfg(test)]
 mod steps;
 #[cfg(test)]
-mod stored;
+mod tests;
 #[cfg(test)]
 mod texts;
-#[cfg(test)]
-mod values;
-#[cfg(test)]
-mod words;

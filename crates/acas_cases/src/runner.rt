@@ -12,9 +12,12 @@ use std::alloc::{AllocError, Global};
 use std::test::Fail;
 use toml::Table;
 
-/// Tries the cases of a text, and fails where one of them does not end as it is to end.
-pub fn pass(alloc: Global, text: &str) -> Result<(), Fail> {
-    let found = differences(alloc, text)?;
+/// Tries the cases of these texts, and fails where one of them does not end as it is to end.
+pub fn pass(alloc: Global, texts: &[&str]) -> Result<(), Fail> {
+    let mut found = String::new(alloc);
+    for text in texts {
+        found.push_str(&differences(alloc, text)?)?;
+    }
     if found.is_empty() {
         Ok(())
     } else {

@@ -14,9 +14,10 @@ const FIRST: &str =
     "drill 0 states 2275 entries 25025 bytes 425837\naccepted\ncertified 6342 reported 5978 clear 5012\n";
 
 // Whether the drill of a number prints these lines, and answers so many reported.
-fn prints(alloc: Global, number: u32, lines: &str, reported: u64) -> Option<bool>
-    requires { number ≤ GREATEST_DRILL_NUMBER }
-{
+fn prints(alloc: Global, number: u32, lines: &str, reported: u64) -> Option<bool> {
+    if number > GREATEST_DRILL_NUMBER {
+        return None;
+    }
     let mut out = MemorySink::new(alloc, Vec::new(alloc), 65_536).ok()?;
     let answer = drill::<StencilMeans, MemorySink>(alloc, number, &mut out).ok()?;
     Some(answer == reported && out.written() == lines.as_bytes())
@@ -32,48 +33,46 @@ fn fails(alloc: Global, write: u64, most: u32, count: usize) -> Option<bool>
     Some(matches!(answer, Err(Cause::Output)) && out.written() == begun)
 }
 
+// The first twice. Then one with the most altitudes, with the most own rates, with the most of the intruder's; and with the grid of the
+// first one that goes back a second more, and one in which contact costs more.
 #[test]
-fn the_first_drill_prints_the_same_twice(rt: HostRuntime) -> Result<(), Fail> {
-    let alloc = rt.alloc();
-    assert_eq!(rt; prints(alloc, 0, FIRST, 5_978), Some(true));
-    assert_eq!(rt; prints(alloc, 0, FIRST, 5_978), Some(true));
-    Ok(())
-}
-
-#[test]
-fn a_drill_with_the_most_altitudes(rt: HostRuntime) -> Result<(), Fail> {
-    let lines =
-        "drill 6 states 4375 entries 48125 bytes 818537\naccepted\ncertified 6454 reported 5978 clear 18340\n";
-    assert_eq!(rt; prints(rt.alloc(), 6, lines, 5_978), Some(true));
-    Ok(())
-}
-
-#[test]
-fn a_drill_with_the_most_own_rates(rt: HostRuntime) -> Result<(), Fail> {
-    let lines =
-        "drill 21 states 5005 entries 55055 bytes 936347\naccepted\ncertified 13314 reported 12299 clear 14217\n";
-    assert_eq!(rt; prints(rt.alloc(), 21, lines, 12_299), Some(true));
-    Ok(())
-}
-
-#[test]
-fn a_drill_with_the_most_intruder_rates(rt: HostRuntime) -> Result<(), Fail> {
-    let lines =
-        "drill 84 states 5005 entries 55055 bytes 936347\naccepted\ncertified 14924 reported 14938 clear 13048\n";
-    assert_eq!(rt; prints(rt.alloc(), 84, lines, 14_938), Some(true));
-    Ok(())
-}
-
-// One goes back a second more than the first drill, in the other contact costs more. Both have its grid.
-#[test]
-fn a_longer_and_a_dearer_drill(rt: HostRuntime) -> Result<(), Fail> {
-    let alloc = rt.alloc();
-    let longer =
-        "drill 112 states 2275 entries 27300 bytes 464544\naccepted\ncertified 7252 reported 6503 clear 5404\n";
-    let dearer =
-        "drill 3472 states 2275 entries 25025 bytes 425837\naccepted\ncertified 6790 reported 6013 clear 4620\n";
-    assert_eq!(rt; prints(alloc, 112, longer, 6_503), Some(true));
-    assert_eq!(rt; prints(alloc, 3_472, dearer, 6_013), Some(true));
+fn drills_print_their_lines(rt: HostRuntime) -> Result<(), Fail> {
+    let rows = [
+        (0, FIRST, 5_978),
+        (0, FIRST, 5_978),
+        (
+            6,
+            "drill 6 states 4375 entries 48125 bytes 818537\naccepted\ncertified 6454 reported 5978 clear 18340\n",
+            5_978,
+        ),
+        (
+            21,
+            "drill 21 states 5005 entries 55055 bytes 936347\naccepted\ncertified 13314 reported 12299 clear 14217\n",
+            12_299,
+        ),
+        (
+            84,
+            "drill 84 states 5005 entries 55055 bytes 936347\naccepted\ncertified 14924 reported 14938 clear 13048\n",
+            14_938,
+        ),
+        (
+            112,
+            "drill 112 states 2275 entries 27300 bytes 464544\naccepted\ncertified 7252 reported 6503 clear 5404\n",
+            6_503,
+        ),
+        (
+            3_472,
+            "drill 3472 states 2275 entries 25025 bytes 425837\naccepted\ncertified 6790 reported 6013 clear 4620\n",
+            6_013,
+        ),
+    ];
+    for (number, lines, reported) in rows {
+        assert_eq!(rt;
+            prints(rt.alloc(), number, lines, reported),
+            Some(true),
+            "drill {number}"
+        );
+    }
     Ok(())
 }
 

@@ -2,6 +2,7 @@
 use acas_base::{Choice, Model, SigmaPoint};
 use acas_drill_model::drill_model;
 use acas_grid::Axis;
+use acas_units::GREATEST_DRILL_NUMBER;
 use std::test::Fail;
 
 // How many numbers an axis has, and the first, the second and the last of them.
@@ -33,30 +34,39 @@ fn asks(model: &Model, a: u8, name: &str, lo: i64, hi: i64) -> Option<bool> {
     Some(named && found.lo == lo && found.hi == hi && model.choices(a) == each.as_slice())
 }
 
-// 12345 is 7 * 1763 + 4, 1763 is 4 * 440 + 3, 440 is 4 * 110, and 110 is 31 * 3 + 17.
+// 12345 is 7 * 1763 + 4, 1763 is 4 * 440 + 3, 440 is 4 * 110, and 110 is 31 * 3 + 17. 999999999 is 7 * 142857142 + 5, 142857142 is
+// 4 * 35714285 + 2, 35714285 is 4 * 8928571 + 1, 8928571 is 31 * 288018 + 13, and 999999999 is 9000 * 111111 + 999.
 #[test]
-fn the_grid_of_a_drill(rt: HostRuntime) -> Result<(), Fail> {
-    let model = drill_model(rt.alloc(), 12_345)?;
-    let grid = model.grid();
-    assert_eq!(rt; ends(&grid.h), (21, -120_000, -108_000, 120_000));
-    assert_eq!(rt; ends(&grid.v0), (11, -2_500, -2_000, 2_500));
-    assert_eq!(rt; ends(&grid.v1), (5, -1_000, -500, 1_000));
-    assert_eq!(rt; grid.horizon, 27);
-    assert_eq!(rt; model.contact(), 4_345);
-    Ok(())
-}
-
-// 999999999 is 7 * 142857142 + 5, 142857142 is 4 * 35714285 + 2, 35714285 is 4 * 8928571 + 1, 8928571 is 31 * 288018 + 13, and
-// 999999999 is 9000 * 111111 + 999.
-#[test]
-fn the_grid_of_the_last_drill(rt: HostRuntime) -> Result<(), Fail> {
-    let model = drill_model(rt.alloc(), 999_999_999)?;
-    let grid = model.grid();
-    assert_eq!(rt; ends(&grid.h), (23, -132_000, -120_000, 132_000));
-    assert_eq!(rt; ends(&grid.v0), (9, -2_000, -1_500, 2_000));
-    assert_eq!(rt; ends(&grid.v1), (7, -1_500, -1_000, 1_500));
-    assert_eq!(rt; grid.horizon, 23);
-    assert_eq!(rt; model.contact(), 1_999);
+fn the_grids_of_drills(rt: HostRuntime) -> Result<(), Fail> {
+    // a number; the ends of the altitudes, the own rates and the intruder's; the horizon, and the cost of contact
+    let rows = [
+        (
+            12_345,
+            (21, -120_000, -108_000, 120_000),
+            (11, -2_500, -2_000, 2_500),
+            (5, -1_000, -500, 1_000),
+            27,
+            4_345,
+        ),
+        (
+            999_999_999,
+            (23, -132_000, -120_000, 132_000),
+            (9, -2_000, -1_500, 2_000),
+            (7, -1_500, -1_000, 1_500),
+            23,
+            1_999,
+        ),
+    ];
+    for (number, h, v0, v1, horizon, contact) in rows {
+        assert!(rt; number <= GREATEST_DRILL_NUMBER);
+        let model = drill_model(rt.alloc(), number)?;
+        let grid = model.grid();
+        assert_eq!(rt; ends(&grid.h), h);
+        assert_eq!(rt; ends(&grid.v0), v0);
+        assert_eq!(rt; ends(&grid.v1), v1);
+        assert_eq!(rt; grid.horizon, horizon);
+        assert_eq!(rt; model.contact(), contact);
+    }
     Ok(())
 }
 

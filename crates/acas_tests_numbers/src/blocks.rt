@@ -76,9 +76,10 @@ fn sum_of(block: &PlaneBlock) -> (i64, i64) {
 }
 
 // Takes a block to a stage, looks at it, and lets it go.
-fn seen_at(alloc: Global, states: u32, stage: Stage) -> Option<Seen>
-    requires { states ≤ 4_000_000 }
-{
+fn seen_at(alloc: Global, states: u32, stage: Stage) -> Option<Seen> {
+    if states > 4_000_000 {
+        return None;
+    }
     let mut block = PlaneBlock::make(alloc, states).ok()?;
     let mut turned = Turned::new();
     write_places(&mut block, states, stage.step);
@@ -95,85 +96,73 @@ fn seen_at(alloc: Global, states: u32, stage: Stage) -> Option<Seen>
     })
 }
 
-// The five stages: nothing is written; every second place; all; all, and turned; that, and every second place of the next plane.
-const NOTHING: Stage = Stage {
-    step: 0,
-    turns: false,
-    next_step: 0,
-};
+fn at_stage(step: u32, turns: bool, next_step: u32) -> Stage {
+    Stage {
+        step,
+        turns,
+        next_step,
+    }
+}
 
-const HALF: Stage = Stage {
-    step: 2,
-    turns: false,
-    next_step: 0,
-};
-
-const ALL: Stage = Stage {
-    step: 1,
-    turns: false,
-    next_step: 0,
-};
-
-const TURNED: Stage = Stage {
-    step: 1,
-    turns: true,
-    next_step: 0,
-};
-
-const BEGUN: Stage = Stage {
-    step: 1,
-    turns: true,
-    next_step: 2,
-};
+fn found(missing: u32, sum: i64, last: i64, turned: u64) -> Seen {
+    Seen {
+        missing,
+        sum,
+        last,
+        turned,
+    }
+}
 
 #[test]
 fn blocks_are_let_go_in_each_state(rt: HostRuntime) -> Result<(), Fail> {
-    // states, stage; places that are missing, sum and last of the finished plane, pairs turned
+    // Nothing is written; every second place; all; all, and turned; that, and every second place of the next plane.
+    let stages = [
+        at_stage(0, false, 0),
+        at_stage(2, false, 0),
+        at_stage(1, false, 0),
+        at_stage(1, true, 0),
+        at_stage(1, true, 2),
+    ];
+    // The states of a block, and what is seen of it at each stage.
     let rows = [
-        (1, NOTHING, 1, 0, 0, 0),
-        (1, HALF, 0, 0, 0, 0),
-        (1, ALL, 0, 0, 0, 0),
-        (1, TURNED, 1, 1, 1, 1),
-        (1, BEGUN, 0, 1, 1, 1),
-        (2, NOTHING, 2, 0, 0, 0),
-        (2, HALF, 1, 0, 0, 0),
-        (2, ALL, 0, 0, 0, 0),
-        (2, TURNED, 2, 3, 2, 2),
-        (2, BEGUN, 1, 3, 2, 2),
-        (4_000_000, NOTHING, 4_000_000, 0, 0, 0),
-        (4_000_000, HALF, 2_000_000, 0, 0, 0),
-        (4_000_000, ALL, 0, 0, 0, 0),
         (
-            4_000_000,
-            TURNED,
-            4_000_000,
-            8_000_002_000_000,
-            4_000_000,
-            4_000_000,
+            1,
+            [
+                found(1, 0, 0, 0),
+                found(0, 0, 0, 0),
+                found(0, 0, 0, 0),
+                found(1, 1, 1, 1),
+                found(0, 1, 1, 1),
+            ],
+        ),
+        (
+            2,
+            [
+                found(2, 0, 0, 0),
+                found(1, 0, 0, 0),
+                found(0, 0, 0, 0),
+                found(2, 3, 2, 2),
+                found(1, 3, 2, 2),
+            ],
         ),
         (
             4_000_000,
-            BEGUN,
-            2_000_000,
-            8_000_002_000_000,
-            4_000_000,
-            4_000_000,
+            [
+                found(4_000_000, 0, 0, 0),
+                found(2_000_000, 0, 0, 0),
+                found(0, 0, 0, 0),
+                found(4_000_000, 8_000_002_000_000, 4_000_000, 4_000_000),
+                found(2_000_000, 8_000_002_000_000, 4_000_000, 4_000_000),
+            ],
         ),
     ];
-    for (states, stage, missing, sum, last, turned) in rows {
-        if states > 4_000_000 {
-            continue;
+    for (states, wanted) in rows {
+        for (stage, want) in stages.into_iter().zip(wanted) {
+            assert!(rt;
+                seen_at(rt.alloc(), states, stage) == Some(want),
+                "{states} {stage:?}"
+            );
         }
-        let seen = seen_at(rt.alloc(), states, stage).ok_or("a block")?;
-        assert!(rt;
-            seen == Seen {
-                missing,
-                sum,
-                last,
-                turned
-            },
-            "{states} {stage:?}"
-        );
     }
     Ok(())
 }

@@ -1,8 +1,7 @@
 //! Tables that differ in the header or in the digest, and tables of another length.
-use crate::runner::pass;
-use std::test::Fail;
 
-const CASES: &str = r##"
+/// Its cases.
+pub const HEADERS: &str = r##"
 # Where a number of the header begins, its bytes, and the fault: of a table with its old digests, and with digests made
 # anew, in version 2 and in version 1.
 [[cases]]
@@ -188,8 +187,3 @@ runs = ["acas check b t"]
 ends = ["5 table"]
 error = "acas: table refused: $2\n"
 "##;
-
-#[test]
-fn refused_headers(rt: HostRuntime) -> Result<(), Fail> {
-    pass(rt.alloc(), CASES)
-}

@@ -1,8 +1,7 @@
 //! What runs count.
-use crate::runner::pass;
-use std::test::Fail;
 
-const CASES: &str = r##"
+/// Its cases.
+pub const COUNTS: &str = r##"
 # The backups of a model: the horizon times the vertices times the sum of the lengths of the choice lists. With two altitudes, two own
 # rates and two intruder rates there are 8 vertices: 0 * 8 * (1 + 1), 2 * 8 * (1 + 1), 1 * 8 * (3 + 3 + 3). The last model has
 # 4 * 3 * 2 vertices: 30 * 24 * (4 + 4 + 4 + 4). The turned pairs: one more layer than the horizon, times the advisories, times
@@ -108,8 +107,3 @@ backups = "0"
 turned = "0"
 decisions = "0"
 "##;
-
-#[test]
-fn counts(rt: HostRuntime) -> Result<(), Fail> {
-    pass(rt.alloc(), CASES)
-}

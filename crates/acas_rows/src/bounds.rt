@@ -1,8 +1,7 @@
 //! Tables that no compiler made: with loose bounds, and with advices that are another choice.
-use crate::runner::pass;
-use std::test::Fail;
 
-const CASES: &str = r##"
+/// Its cases.
+pub const BOUNDS: &str = r##"
 # Every upper value is 1 and every lower value 0.
 [[cases]]
 name = "loose bounds"
@@ -128,8 +127,3 @@ ends = ["$4"]
 output = "$5"
 error = "$6"
 "##;
-
-#[test]
-fn loose_bounds(rt: HostRuntime) -> Result<(), Fail> {
-    pass(rt.alloc(), CASES)
-}

@@ -1,8 +1,7 @@
 //! What `migrate` stores, and what it refuses.
-use crate::runner::pass;
-use std::test::Fail;
 
-const CASES: &str = r##"
+/// Its cases.
+pub const MIGRATIONS: &str = r##"
 # The model, the numbers of layers, states and bytes, and the digests of its compiled table in version 1 and in version
 # 2. The second run migrates what the first has stored.
 [[cases]]
@@ -148,8 +147,3 @@ ends = ["7 folder"]
 error = "acas: folder failed\n"
 absent = ["u"]
 "##;
-
-#[test]
-fn migrations(rt: HostRuntime) -> Result<(), Fail> {
-    pass(rt.alloc(), CASES)
-}

@@ -1,8 +1,7 @@
 //! Words, and files that are absent, too long or of another kind.
-use crate::runner::pass;
-use std::test::Fail;
 
-const CASES: &str = r##"
+/// Its cases.
+pub const WORDS: &str = r##"
 # The words after the program's name.
 [[cases]]
 name = "words of no form"
@@ -79,8 +78,3 @@ ends = ["$2"]
 error = "$3"
 absent = ["none"]
 "##;
-
-#[test]
-fn words_and_files(rt: HostRuntime) -> Result<(), Fail> {
-    pass(rt.alloc(), CASES)
-}

@@ -1,8 +1,7 @@
 //! What `replay` prints of encounters.
-use crate::runner::pass;
-use std::test::Fail;
 
-const CASES: &str = r##"
+/// Its cases.
+pub const REPLAYS: &str = r##"
 # Under clear the table advises climb at the lower altitude and descend at the upper one. In the first second the two are within half the
 # height of the puck after half a second alone.
 [[cases]]
@@ -84,8 +83,3 @@ runs = ["$1"]
 ends = ["2 words"]
 error = "acas: words refused\n"
 "##;
-
-#[test]
-fn replays(rt: HostRuntime) -> Result<(), Fail> {
-    pass(rt.alloc(), CASES)
-}

@@ -1,8 +1,7 @@
 //! What `drill` prints of numbers.
-use crate::runner::pass;
-use std::test::Fail;
 
-const CASES: &str = r##"
+/// Its cases.
+pub const DRILLS: &str = r##"
 # The table has 7 * 13 * 5 * 5 states and 11 layers. No call is made on the folder: a read that is to fail is none of the drill's.
 [[cases]]
 name = "the drill of 0"
@@ -34,8 +33,3 @@ runs = ["$1"]
 ends = ["2 words"]
 error = "acas: words refused\n"
 "##;
-
-#[test]
-fn drills(rt: HostRuntime) -> Result<(), Fail> {
-    pass(rt.alloc(), CASES)
-}

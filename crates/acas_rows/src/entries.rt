@@ -1,8 +1,7 @@
 //! Tables that differ in their entries.
-use crate::runner::pass;
-use std::test::Fail;
 
-const CASES: &str = r##"
+/// Its cases.
+pub const ENTRIES: &str = r##"
 # A part of an entry that is changed, and the fault: of a table with its old digests, and with digests made anew, in
 # version 2 and in version 1. The entries of a layer stand before its digest.
 [[cases]]
@@ -127,8 +126,3 @@ runs = ["acas check b t"]
 ends = ["5 table"]
 error = "acas: table refused: $3 0000000000000000000000000000000000000000000000000000000000000000 computed $4\n"
 "##;
-
-#[test]
-fn refused_entries(rt: HostRuntime) -> Result<(), Fail> {
-    pass(rt.alloc(), CASES)
-}

@@ -1,8 +1,7 @@
 //! What `risk` prints, and what it refuses.
-use crate::runner::pass;
-use std::test::Fail;
 
-const CASES: &str = r##"
+/// Its cases.
+pub const RISKS: &str = r##"
 # The version of the table. Only clear may be chosen, a contact costs 1 and a second nothing, so the two chances and the cost are one, as
 # `values` has it.
 [[cases]]
@@ -202,8 +201,3 @@ runs = ["acas risk b t"]
 ends = ["5 table"]
 error = "acas: table refused: $3\n"
 "##;
-
-#[test]
-fn risks(rt: HostRuntime) -> Result<(), Fail> {
-    pass(rt.alloc(), CASES)
-}

@@ -1,8 +1,7 @@
 //! What `values` prints.
-use crate::runner::pass;
-use std::test::Fail;
 
-const CASES: &str = r##"
+/// Its cases.
+pub const VALUES: &str = r##"
 # Changes of the first model's text: none, that model in version 2, and the same model in other words.
 [[cases]]
 name = "the lines of a model"
@@ -189,8 +188,3 @@ output_has = [
   "\n30 descend 0 0 0 4.825895 4.825910 climb\n",
 ]
 "##;
-
-#[test]
-fn printed_values(rt: HostRuntime) -> Result<(), Fail> {
-    pass(rt.alloc(), CASES)
-}

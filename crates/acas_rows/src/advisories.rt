@@ -1,8 +1,7 @@
 //! Texts that are no model: advisories, their names, intervals and choices.
-use crate::runner::pass;
-use std::test::Fail;
 
-const CASES: &str = r##"
+/// Its cases.
+pub const ADVISORIES: &str = r##"
 # In the text of the first model: what stands there, what stands in its place, and the fault.
 [[cases]]
 name = "advisories and choices"
@@ -65,8 +64,3 @@ runs = ["acas values a"]
 ends = ["4 model"]
 error = "acas: model refused: $2\n"
 "##;
-
-#[test]
-fn refused_advisories(rt: HostRuntime) -> Result<(), Fail> {
-    pass(rt.alloc(), CASES)
-}

@@ -1,8 +1,7 @@
 //! What `safeable` prints, and what it refuses.
-use crate::runner::pass;
-use std::test::Fail;
 
-const CASES: &str = r##"
+/// Its cases.
+pub const CLEAR_CELLS: &str = r##"
 # The version of the table. The intruder is 2000 to 3000 ft below, and nothing is advised. From the cell a second leads to 361200 to 239040
 # ticks below, and to own rates from -960 to 1020; from there a climb is clear.
 [[cases]]
@@ -381,8 +380,3 @@ runs = ["acas safeable g t"]
 ends = ["5 table"]
 error = "acas: table refused: other model 79a5af123b51b6f47b16dc4e952cb7c8cb48bf7a8bd7a7ad2d7a327398da0b0d found 920af935e2a9dcaf48f71c0cf7ca5a85ff887b3d251ba0af125c1b90ef03213a\n"
 "##;
-
-#[test]
-fn clear_cells(rt: HostRuntime) -> Result<(), Fail> {
-    pass(rt.alloc(), CASES)
-}

@@ -1,8 +1,7 @@
 //! What `regions` prints of boxes.
-use crate::runner::pass;
-use std::test::Fail;
 
-const CASES: &str = r##"
+/// Its cases.
+pub const BOXES: &str = r##"
 # An advisory and the five intervals of a box.
 [[cases]]
 name = "certified boxes"
@@ -156,8 +155,3 @@ runs = ["acas regions d d"]
 ends = ["6 input"]
 error = "acas: input refused: key advisory unknown\n"
 "##;
-
-#[test]
-fn boxes(rt: HostRuntime) -> Result<(), Fail> {
-    pass(rt.alloc(), CASES)
-}

@@ -1,8 +1,7 @@
 //! What `compile` stores, and that `check` accepts it.
-use crate::runner::pass;
-use std::test::Fail;
 
-const CASES: &str = r##"
+/// Its cases.
+pub const STORED: &str = r##"
 # The model, the numbers of layers, states and bytes, and the digest of the table.
 [[cases]]
 name = "compiled tables are accepted"
@@ -115,8 +114,3 @@ runs = ["acas check m t"]
 ends = ["0 done"]
 output = "accepted layers 3 states 16\n"
 "##;
-
-#[test]
-fn stored_tables(rt: HostRuntime) -> Result<(), Fail> {
-    pass(rt.alloc(), CASES)
-}

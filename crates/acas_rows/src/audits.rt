@@ -1,8 +1,7 @@
 //! What `audit` prints of tables.
-use crate::runner::pass;
-use std::test::Fail;
 
-const CASES: &str = r##"
+/// Its cases.
+pub const AUDITS: &str = r##"
 # Under clear climb at the lower altitude and descend at the upper one; clear under the others.
 [[cases]]
 name = "a certified and a reported cell"
@@ -164,8 +163,3 @@ runs = ["$1"]
 ends = ["2 words"]
 error = "acas: words refused\n"
 "##;
-
-#[test]
-fn audits(rt: HostRuntime) -> Result<(), Fail> {
-    pass(rt.alloc(), CASES)
-}

@@ -1,8 +1,7 @@
 //! Tables of which one bit is changed.
-use crate::runner::pass;
-use std::test::Fail;
 
-const CASES: &str = r##"
+/// Its cases.
+pub const CHANGED_BITS: &str = r##"
 # Of each byte the lowest and the highest bit in turn. The digest of all lines that are printed.
 [[cases]]
 name = "no bit changes unseen"
@@ -155,8 +154,3 @@ codes = """
 """
 lines_sha256 = "a0c393244b425e4f336bd90859afc901602c084e528291b87335be8bcd3ac14b"
 "##;
-
-#[test]
-fn changed_bits(rt: HostRuntime) -> Result<(), Fail> {
-    pass(rt.alloc(), CASES)
-}

@@ -1,8 +1,7 @@
 //! What `manoeuvre` prints of boxes whose intruder may change its rate, and what it refuses.
-use crate::runner::pass;
-use std::test::Fail;
 
-const CASES: &str = r##"
+/// Its cases.
+pub const MANOEUVRES: &str = r##"
 # An advisory, the five intervals of a box, and the intruder's greatest acceleration and rate.
 [[cases]]
 name = "boxes that are certified whatever the intruder may do"
@@ -246,8 +245,3 @@ ends = ["6 input"]
 error = "acas: input refused: rate at 0\n"
 each_call = "903 0 0 0 31"
 "##;
-
-#[test]
-fn manoeuvres(rt: HostRuntime) -> Result<(), Fail> {
-    pass(rt.alloc(), CASES)
-}

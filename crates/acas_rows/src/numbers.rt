@@ -1,8 +1,7 @@
 //! Texts that are no model: numbers of tables, sigma points, and what they sum to.
-use crate::runner::pass;
-use std::test::Fail;
 
-const CASES: &str = r##"
+/// Its cases.
+pub const NUMBERS: &str = r##"
 # In the text of the first model: what stands there, what stands in its place, and the fault.
 [[cases]]
 name = "numbers of tables, sigma points and sums"
@@ -100,8 +99,3 @@ runs = ["acas check a none"]
 ends = ["$2"]
 error = "$3"
 "##;
-
-#[test]
-fn refused_numbers(rt: HostRuntime) -> Result<(), Fail> {
-    pass(rt.alloc(), CASES)
-}

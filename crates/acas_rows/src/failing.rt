@@ -1,8 +1,7 @@
 //! Folders and outputs whose calls fail.
-use crate::runner::pass;
-use std::test::Fail;
 
-const CASES: &str = r##"
+/// Its cases.
+pub const FAILING: &str = r##"
 # The line has 20 bytes.
 [[cases]]
 name = "each call of a run that is refused, at a byte a call"
@@ -72,8 +71,3 @@ rows = [["values t", "4 model"], ["check b t", "5 table"], ["regions b t", "6 in
 runs = ["acas $1"]
 ends = ["$2"]
 "##;
-
-#[test]
-fn failing_calls(rt: HostRuntime) -> Result<(), Fail> {
-    pass(rt.alloc(), CASES)
-}

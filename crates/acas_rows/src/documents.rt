@@ -1,8 +1,7 @@
 //! Texts that are no model: documents, their keys at the root, and axes.
-use crate::runner::pass;
-use std::test::Fail;
 
-const CASES: &str = r##"
+/// Its cases.
+pub const DOCUMENTS: &str = r##"
 [[cases]]
 name = "texts of no model"
 files = [["a", "$1"]]
@@ -84,8 +83,3 @@ runs = ["acas check a none"]
 ends = ["3 absent table"]
 error = "acas: absent: none\n"
 "##;
-
-#[test]
-fn refused_documents(rt: HostRuntime) -> Result<(), Fail> {
-    pass(rt.alloc(), CASES)
-}

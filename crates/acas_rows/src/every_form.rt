@@ -1,8 +1,7 @@
 //! What is promised of all forms of words, tried of each.
-use crate::runner::pass;
-use std::test::Fail;
 
-const CALLS: &str = r##"
+/// Of each form each call, made to fail in turn.
+pub const CALLS: &str = r##"
 # Each read of each file is among them, from the first on.
 [[cases]]
 name = "each call of a form"
@@ -34,12 +33,8 @@ output_sha256 = "$4"
 after = [["u", "$5"]]
 "##;
 
-#[test]
-fn each_call_of_each_form(rt: HostRuntime) -> Result<(), Fail> {
-    pass(rt.alloc(), CALLS)
-}
-
-const OUTSIDES: &str = r##"
+/// Of each form other words, and its files and outputs: absent, too long, without an end, and stuck.
+pub const OUTSIDES: &str = r##"
 # What `compile` and `migrate` store is whole then.
 [[cases]]
 name = "an output that takes nothing"
@@ -119,12 +114,8 @@ ends = ["5 table"]
 error = "acas: table refused: $4\n"
 "##;
 
-#[test]
-fn each_file_and_output_of_each_form(rt: HostRuntime) -> Result<(), Fail> {
-    pass(rt.alloc(), OUTSIDES)
-}
-
-const TABLES: &str = r##"
+/// The smallest table, cut and changed, under each form that reads one.
+pub const DAMAGES: &str = r##"
 # Of the smallest table, in either version: as many bytes as the number says, and the byte of that number changed in its lowest and in its
 # highest bit.
 [[cases]]
@@ -144,8 +135,3 @@ runs = ["acas $5"]
 ends = ["5 table"]
 error_begins = "acas: table refused: "
 "##;
-
-#[test]
-fn each_damage_of_a_table_under_each_form(rt: HostRuntime) -> Result<(), Fail> {
-    pass(rt.alloc(), TABLES)
-}
