@@ -61,6 +61,20 @@ impl Frac {
         (self.num, self.den)
     }
 
+    // The two numerators over the product of the denominators, and that product.
+    fn over_one_denominator(&self, other: &Frac) -> (i128, i128, i128)
+        ensures left { result.0 ≡ Fraction.num self.now *ℤ pos (Fraction.den other.now) }
+        ensures right { result.1 ≡ Fraction.num other.now *ℤ pos (Fraction.den self.now) }
+        ensures den { result.2 ≡ pos (Fraction.den self.now * Fraction.den other.now) }
+        ensures left_small { unsigned_abs result.0 ≤ 10 ^ 37 }
+        ensures right_small { unsigned_abs result.1 ≤ 10 ^ 37 }
+        ensures some { pos 0 <ℤ result.2 }
+    {
+        let (a, b) = self.parts();
+        let (c, d) = other.parts();
+        (times(a, d), times(c, b), times(b, d))
+    }
+
     /// The value num/den, in lowest terms. The denominator is not 0, both numbers are at most 10^37 in size, and the value is
     /// within the bounds of a fraction.
     pub fn new(num: i128, den: i128) -> Frac
@@ -131,11 +145,8 @@ impl Frac {
         ensures value { Same result (sum_of self.now other.now) }
         ensures lowest { IsFrac result }
     {
-        let (a, b) = self.parts();
-        let (c, d) = other.parts();
-        let num = plus(times(a, d), times(c, b));
-        let den = times(b, d);
-        Frac::lowest(num, den)
+        let (left, right, den) = self.over_one_denominator(other);
+        Frac::lowest(plus(left, right), den)
     }
 
     /// The exact difference, which is within the bounds.
@@ -144,11 +155,8 @@ impl Frac {
         ensures value { Same result (difference_of self.now other.now) }
         ensures lowest { IsFrac result }
     {
-        let (a, b) = self.parts();
-        let (c, d) = other.parts();
-        let num = minus(times(a, d), times(c, b));
-        let den = times(b, d);
-        Frac::lowest(num, den)
+        let (left, right, den) = self.over_one_denominator(other);
+        Frac::lowest(minus(left, right), den)
     }
 
     /// The exact product, which is within the bounds. The product of the numerators is at most 10^37 in size; that of the

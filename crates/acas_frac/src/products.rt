@@ -46,7 +46,8 @@ pub(crate) fn with_sign(negative: bool, size: u128) -> i128
 /// The exact product, where it is small enough.
 pub(crate) fn times(a: i128, b: i128) -> i128
     requires { unsigned_abs (a *ℤ b) ≤ 10 ^ 37 }
-    ensures { result ≡ a *ℤ b }
+    ensures value { result ≡ a *ℤ b }
+    ensures size { unsigned_abs result ≤ 10 ^ 37 }
 {
     a * b
 }
