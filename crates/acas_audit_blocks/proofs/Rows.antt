@@ -1,25 +1,13 @@
 -- The sets of a row of cells, one behind the other in the lists.
 use Rattle.std.proofs.Common.{◌≡◌, ℕ, ◌+◌, ◌-◌, ◌<◌, ◌≤◌, true, get_or, ◌∙◌, ap, arith}
-use Rattle.acas_audit_blocks.specs.Audits.{BlockAuditData, IsBlockIn, cell_count, no_advice, place_of, reported_at}
+use Rattle.acas_audit_blocks.specs.Audits.{BlockAuditData, no_advice, place_of, reported_at}
 use Rattle.acas_cells.specs.Blocks.{IsInBlock, intruder_rates}
 use Rattle.acas_cells.specs.Sets.{holds}
 use Rattle.acas_cells.specs.declared.block.Block.{Block}
-use Rattle.acas_audit_blocks.proofs.Ruled.{place_within}
 
 -- a cell of a row stands so many places behind the first
 pub place_in_row : (a : BlockAuditData) (i j from k : ℕ) → from ≤ k → place_of a i j k ≡ place_of a i j from + (k - from)
 place_in_row a i j from k after = omega (arith, after)
-
--- the row of a block is within the lists
-pub row_within : (a : BlockAuditData) (b : Block) (i j : ℕ) → IsBlockIn a b → b.i0 ≤ i → i < b.i1 → b.j0 ≤ j → j < b.j1 →
-    place_of a i j b.k0 + intruder_rates b ≤ cell_count a
-row_within a b i j block from_i before_i from_j before_j =
-    let last : place_of a i j (b.k1 - 1) < cell_count a = place_within a i j (b.k1 - 1) (record {
-      altitude = omega (arith, block.i, before_i);
-      own = omega (arith, block.j, before_j);
-      intruder = omega (arith, block.k, block.some.k);
-    }) in
-    omega (arith, last, place_in_row a i j b.k0 (b.k1 - 1) (omega (arith, block.some.k)), block.some.k)
 
 -- where an advice waits in a row, it waits in a cell of the block
 pub found_in_row : (a : BlockAuditData) (b : Block) (i j start place advice : ℕ) → b.i0 ≤ i → i < b.i1 → b.j0 ≤ j → j < b.j1 →

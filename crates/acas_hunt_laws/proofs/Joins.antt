@@ -10,9 +10,6 @@ use Rattle.acas_pass_laws.proofs.Joins.{falling-end, falling-start}
 use Rattle.acas_meetings.specs.Hunt.{course, Hunt, IsHunt, top, bottom, low_course, high_course, toward, goal_pass, passes}
 
 -- the last point is the same with a goal and without
-pub IsLast-toward : (m : ℤ) (p : Pass Flight) (last : ℕ) → IsLast p last → IsLast (toward m p) last
-IsLast-toward m p last l = record { reaches = l.reaches; first = l.first }
-
 pub IsLast-own : (m : ℤ) (p : Pass Flight) (last : ℕ) → IsLast (toward m p) last → IsLast p last
 IsLast-own m p last l = record { reaches = l.reaches; first = l.first }
 

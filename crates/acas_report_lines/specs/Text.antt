@@ -77,10 +77,6 @@ cell_line m name ruling = cell_text m name ++ ruling_text ruling
 abbrev pub line_of_box : {R : Type 0} → (R → List ℕ) → ℕ → R → List ℕ
 line_of_box text number ruling = box_text number ++ text ruling
 
--- that of a box whose intruder holds its rate
-abbrev pub box_line : ℕ → Ruling → List ℕ
-box_line number ruling = line_of_box ruling_text number ruling
-
 -- ---- counts
 
 -- how many are certified and how many reported, with which a last line begins

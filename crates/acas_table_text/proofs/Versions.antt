@@ -28,11 +28,6 @@ pub base-more : (f : Format) (head : List ℕ) (layers : List (List Entry)) (lay
 base-more Whole head layers layer = ap (λ (t : List ℕ). head ++ t) (flat-more layers layer) ∙ sym (append_assoc head (flat_map layer_text layers) (layer_text layer))
 base-more Layered head layers layer = last_digest-more head layers layer
 
--- and behind none
-pub base-none : (f : Format) (head : List ℕ) → base f head [] ≡ head
-base-none Whole head = append-nil head
-base-none Layered head = refl
-
 -- the bytes of the layers, with one more
 pub body-more : (f : Format) (head : List ℕ) (layers : List (List Entry)) (layer : List Entry) → body f head (layers ++ layer ∷ []) ≡ body f head layers ++ layer_bytes f (base f head layers) layer
 body-more Whole head layers layer = flat-more layers layer
