@@ -1,2 +1,3 @@
+pub mod Backups
 pub mod Best
 pub mod Priced

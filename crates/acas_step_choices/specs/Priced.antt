@@ -1,9 +1,11 @@
 -- The choices under a present advisory with their costs in millionths, as they are made once for the entries of a column under it.
-use Rattle.std.specs.Prelude.{◌≡◌, ℕ, pos, ◌<◌, ◌≤◌, ◌^◌, unsigned_abs, length, get_or}
+use Rattle.std.specs.Prelude.{◌≡◌, ℕ, pos, ◌<◌, ◌≤◌, ◌^◌, unsigned_abs, List, length, get_or}
 use Rattle.acas_spec.specs.Model.{ModelData, choices_at}
 use Rattle.acas_process.specs.Values.{millionths}
 use Rattle.acas_process.specs.Cost.{cost_of}
 use Rattle.acas_means.specs.Choices.{listed_choice}
+use Rattle.acas_units.specs.declared.pair.Pair.{Pair}
+use Rattle.acas_step_choices.specs.Best.{ColumnLeavesRoom, LeaveRoom}
 use Rattle.acas_step_choices.specs.declared.priced.PricedChoice.{PricedChoice}
 use Rattle.acas_step_choices.specs.declared.priced.PricedList.{PricedList}
 
@@ -24,8 +26,19 @@ pub record IsPriced (m : ModelData) (p : ℕ) (c : PricedChoice) : Type 0 where
 
 -- a list has each choice of the present advisory p, in their order, and there is one
 pub record IsPricedList (m : ModelData) (p : ℕ) (list : PricedList) : Type 0 where
+  pub known : p < 16
   pub count : list.count ≡ length (choices_at m p)
   pub some : 0 < list.count
   pub few : list.count ≤ 16
   pub advisory : (k : ℕ) → k < list.count → (priced_at list k).advisory ≡ (listed_choice m p k).advisory
   pub choice : (k : ℕ) → k < list.count → IsPriced m p (priced_at list k)
+
+-- a list has the choices of the present advisory p, and beside the means at a vertex there is room for their costs
+pub record IsPricedAt (m : ModelData) (p : ℕ) (l : PricedList) (vertex_means : List Pair) : Type 0 where
+  pub list : IsPricedList m p l
+  pub means : LeaveRoom m vertex_means
+
+-- so it has, and there is room beside the means at each place of a column
+pub record IsPricedIn (m : ModelData) (p : ℕ) (l : PricedList) (column_means : List (List Pair)) : Type 0 where
+  pub list : IsPricedList m p l
+  pub means : ColumnLeavesRoom m column_means

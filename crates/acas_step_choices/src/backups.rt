@@ -1,11 +1,11 @@
 //! The value of a choice, and how many upper ones were formed. One such value is a backup of dynamic programming, as in ATC-371
 //! (Kochenderfer and Chryssanthacopoulos, MIT Lincoln Laboratory, 2011).
-ghost use Rattle.std.specs.Prelude.{◌≡◌, ℕ, ◌+◌, ◌*◌, ◌<◌, ◌≤◌, ◌^◌, ◌+ℤ◌, length, unsigned_abs};
-ghost use Rattle.acas_spec.specs.Model.{ModelData, states, vertices};
-ghost use Rattle.acas_grid.specs.States as numbers;
+ghost use Rattle.std.specs.Prelude.{◌≡◌, ℕ, ◌+◌, ◌<◌, ◌≤◌, ◌^◌, ◌+ℤ◌, unsigned_abs};
+ghost use Rattle.acas_spec.specs.Model.{ModelData};
 ghost use Rattle.acas_process.specs.Values.{millionths};
-ghost use Rattle.acas_means.specs.Layer.{AreWithin, layer_values};
-ghost use Rattle.acas_means.specs.Values.{counted, layer_mean, value_with_cost};
+ghost use Rattle.acas_means.specs.Layer.{AreWithin};
+ghost use Rattle.acas_means.specs.Values.{counted, layer_mean};
+ghost use Rattle.acas_step_choices.specs.Backups.{IsBackup, IsStateOver};
 
 use acas_base::Model;
 use acas_count::Counter;
@@ -47,9 +47,7 @@ pub trait MeanSource {
         below: &[Pair],
     ) -> i64
         requires serves { serves self.now model.now }
-        requires vertex { vertex < vertices model.now.grid }
-        requires advisory { advisory < model.now.grid.advisories }
-        requires below { length below.now ≡ states model.now.grid }
+        requires state { IsStateOver model.now vertex advisory below.now }
         ensures value { result ≡ layer_mean R.round model.now side below.now vertex advisory }
         ensures bounded { (most : ℕ) → AreWithin most side below.now → unsigned_abs result ≤ most };
 }
@@ -79,16 +77,9 @@ pub fn value_over<R: Rounding, S: MeanSource>(
     count: &mut Backups,
 ) -> i128
     requires serves { S.serves source.now model.now }
-    requires vertex { vertex < vertices model.now.grid }
-    requires advisory { choice.now.advisory < model.now.grid.advisories }
-    requires below { length below.now ≡ states model.now.grid }
+    requires state { IsStateOver model.now vertex choice.now.advisory below.now }
     requires count { count.old + counted side < 2 ^ 64 }
-    ensures value { let x = numbers.vertex_at model.now.grid vertex in
-        result ≡ value_with_cost R.round model.now (layer_values side model.now.grid below.now) x choice.now }
-
-    // It is at most the cost of the choice larger than the largest value below.
-    ensures bounded { (most : ℕ) → AreWithin most side below.now
-        → unsigned_abs result ≤ most + 1_000_000 * unsigned_abs choice.now.cost }
+    ensures backup { IsBackup R.round model.now side below.now vertex choice.now result }
     ensures count { count.new ≡ count.old + counted side }
 {
     let mean = source.mean::<R>(model, vertex, choice.advisory, side, below);

@@ -4,7 +4,7 @@ ghost use Rattle.std.specs.Int.{int_min};
 ghost use Rattle.acas_spec.specs.Model.{choices_at};
 ghost use Rattle.acas_process.specs.Compiled.{first_least, least};
 ghost use Rattle.acas_step_choices.specs.Best.{IsBest, IsLeast, IsValued, LeaveRoom};
-ghost use Rattle.acas_step_choices.specs.Priced.{IsPriced, IsPricedList};
+ghost use Rattle.acas_step_choices.specs.Priced.{IsPriced, IsPricedAt};
 ghost use Rattle.acas_means.specs.Choices.{value_by_mean};
 ghost use Rattle.acas_means.specs.Layer.{value_at};
 ghost use Rattle.acas_means.specs.declared.layer.Side.TheVariants.{Upper};
@@ -56,8 +56,7 @@ pub(crate) fn least_of(pair: Pair, later: Pair) -> Pair
 
 // The least upper and the least lower value of the choices in a list.
 fn least_values(model: &Model, present: u8, list: &PricedList, vertex_means: &VertexMeans) -> Pair
-    requires list { IsPricedList model.now present list.now }
-    requires means { LeaveRoom model.now vertex_means.now }
+    requires { IsPricedAt model.now present list.now vertex_means.now }
     ensures { IsLeast model.now vertex_means.now present (choices_at model.now present) result }
 {
     let mut least = valued_choice(model, present, &list.choices[0], vertex_means);
@@ -76,8 +75,7 @@ pub(crate) fn first_choice(
     vertex_means: &VertexMeans,
     least_upper: i64,
 ) -> u8
-    requires list { IsPricedList model.now present list.now }
-    requires means { LeaveRoom model.now vertex_means.now }
+    requires priced { IsPricedAt model.now present list.now vertex_means.now }
     requires least { let means = value_at Upper vertex_means.now in
         least_upper ≡ least (value_by_mean model.now present means) (choices_at model.now present) }
     ensures { let means = value_at Upper vertex_means.now in
@@ -99,8 +97,7 @@ pub(crate) fn best_choice(
     vertex_means: &VertexMeans,
     count: &mut Backups,
 ) -> Entry
-    requires list { IsPricedList model.now present list.now }
-    requires means { LeaveRoom model.now vertex_means.now }
+    requires priced { IsPricedAt model.now present list.now vertex_means.now }
     requires count { count.old + length (choices_at model.now present) < 2 ^ 64 }
     ensures best { IsBest model.now vertex_means.now present (choices_at model.now present) result }
     ensures count { count.new ≡ count.old + length (choices_at model.now present) }

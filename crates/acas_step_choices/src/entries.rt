@@ -2,7 +2,7 @@
 ghost use Rattle.std.specs.Prelude.{◌≡◌, ◌+◌, ◌*◌, ◌<◌, ◌≤◌, ◌^◌, length};
 ghost use Rattle.acas_spec.specs.Model.{choices_at, states};
 ghost use Rattle.acas_step_choices.specs.Best.{AreBest, AreBestUnder, AreColumnEntries, ColumnLeavesRoom, IsBest, LeaveColumnOthers, LeaveOthers, LeaveRoom, entry_at};
-ghost use Rattle.acas_step_choices.specs.Priced.{IsPricedList};
+ghost use Rattle.acas_step_choices.specs.Priced.{IsPricedAt, IsPricedIn};
 ghost use Rattle.acas_means.specs.Choices.{choice_count};
 ghost use Rattle.acas_means.specs.Columns.{columns};
 ghost use Rattle.acas_means.specs.Layer.{AreWithin};
@@ -42,9 +42,7 @@ fn write_best(
     entries: &mut VertexEntries,
     count: &mut Backups,
 )
-    requires list { IsPricedList model.now present list.now }
-    requires known { present < 16 }
-    requires means { LeaveRoom model.now vertex_means.now }
+    requires priced { IsPricedAt model.now present list.now vertex_means.now }
     requires count { count.old + length (choices_at model.now present) < 2 ^ 64 }
     ensures best { let choices = choices_at model.now present in
         IsBest model.now vertex_means.now present choices (entry_at entries.new present) }
@@ -86,9 +84,7 @@ fn write_two(
     entries: &mut ColumnEntries,
     count: &mut Backups,
 )
-    requires list { IsPricedList model.now present list.now }
-    requires known { present < 16 }
-    requires means { ColumnLeavesRoom model.now means.now }
+    requires priced { IsPricedIn model.now present list.now means.now }
     requires inside { place + 1 < length model.now.grid.h }
     requires so_far { AreBestUnder model.now means.now present place entries.old }
     requires count { count.old + 2 * length (choices_at model.now present) < 2 ^ 64 }
@@ -121,9 +117,7 @@ fn fill_twos(
     entries: &mut ColumnEntries,
     count: &mut Backups,
 )
-    requires list { IsPricedList model.now present list.now }
-    requires known { present < 16 }
-    requires means { ColumnLeavesRoom model.now means.now }
+    requires priced { IsPricedIn model.now present list.now means.now }
     requires inside { 2 * twos ≤ length model.now.grid.h }
     requires count { count.old + 2 * twos * length (choices_at model.now present) < 2 ^ 64 }
     ensures best { AreBestUnder model.now means.now present (2 * twos) entries.new }

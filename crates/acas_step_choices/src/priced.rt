@@ -1,6 +1,5 @@
 //! The choices under a present advisory with their costs in millionths, made once for all entries of a column under it.
-ghost use Rattle.std.specs.Prelude.{◌≡◌, ◌<◌, ◌≤◌, length};
-ghost use Rattle.acas_spec.specs.Model.{choices_at};
+ghost use Rattle.std.specs.Prelude.{◌≡◌, ◌<◌};
 ghost use Rattle.acas_process.specs.Cost.{IsKnownChoice};
 ghost use Rattle.acas_step_choices.specs.Priced.{IsPriced, IsPricedList};
 
@@ -23,17 +22,6 @@ pub(crate) struct PricedList {
     pub(crate) choices: [PricedChoice; GREATEST_ADVISORIES as usize],
 }
 
-// How many choices a present advisory has: one at least, and no more than there may be advisories.
-fn few_choices(model: &Model, present: u8) -> usize
-    requires { present < model.now.grid.advisories }
-    ensures value { result ≡ length (choices_at model.now present) }
-    ensures some { 0 < result }
-    ensures few { result ≤ 16 }
-{
-    let _ = model.grid();
-    choice_count(model, present)
-}
-
 // A choice of a present advisory with its cost in millionths.
 fn priced_choice(model: &Model, present: u8, choice: &Choice) -> PricedChoice
     requires { IsKnownChoice model.now present choice.now }
@@ -53,7 +41,9 @@ pub(crate) fn priced_list(model: &Model, present: u8) -> PricedList
     requires { present < model.now.grid.advisories }
     ensures { IsPricedList model.now present result }
 {
-    let count = few_choices(model, present);
+    // A model within its limits has no more choices under an advisory than it may have advisories.
+    let _ = model.grid();
+    let count = choice_count(model, present);
     let none = PricedChoice {
         advisory: 0,
         cost: 0,

@@ -2,7 +2,7 @@
 ghost use Rattle.std.specs.Prelude.{◌≡◌, ◌+◌, ◌*◌, ◌<◌, ◌^◌, length};
 ghost use Rattle.acas_spec.specs.Model.{choices_at};
 ghost use Rattle.acas_step_choices.specs.Best.{IsBest, IsLeast, LeaveRoom};
-ghost use Rattle.acas_step_choices.specs.Priced.{IsPricedList};
+ghost use Rattle.acas_step_choices.specs.Priced.{IsPricedAt};
 
 use crate::backups::{Backups, count_formed};
 use crate::best::{first_choice, least_of, valued_choice};
@@ -33,8 +33,7 @@ fn least_of_two(
     vertex_means: &VertexMeans,
     next_means: &VertexMeans,
 ) -> TwoPairs
-    requires list { IsPricedList model.now present list.now }
-    requires means { LeaveRoom model.now vertex_means.now }
+    requires priced { IsPricedAt model.now present list.now vertex_means.now }
     requires next { LeaveRoom model.now next_means.now }
     ensures first { IsLeast model.now vertex_means.now present (choices_at model.now present) result.first }
     ensures second { IsLeast model.now next_means.now present (choices_at model.now present) result.second }
@@ -63,8 +62,7 @@ pub(crate) fn best_of_two(
     next_means: &VertexMeans,
     count: &mut Backups,
 ) -> TwoEntries
-    requires list { IsPricedList model.now present list.now }
-    requires means { LeaveRoom model.now vertex_means.now }
+    requires priced { IsPricedAt model.now present list.now vertex_means.now }
     requires next { LeaveRoom model.now next_means.now }
     requires count { count.old + 2 * length (choices_at model.now present) < 2 ^ 64 }
     ensures first { IsBest model.now vertex_means.now present (choices_at model.now present) result.first }

@@ -1,7 +1,8 @@
 //! The best entries at one vertex over the layer below, by what forms the means there.
-ghost use Rattle.std.specs.Prelude.{◌≡◌, ℕ, ◌+◌, ◌<◌, ◌^◌, length};
-ghost use Rattle.acas_spec.specs.Model.{ModelData, states, vertices};
+ghost use Rattle.std.specs.Prelude.{◌≡◌, ℕ, ◌+◌, ◌<◌, ◌^◌};
+ghost use Rattle.acas_spec.specs.Model.{ModelData};
 ghost use Rattle.acas_grid.specs.States.{vertex_at};
+ghost use Rattle.acas_step_choices.specs.Backups.{IsVertexOver};
 ghost use Rattle.acas_step_choices.specs.Best.{AreVertexEntries};
 ghost use Rattle.acas_means.specs.Choices.{choice_count};
 ghost use Rattle.acas_means.specs.Layer.{AreWithin};
@@ -22,8 +23,7 @@ pub trait VertexMeansSource {
     /// Both means of the layer below at a vertex, under each advisory of the model by its number.
     fn means_at(&self, model: &Model, vertex: u32, below: &[Pair]) -> VertexMeans
         requires serves { serves self.now model.now }
-        requires vertex { vertex < vertices model.now.grid }
-        requires below { length below.now ≡ states model.now.grid }
+        requires over { IsVertexOver model.now vertex below.now }
         ensures means { AreVertexMeans model.now below.now (vertex_at model.now.grid vertex) result }
 
         // No mean is larger than the largest value.
@@ -39,8 +39,7 @@ pub fn entries_over<S: VertexMeansSource>(
     count: &mut Backups,
 ) -> VertexEntries
     requires serves { S.serves source.now model.now }
-    requires vertex { vertex < vertices model.now.grid }
-    requires below { length below.now ≡ states model.now.grid }
+    requires over { IsVertexOver model.now vertex below.now }
     requires small { (side : Side) → AreWithin (2 ^ 62) side below.now }
     requires count { count.old + choice_count model.now < 2 ^ 64 }
     ensures entries { AreVertexEntries model.now below.now (vertex_at model.now.grid vertex) result }

@@ -6,11 +6,11 @@ use Rattle.acas_means.specs.Columns.{pairs_at}
 use Rattle.acas_step_choices.proofs.BestEntries.{best_under_two}
 use Rattle.acas_step_choices.proofs.entries.write_two.Goals as goal
 
-pub best_of_two-two-requires-clause-means : goal.best_of_two-two-requires-clause-means
-best_of_two-two-requires-clause-means c = c.requires.means.each c.args.place (omega (arith, c.requires.inside))
+pub best_of_two-two-requires-clause-priced : goal.best_of_two-two-requires-clause-priced
+best_of_two-two-requires-clause-priced c = record { list = c.requires.priced.list; means = c.requires.priced.means.each c.args.place (omega (arith, c.requires.inside)) }
 
 pub best_of_two-two-requires-clause-next : goal.best_of_two-two-requires-clause-next
-best_of_two-two-requires-clause-next c = c.requires.means.each (c.args.place + 1) c.requires.inside
+best_of_two-two-requires-clause-next c = c.requires.priced.means.each (c.args.place + 1) c.requires.inside
 
 pub returns-clause-best : goal.returns-clause-best
 returns-clause-best c =

@@ -13,9 +13,9 @@ loop-place-preserved c =
     let p = c.args.present in
     let place = c.loop-place.place in
     let so_far = c.loop-place.invariant in
-    let within : place < length (choices_at m p) = omega (arith, c.loop-place-test.true, c.requires.list.count) in
+    let within : place < length (choices_at m p) = omega (arith, c.loop-place-test.true, c.requires.priced.list.count) in
     let valued : (means : List Pair) (pair : Pair) → IsValued m means p (priced_at c.args.list.now place).advisory pair → IsValued m means p (listed_choice m p place).advisory pair =
-    λ means pair v. subst (λ (a : ℕ). IsValued m means p a pair) (c.requires.list.advisory place c.loop-place-test.true) v in
+    λ means pair v. subst (λ (a : ℕ). IsValued m means p a pair) (c.requires.priced.list.advisory place c.loop-place-test.true) v in
     let lesser : IsLesser c.loop-place.least c.valued_choice-pair.result c.least_of-least.result = record { upper = c.least_of-least.ensures.upper; lower = c.least_of-least.ensures.lower } in
     let next_lesser : IsLesser c.loop-place.next_least c.valued_choice-next_pair.result c.least_of-next_least.result = record { upper = c.least_of-next_least.ensures.upper; lower = c.least_of-next_least.ensures.lower } in
     record {

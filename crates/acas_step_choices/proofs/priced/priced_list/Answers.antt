@@ -1,0 +1,11 @@
+use Rattle.std.proofs.Common.{refl, arith}
+use Rattle.acas_means.proofs.ChoiceLists.{choices-few}
+use Rattle.acas_step_choices.proofs.priced.priced_list.Goals as goal
+
+pub loop-place-init : goal.loop-place-init
+loop-place-init c = record {
+  few = choices-few c.args.model.now c.args.present c.grid.ensures.valid c.requires;
+  long = refl;
+  advisory = λ k here. absurd (omega arith);
+  choice = λ k here. absurd (omega arith);
+}
