@@ -5,60 +5,55 @@ ghost use Rattle.std.specs.Prelude.{◌≡◌, ◌+◌, ◌*◌, ◌^◌, ◌<�
 ghost use Rattle.acas_spec.specs.Model.{states, total_weight, vertices};
 ghost use Rattle.acas_grid.specs.States as numbers;
 ghost use Rattle.acas_process.specs.Step as process;
-ghost use Rattle.acas_means.specs.Columns.{columns, vertex_in};
 ghost use Rattle.acas_step_columns.specs.ColumnSums.{HasColumn};
 ghost use Rattle.acas_step_stencils.specs.Cells.{HoldsRates};
 ghost use Rattle.acas_means.specs.Layer.{AreWithin};
 ghost use Rattle.acas_step_narrow.specs.ColumnBlends.{AreBlends, AreBlendsWithin, AreColumnSums, AreSumsWithin};
 ghost use Rattle.acas_step_narrow.specs.Narrow.{IsRaisedPoint};
 ghost use Rattle.acas_step_narrow.specs.Raised.{AreRaisedWithin};
-ghost use Rattle.acas_step_stencils.specs.Stencils.{AreStencilsOf, HaveStencil, IsRise};
+ghost use Rattle.acas_step_stencils.specs.Stencils.{HaveStencil, IsRise, point_from};
 ghost use Rattle.acas_means.specs.declared.layer.Side.TheVariants.{Upper, Lower};
 ghost use Rattle.acas_units.specs.declared.pair.Pair.{Pair};
 
-use acas_base::Model;
-use acas_means::{Reach, first_state};
+use crate::over::MeansOver;
+use acas_means::first_state;
 use acas_step::{Cell, sigma_count};
 use acas_step_narrow::{
     Raised, SideColumn, along_h, clear_sums, fill_blends, narrow_weight, quotient_down,
     quotient_up, with_point,
 };
-use acas_step_stencils::{Rise, Stencils};
-use acas_units::Pair;
+use acas_step_stencils::{Rise, StencilKey};
 
 // Both sides at the point to which a sigma point leads from the vertex of a column at a place of the altitudes, where its cell is not
 // too wide: by the rise of the column, and by the blends at the rates of a cell that holds the rates of the point.
 fn point_in_column(
-    model: &Model,
-    stencils: &Stencils,
-    reach: Reach,
-    column: u32,
+    over: &MeansOver<'_>,
+    key: StencilKey,
     i: u32,
-    advisory: u8,
-    sigma: u32,
     rise: Rise,
     rates: &Cell,
     blend_uppers: &SideColumn,
     blend_lowers: &SideColumn,
 ) -> Option<Raised>
-    requires stencil { HaveStencil model.now stencils.now column advisory sigma }
-    requires place { i < length model.now.grid.h }
-    requires rise { IsRise model.now stencils.now column advisory sigma rise }
-    requires rates { let x = numbers.vertex_at model.now.grid (vertex_in model.now.grid column i) in
-        HoldsRates model.now.grid stencils.now.units (process.moved model.now x advisory sigma) rates.now }
-    requires room { reach.widest * (2 * reach.size + 1) < 2 ^ 63 }
-    requires within { AreBlendsWithin model.now.grid rates.now reach.size blend_uppers.now blend_lowers.now }
-    ensures within { IfSome result (AreRaisedWithin (2 * reach.size)) }
-    ensures point { (below : List Pair) → length below ≡ states model.now.grid
-        → AreWithin reach.size Upper below → AreWithin reach.size Lower below
-        → AreBlends model.now.grid rates.now (advisory * vertices model.now.grid) reach.size below blend_uppers.now blend_lowers.now
-        → let x = numbers.vertex_at model.now.grid (vertex_in model.now.grid column i) in
-        IfSome result (IsRaisedPoint model.now below reach.size advisory (process.moved model.now x advisory sigma)) }
+    requires stencil { HaveStencil over.now.model.now over.now.stencils.now key }
+    requires place { i < length over.now.model.now.grid.h }
+    requires rise { IsRise over.now.model.now over.now.stencils.now key rise }
+    requires rates { let m = over.now.model.now in
+        HoldsRates m.grid over.now.stencils.now.units (point_from m key i) rates.now }
+    requires room { over.now.reach.widest * (2 * over.now.reach.size + 1) < 2 ^ 63 }
+    requires within { let size = over.now.reach.size in
+        AreBlendsWithin over.now.model.now.grid rates.now size blend_uppers.now blend_lowers.now }
+    ensures within { IfSome result (AreRaisedWithin (2 * over.now.reach.size)) }
+    ensures point { let m = over.now.model.now in
+        let size = over.now.reach.size in
+        (below : List Pair) → length below ≡ states m.grid → AreWithin size Upper below → AreWithin size Lower below
+        → AreBlends m.grid rates.now (key.advisory * vertices m.grid) size below blend_uppers.now blend_lowers.now
+        → IfSome result (IsRaisedPoint m below size key.advisory (point_from m key i)) }
 {
     // Says what holds of each model.
-    let _ = model.grid();
-    let at = stencils.cell_at_rates(model, column, i, advisory, sigma, rise, rates);
-    if at.divisor.by > reach.widest {
+    let _ = over.model.grid();
+    let at = over.stencils.cell_at_rates(over.model, key, i, rise, rates);
+    if at.divisor.by > over.reach.widest {
         return None;
     }
     let sums = along_h(blend_uppers, blend_lowers, at.cell.h);
@@ -70,54 +65,38 @@ fn point_in_column(
 
 // Adds the points to which a sigma point leads from the vertices of a column, by its weight, where no cell is too wide.
 fn add_points(
-    model: &Model,
-    stencils: &Stencils,
-    reach: Reach,
-    column: u32,
-    advisory: u8,
-    sigma: u32,
+    over: &MeansOver<'_>,
+    key: StencilKey,
     rates: &Cell,
     blend_uppers: &SideColumn,
     blend_lowers: &SideColumn,
     uppers: &mut SideColumn,
     lowers: &mut SideColumn,
 ) -> bool
-    requires stencils { AreStencilsOf model.now stencils.now }
-    requires horizon { 0 < model.now.grid.horizon }
-    requires column { column < columns model.now.grid }
-    requires advisory { advisory < model.now.grid.advisories }
-    requires sigma { sigma < length model.now.sigmas }
-    requires rates { let x = numbers.vertex_at model.now.grid column in
-        HoldsRates model.now.grid stencils.now.units (process.moved model.now x advisory sigma) rates.now }
-    requires room { reach.widest * (2 * reach.size + 1) < 2 ^ 63 }
-    requires weights { total_weight model.now * (2 * reach.size + 1) < 2 ^ 63 }
-    requires within { AreBlendsWithin model.now.grid rates.now reach.size blend_uppers.now blend_lowers.now }
-    requires sums { AreSumsWithin model.now reach.size sigma uppers.old lowers.old }
-    ensures within { result ≡ true → AreSumsWithin model.now reach.size (sigma + 1) uppers.new lowers.new }
-    ensures sums { (below : List Pair) → length below ≡ states model.now.grid
-        → AreWithin reach.size Upper below → AreWithin reach.size Lower below
-        → AreBlends model.now.grid rates.now (advisory * vertices model.now.grid) reach.size below blend_uppers.now blend_lowers.now
-        → AreColumnSums model.now below reach.size column advisory sigma uppers.old lowers.old
+    requires stencil { HaveStencil over.now.model.now over.now.stencils.now key }
+    requires rates { let m = over.now.model.now in
+        let x = numbers.vertex_at m.grid key.column in
+        HoldsRates m.grid over.now.stencils.now.units (process.moved m x key.advisory key.sigma) rates.now }
+    requires room { over.now.reach.widest * (2 * over.now.reach.size + 1) < 2 ^ 63 }
+    requires weights { total_weight over.now.model.now * (2 * over.now.reach.size + 1) < 2 ^ 63 }
+    requires within { let size = over.now.reach.size in
+        AreBlendsWithin over.now.model.now.grid rates.now size blend_uppers.now blend_lowers.now }
+    requires sums { AreSumsWithin over.now.model.now over.now.reach.size key.sigma uppers.old lowers.old }
+    ensures within { result ≡ true
+        → AreSumsWithin over.now.model.now over.now.reach.size (key.sigma + 1) uppers.new lowers.new }
+    ensures sums { let m = over.now.model.now in
+        let size = over.now.reach.size in
+        (below : List Pair) → length below ≡ states m.grid → AreWithin size Upper below → AreWithin size Lower below
+        → AreBlends m.grid rates.now (key.advisory * vertices m.grid) size below blend_uppers.now blend_lowers.now
+        → AreColumnSums m below size key.column key.advisory key.sigma uppers.old lowers.old
         → result ≡ true
-        → AreColumnSums model.now below reach.size column advisory (sigma + 1) uppers.new lowers.new }
+        → AreColumnSums m below size key.column key.advisory (key.sigma + 1) uppers.new lowers.new }
 {
-    let grid = model.grid();
-    let weight = narrow_weight(model, sigma);
-    let rise = stencils.rise(model, column, advisory, sigma);
+    let grid = over.model.grid();
+    let weight = narrow_weight(over.model, key.sigma);
+    let rise = over.stencils.rise(over.model, key);
     for i in 0..grid.h.len() {
-        match point_in_column(
-            model,
-            stencils,
-            reach,
-            column,
-            i,
-            advisory,
-            sigma,
-            rise,
-            rates,
-            blend_uppers,
-            blend_lowers,
-        ) {
+        match point_in_column(over, key, i, rise, rates, blend_uppers, blend_lowers) {
             Some(point) => {
                 let place = i as usize;
                 let sums = Raised {
@@ -137,46 +116,45 @@ fn add_points(
 /// Writes the sums over all points to which a second leads from the vertices of a column under an advisory, and says whether no cell
 /// is too wide for that.
 pub(crate) fn fill_sums(
-    model: &Model,
-    stencils: &Stencils,
-    reach: Reach,
+    over: &MeansOver<'_>,
     column: u32,
     advisory: u8,
-    below: &[Pair],
     blend_uppers: &mut SideColumn,
     blend_lowers: &mut SideColumn,
     uppers: &mut SideColumn,
     lowers: &mut SideColumn,
 ) -> bool
-    requires column { HasColumn model.now stencils.now below.now reach column advisory }
-    requires weights { total_weight model.now * (2 * reach.size + 1) < 2 ^ 63 }
-    ensures { result ≡ true
-        → AreColumnSums model.now below.now reach.size column advisory (length model.now.sigmas) uppers.new lowers.new }
+    requires column { HasColumn over.now column advisory }
+    requires weights { total_weight over.now.model.now * (2 * over.now.reach.size + 1) < 2 ^ 63 }
+    ensures { let m = over.now.model.now in
+        result ≡ true
+        → AreColumnSums m over.now.below.now over.now.reach.size column advisory (length m.sigmas) uppers.new lowers.new }
 {
-    let grid = model.grid();
+    let grid = over.model.grid();
     let first = first_state(grid, advisory);
-    clear_sums(model, uppers, lowers);
-    for sigma in 0..sigma_count(model) {
-        let corner = stencils.unit_cell(model, column, 0, advisory, sigma);
-        if corner.divisor.by > reach.widest {
+    clear_sums(over.model, uppers, lowers);
+    for sigma in 0..sigma_count(over.model) {
+        let key = StencilKey {
+            column,
+            advisory,
+            sigma,
+        };
+        let corner = over.stencils.unit_cell(over.model, key, 0);
+        if corner.divisor.by > over.reach.widest {
             return false;
         }
         fill_blends(
             grid,
             &corner.cell,
             first,
-            reach.size,
-            below,
+            over.reach.size,
+            over.below,
             blend_uppers,
             blend_lowers,
         );
         if !add_points(
-            model,
-            stencils,
-            reach,
-            column,
-            advisory,
-            sigma,
+            over,
+            key,
             &corner.cell,
             blend_uppers,
             blend_lowers,

@@ -1,23 +1,20 @@
 //! Both means of a layer at the vertices of a column under one advisory, by the stencils of a model, without a search of cells. Where two
 //! advisories lead to the same means from a column they are formed once.
 ghost use Rattle.std.specs.Prelude.{◌≡◌, ◌≢◌, ℕ, ◌+◌, ◌<◌, ◌≤◌, length, unsigned_abs};
-ghost use Rattle.acas_spec.specs.Model.{states};
-ghost use Rattle.acas_means.specs.Columns.{AreAllWithin, AreColumnChanges, AreColumnMeans, AreMeansIn, columns, pairs_at};
+ghost use Rattle.acas_means.specs.Columns.{AreAllWithin, AreColumnChanges, AreMeansIn, pairs_at};
 ghost use Rattle.acas_step_columns.specs.ColumnSums.{HasColumn, IsSource};
 ghost use Rattle.acas_means.specs.Layer.{AreWithin, pair_at, value_of};
-ghost use Rattle.acas_means.specs.Reach.{IsReach};
-ghost use Rattle.acas_step_stencils.specs.Stencils.{AreStencilsOf};
 ghost use Rattle.acas_means.specs.declared.layer.Side.{Side};
 
 use crate::column_sums::fill_sums;
+use crate::over::MeansOver;
 use crate::wide_means::wide_means;
-use acas_base::Model;
 use acas_frac::{Down, Up};
-use acas_means::{ColumnMeans, Reach, Side, VertexMeans, advisory_count, vertex_in_column};
-use acas_step::{Changes, changes_from, first_twin, mean_by, own_rate_at};
+use acas_means::{ColumnMeans, Side, VertexMeans, vertex_in_column};
+use acas_step::{Changes, first_twin, mean_by};
 use acas_step_narrow::{Raised, SideColumn, WIDE_SIZE, means_of_sums};
 use acas_step_stencils::Stencils;
-use acas_units::{GREATEST_ADVISORIES, GREATEST_VERTICES, Pair};
+use acas_units::{GREATEST_ADVISORIES, Pair};
 
 /// What the means of a column under an advisory are taken from.
 #[derive(Clone, Copy)]
@@ -38,34 +35,28 @@ pub(crate) enum Source {
 /// Finds what the means of a column under an advisory are to be taken from, and writes their sums where 64 bits hold them: no value is
 /// too large for the weights of the cells.
 pub(crate) fn source_of(
-    model: &Model,
-    stencils: &Stencils,
-    reach: Reach,
+    over: &MeansOver<'_>,
     column: u32,
     changes: &Changes,
     advisory: u8,
-    below: &[Pair],
     blend_uppers: &mut SideColumn,
     blend_lowers: &mut SideColumn,
     uppers: &mut SideColumn,
     lowers: &mut SideColumn,
 ) -> Source
-    requires { HasColumn model.now stencils.now below.now reach column advisory }
-    ensures { IsSource model.now below.now reach changes.now column advisory uppers.new lowers.new result }
+    requires { HasColumn over.now column advisory }
+    ensures { IsSource over.now changes.now column advisory uppers.new lowers.new result }
 {
-    let _ = model.grid();
-    let twin = first_twin(&reach.likes, changes, advisory);
+    let _ = over.model.grid();
+    let twin = first_twin(&over.reach.likes, changes, advisory);
     if twin < advisory {
         return Source::Twin(twin);
     }
-    if stencils.total.by <= reach.widest
+    if over.stencils.total.by <= over.reach.widest
         && fill_sums(
-            model,
-            stencils,
-            reach,
+            over,
             column,
             advisory,
-            below,
             blend_uppers,
             blend_lowers,
             uppers,
@@ -74,7 +65,7 @@ pub(crate) fn source_of(
     {
         return Source::Sums;
     }
-    if reach.size <= WIDE_SIZE {
+    if over.reach.size <= WIDE_SIZE {
         return Source::Wide;
     }
     Source::Layer
@@ -83,31 +74,27 @@ pub(crate) fn source_of(
 // Both means at a vertex of a column under an advisory, by what they are to be taken from, where those under the earlier advisories
 // stand already.
 fn mean_pair_from(
-    model: &Model,
-    stencils: &Stencils,
-    reach: Reach,
+    over: &MeansOver<'_>,
     column: u32,
     i: u32,
     changes: &Changes,
     advisory: u8,
     source: Source,
-    below: &[Pair],
     uppers: &SideColumn,
     lowers: &SideColumn,
     earlier: &VertexMeans,
 ) -> Pair
-    requires column { HasColumn model.now stencils.now below.now reach column advisory }
-    requires place { i < length model.now.grid.h }
-    requires changes { AreColumnChanges model.now column changes.now }
-    requires source { IsSource model.now below.now reach changes.now column advisory uppers.now lowers.now
-        source }
+    requires column { HasColumn over.now column advisory }
+    requires place { i < length over.now.model.now.grid.h }
+    requires changes { AreColumnChanges over.now.model.now column changes.now }
+    requires source { IsSource over.now changes.now column advisory uppers.now lowers.now source }
     requires earlier { (b : ℕ) → b < advisory
-        → AreMeansIn model.now below.now column i b (pair_at earlier.now b) }
-    ensures means { AreMeansIn model.now below.now column i advisory result }
-    ensures bounded { (most : ℕ) (side : Side) → AreWithin most side below.now
+        → AreMeansIn over.now.model.now over.now.below.now column i b (pair_at earlier.now b) }
+    ensures means { AreMeansIn over.now.model.now over.now.below.now column i advisory result }
+    ensures bounded { (most : ℕ) (side : Side) → AreWithin most side over.now.below.now
         → unsigned_abs (value_of side result) ≤ most }
 {
-    let grid = model.grid();
+    let grid = over.model.grid();
     match source {
         Source::Twin(twin) => earlier[usize::from(twin)],
         Source::Sums => {
@@ -115,27 +102,27 @@ fn mean_pair_from(
                 upper: uppers[i as usize],
                 lower: lowers[i as usize],
             };
-            means_of_sums(sums, stencils.total, reach.size)
+            means_of_sums(sums, over.stencils.total, over.reach.size)
         }
-        Source::Wide => wide_means(model, stencils, reach, column, i, advisory, below),
+        Source::Wide => wide_means(over, column, i, advisory),
         Source::Layer => {
             let vertex = vertex_in_column(grid, column, i);
             Pair {
                 upper: mean_by::<Up, Stencils>(
-                    model,
-                    stencils,
+                    over.model,
+                    over.stencils,
                     vertex,
                     advisory,
                     Side::Upper,
-                    below,
+                    over.below,
                 ),
                 lower: mean_by::<Down, Stencils>(
-                    model,
-                    stencils,
+                    over.model,
+                    over.stencils,
                     vertex,
                     advisory,
                     Side::Lower,
-                    below,
+                    over.below,
                 ),
             }
         }
@@ -155,40 +142,33 @@ fn set_pair(pairs: &mut VertexMeans, advisory: u8, pair: Pair)
 
 /// Writes both means at the vertices of a column under an advisory, where those under the earlier advisories stand already.
 pub(crate) fn fill_advisory(
-    model: &Model,
-    stencils: &Stencils,
-    reach: Reach,
+    over: &MeansOver<'_>,
     column: u32,
     changes: &Changes,
     advisory: u8,
     source: Source,
-    below: &[Pair],
     uppers: &SideColumn,
     lowers: &SideColumn,
     means: &mut ColumnMeans,
 )
-    requires column { HasColumn model.now stencils.now below.now reach column advisory }
-    requires changes { AreColumnChanges model.now column changes.now }
-    requires source { IsSource model.now below.now reach changes.now column advisory uppers.now lowers.now
-        source }
-    requires earlier { (i b : ℕ) → i < length model.now.grid.h → b < advisory
-        → AreMeansIn model.now below.now column i b (pair_at (pairs_at means.old i) b) }
-    ensures means { (i b : ℕ) → i < length model.now.grid.h → b < advisory + 1
-        → AreMeansIn model.now below.now column i b (pair_at (pairs_at means.new i) b) }
-    ensures bounded { (most : ℕ) (side : Side) → AreWithin most side below.now
+    requires column { HasColumn over.now column advisory }
+    requires changes { AreColumnChanges over.now.model.now column changes.now }
+    requires source { IsSource over.now changes.now column advisory uppers.now lowers.now source }
+    requires earlier { (i b : ℕ) → i < length over.now.model.now.grid.h → b < advisory
+        → AreMeansIn over.now.model.now over.now.below.now column i b (pair_at (pairs_at means.old i) b) }
+    ensures means { (i b : ℕ) → i < length over.now.model.now.grid.h → b < advisory + 1
+        → AreMeansIn over.now.model.now over.now.below.now column i b (pair_at (pairs_at means.new i) b) }
+    ensures bounded { (most : ℕ) (side : Side) → AreWithin most side over.now.below.now
         → AreAllWithin most side means.old → AreAllWithin most side means.new }
 {
-    for i in 0..model.grid().h.len() {
+    for i in 0..over.model.grid().h.len() {
         let pair = mean_pair_from(
-            model,
-            stencils,
-            reach,
+            over,
             column,
             i,
             changes,
             advisory,
             source,
-            below,
             uppers,
             lowers,
             &means[i as usize],

@@ -2,6 +2,7 @@
 ghost use Rattle.acas_step_stencils.specs.Stencils.{AreStencilsOf};
 
 use crate::columns::{fill_advisory, source_of};
+use crate::over::MeansOver;
 use acas_base::Model;
 use acas_means::{ColumnMeans, LayerMeans, Reach, advisory_count};
 use acas_step::{changes_from, own_rate_at};
@@ -33,7 +34,12 @@ impl LayerMeans for StencilMeans {
         means: &mut ColumnMeans,
     ) {
         let _ = model.grid();
-        let stencils = &self.stencils;
+        let over = MeansOver {
+            model,
+            stencils: &self.stencils,
+            below,
+            reach,
+        };
         let changes = changes_from(model, own_rate_at(model, column));
         let mut blend_uppers = [0u64; GREATEST_VERTICES as usize];
         let mut blend_lowers = [0u64; GREATEST_VERTICES as usize];
@@ -41,21 +47,17 @@ impl LayerMeans for StencilMeans {
         let mut lowers = [0u64; GREATEST_VERTICES as usize];
         for advisory in 0..advisory_count(model) {
             let source = source_of(
-                model,
-                stencils,
-                reach,
+                &over,
                 column,
                 &changes,
                 advisory,
-                below,
                 &mut blend_uppers,
                 &mut blend_lowers,
                 &mut uppers,
                 &mut lowers,
             );
             fill_advisory(
-                model, stencils, reach, column, &changes, advisory, source, below, &uppers,
-                &lowers, means,
+                &over, column, &changes, advisory, source, &uppers, &lowers, means,
             );
         }
     }

@@ -9,7 +9,7 @@ use Rattle.acas_grid.specs.States.{vertex_at}
 use Rattle.acas_process.specs.Step.{moved}
 use Rattle.acas_frac.specs.Divisor.{IsDivisor}
 use Rattle.acas_frac.specs.declared.divisor.Divisor.{Divisor}
-use Rattle.acas_means.specs.Columns.{columns}
+use Rattle.acas_means.specs.Columns.{columns, vertex_in}
 use Rattle.acas_step.specs.Second.{led_past}
 use Rattle.acas_grid_units.specs.Heights.{AreHeights, IsEvenGap, IsInGaps}
 use Rattle.acas_grid_units.specs.Units.{AreUnits, IsAbove}
@@ -19,6 +19,7 @@ use Rattle.acas_step_stencils.specs.declared.column_stencils.ColumnStencil.{Colu
 use Rattle.acas_step_stencils.specs.declared.stencils.CellSize.{CellSize}
 use Rattle.acas_step_stencils.specs.declared.stencils.Rise.{Rise}
 use Rattle.acas_step_stencils.specs.declared.stencils.Stencil.{Stencil}
+use Rattle.acas_step_stencils.specs.declared.stencils.StencilKey.{StencilKey}
 use Rattle.acas_step_stencils.specs.declared.stencils.Stencils.{Stencils}
 use Rattle.acas_step_stencils.specs.declared.vertex_cells.VertexCell.{VertexCell}
 
@@ -88,26 +89,28 @@ pub record AreStencilsOf (m : ModelData) (s : Stencils) : Type 0 where
   pub total : IsDivisor s.total
   pub by : s.total.by ≡ total_weight m
 
--- stencils are those of a model, and have one of a sigma point at a column under an advisory, by their numbers
-pub record HaveStencil (m : ModelData) (s : Stencils) (c a k : ℕ) : Type 0 where
-  pub stencils : AreStencilsOf m s
-  pub horizon : 0 < m.grid.horizon
-  pub column : c < columns m.grid
-  pub advisory : a < m.grid.advisories
-  pub sigma : k < length m.sigmas
-
--- the same of a vertex in place of a column
-pub record HaveVertex (m : ModelData) (s : Stencils) (x a k : ℕ) : Type 0 where
-  pub stencils : AreStencilsOf m s
-  pub horizon : 0 < m.grid.horizon
-  pub vertex : x < vertices m.grid
-  pub advisory : a < m.grid.advisories
-  pub sigma : k < length m.sigmas
-
 -- stencils are those of a model, and there is a second to go
 pub record AreUsable (m : ModelData) (s : Stencils) : Type 0 where
   pub stencils : AreStencilsOf m s
   pub horizon : 0 < m.grid.horizon
+
+-- usable stencils have the one of a key
+pub record HaveStencil (m : ModelData) (s : Stencils) (key : StencilKey) : Type 0 where
+  pub usable : AreUsable m s
+  pub column : key.column < columns m.grid
+  pub advisory : key.advisory < m.grid.advisories
+  pub sigma : key.sigma < length m.sigmas
+
+-- usable stencils have one of a vertex, an advisory and a sigma point, by their numbers
+pub record HaveVertex (m : ModelData) (s : Stencils) (x a k : ℕ) : Type 0 where
+  pub usable : AreUsable m s
+  pub vertex : x < vertices m.grid
+  pub advisory : a < m.grid.advisories
+  pub sigma : k < length m.sigmas
+
+-- the point to which the stencil of a key leads from the vertex of its column at a place of the altitudes
+abbrev pub point_from : ModelData → StencilKey → ℕ → Point
+point_from m key i = moved m (vertex_at m.grid (vertex_in m.grid key.column i)) key.advisory key.sigma
 
 -- a divisor is the whole weight of the cell above the vertex of a number
 pub record IsDivisorAbove (g : GridData) (u : Units) (n : ℕ) (d : Divisor) : Type 0 where
@@ -117,9 +120,9 @@ pub record IsDivisorAbove (g : GridData) (u : Units) (n : ℕ) (d : Divisor) : T
 pub record IsSizeAbove (g : GridData) (u : Units) (n : ℕ) (s : CellSize) : Type 0 where
   pub above : (c : VertexCell) × IsVertexCell g u (vertex_at g n) c × (c.h ≡ s.gap) × (c.divisor ≡ s.divisor)
 
--- the stencil of a sigma point at a column under an advisory, by their numbers, its climb in gaps of the altitudes, and the whole weight of
--- the cell above the lowest vertex of the column that it leads to
-pub record IsRise (m : ModelData) (s : Stencils) (c a k : ℕ) (r : Rise) : Type 0 where
-  pub led : IsStencilOf m s.units c a k r.led
+-- the stencil of a key, its climb in gaps of the altitudes, and the whole weight of the cell above the lowest vertex of the column that it
+-- leads to
+pub record IsRise (m : ModelData) (s : Stencils) (key : StencilKey) (r : Rise) : Type 0 where
+  pub led : IsStencilOf m s.units key.column key.advisory key.sigma r.led
   pub climb : IsInGaps s.even r.led.climb r.climb
   pub divisor : IsDivisorAbove m.grid s.units r.led.column r.divisor

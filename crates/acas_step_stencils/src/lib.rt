@@ -6,4 +6,4 @@ mod stencil_corners;
 mod stencils;
 mod vertex_cells;
 
-pub use stencils::{Rise, Stencils};
+pub use stencils::{Rise, StencilKey, Stencils};

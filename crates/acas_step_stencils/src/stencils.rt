@@ -11,7 +11,7 @@ ghost use Rattle.acas_step.specs.Corners.{AreCorners, IsInterpolation, IsWeighti
 ghost use Rattle.acas_step.specs.Ends.{FitsGrid, IsEnds, IsRound};
 ghost use Rattle.acas_grid_units.specs.Units.{IsAbove, AreUnits};
 ghost use Rattle.acas_grid_units.specs.Heights.{IsLedTo};
-ghost use Rattle.acas_step_stencils.specs.Stencils.{AreStencilsOf, HaveStencil, HaveVertex, IsDivisorAbove, IsRise, IsSizeAbove, IsStencil, IsStencilOf};
+ghost use Rattle.acas_step_stencils.specs.Stencils.{AreStencilsOf, HaveStencil, HaveVertex, IsDivisorAbove, IsRise, IsSizeAbove, IsStencil, IsStencilOf, point_from};
 ghost use Rattle.acas_step_stencils.specs.Cells.{HoldsRates, IsUnitCell, IsVertexCell};
 
 use crate::column_stencils::{ColumnStencil, count_of, fill_in_units};
@@ -35,6 +35,14 @@ pub(crate) struct Stencil {
     h: u32,
     v0: u32,
     v1: u32,
+}
+
+/// By what a stencil is found: the column from which it leads, the advisory under which it does, and its sigma point, by their numbers.
+#[derive(Clone, Copy)]
+pub struct StencilKey {
+    pub column: u32,
+    pub advisory: u8,
+    pub sigma: u32,
 }
 
 /// The stencil of a column, with its climb in gaps of the altitudes, and the whole weight of the cell above the lowest vertex of the column
@@ -184,36 +192,34 @@ impl Stencils {
         })
     }
 
-    // The stencil of a sigma point at a column under an advisory.
-    fn in_column(&self, model: &Model, column: u32, advisory: u8, sigma: u32) -> ColumnStencil
-        requires { HaveStencil model.now self.now column advisory sigma }
-        ensures { IsStencilOf model.now self.now.units column advisory sigma result }
+    // The stencil of a key.
+    fn in_column(&self, model: &Model, key: StencilKey) -> ColumnStencil
+        requires { HaveStencil model.now self.now key }
+        ensures { IsStencilOf model.now self.now.units key.column key.advisory key.sigma result }
     {
-        let row = u32::from(advisory) * column_count(model.grid()) + column;
-        self.stencils[row as usize * model.points().len() + sigma as usize]
+        let row = u32::from(key.advisory) * column_count(model.grid()) + key.column;
+        self.stencils[row as usize * model.points().len() + key.sigma as usize]
     }
 
-    // The stencil of a sigma point at the vertex of a column under an advisory, at a place of the altitudes.
-    fn stencil(&self, model: &Model, column: u32, i: u32, advisory: u8, sigma: u32) -> Stencil
-        requires stencil { HaveStencil model.now self.now column advisory sigma }
+    // The stencil of a key from the vertex of its column at a place of the altitudes.
+    fn stencil(&self, model: &Model, key: StencilKey, i: u32) -> Stencil
+        requires stencil { HaveStencil model.now self.now key }
         requires place { i < length model.now.grid.h }
-        ensures { let x = numbers.vertex_at model.now.grid (vertex_in model.now.grid column i) in
-            IsStencil model.now.grid self.now.units (process.moved model.now x advisory sigma) result }
+        ensures { IsStencil model.now.grid self.now.units (point_from model.now key i) result }
     {
         let grid = model.grid();
-        let led = self.in_column(model, column, advisory, sigma);
+        let led = self.in_column(model, key);
         let at = place_by_search(&self.heights, i, led.climb);
         stencil_of(grid, led, at)
     }
 
-    /// What the cells of all vertices of a column follow from, for a sigma point under an advisory: to be formed once for the column, with
-    /// the one division that it takes.
-    pub fn rise(&self, model: &Model, column: u32, advisory: u8, sigma: u32) -> Rise
-        requires { HaveStencil model.now self.now column advisory sigma }
-        ensures { IsRise model.now self.now column advisory sigma result }
+    /// What the cells of all vertices of a key's column follow from: to be formed once for the column, with the one division that it takes.
+    pub fn rise(&self, model: &Model, key: StencilKey) -> Rise
+        requires { HaveStencil model.now self.now key }
+        ensures { IsRise model.now self.now key result }
     {
         let _ = model.grid();
-        let led = self.in_column(model, column, advisory, sigma);
+        let led = self.in_column(model, key);
         Rise {
             led,
             climb: climb_in_gaps(led.climb, self.even),
@@ -221,19 +227,11 @@ impl Stencils {
         }
     }
 
-    // The place of the altitude to which a sigma point leads from the vertex of a column under an advisory, by the rise of the column.
-    fn place_risen(
-        &self,
-        model: &Model,
-        column: u32,
-        i: u32,
-        advisory: u8,
-        sigma: u32,
-        rise: Rise,
-    ) -> HeightPlace
-        requires stencil { HaveStencil model.now self.now column advisory sigma }
+    // The place of the altitude to which the stencil of a key leads from the vertex of its column at a place of the altitudes, by its rise.
+    fn place_risen(&self, model: &Model, key: StencilKey, i: u32, rise: Rise) -> HeightPlace
+        requires stencil { HaveStencil model.now self.now key }
         requires place { i < length model.now.grid.h }
-        requires rise { IsRise model.now self.now column advisory sigma rise }
+        requires rise { IsRise model.now self.now key rise }
         ensures { (x : ℕ) × IsLedTo self.now.heights.items i rise.led.climb x result }
     {
         let _ = model.grid();
@@ -272,54 +270,45 @@ impl Stencils {
     {
         let grid = model.grid();
         let columns = column_count(grid);
-        let stencil = self.stencil(model, vertex % columns, vertex / columns, advisory, sigma);
+        let key = StencilKey {
+            column: vertex % columns,
+            advisory,
+            sigma,
+        };
+        let stencil = self.stencil(model, key, vertex / columns);
         cell_of_stencil(grid, self.units, stencil)
     }
 
-    /// The cell in units to which a sigma point leads from the vertex of a column at a place of the altitudes within a second under an
-    /// advisory, with no division.
-    pub fn unit_cell(
-        &self,
-        model: &Model,
-        column: u32,
-        i: u32,
-        advisory: u8,
-        sigma: u32,
-    ) -> UnitCell
-        requires stencil { HaveStencil model.now self.now column advisory sigma }
+    /// The cell in units to which the stencil of a key leads from the vertex of its column at a place of the altitudes, with no division.
+    pub fn unit_cell(&self, model: &Model, key: StencilKey, i: u32) -> UnitCell
+        requires stencil { HaveStencil model.now self.now key }
         requires place { i < length model.now.grid.h }
-        ensures { let x = numbers.vertex_at model.now.grid (vertex_in model.now.grid column i) in
-            IsUnitCell model.now.grid self.now.units (process.moved model.now x advisory sigma) result }
+        ensures { IsUnitCell model.now.grid self.now.units (point_from model.now key i) result }
     {
-        let stencil = self.stencil(model, column, i, advisory, sigma);
+        let stencil = self.stencil(model, key, i);
         let above = self.cells[stencil.base as usize];
         unit_cell_of(model.grid(), self.units, above, stencil)
     }
 
-    /// The cell in units to which a sigma point leads from the vertex of a column at a place of the altitudes within a second under an
-    /// advisory, by the rise of the column and where the rates are in a cell that is known.
+    /// What `unit_cell` gives, by the rise of a key's stencil and where the rates are in a cell that is known.
     pub fn cell_at_rates(
         &self,
         model: &Model,
-        column: u32,
+        key: StencilKey,
         i: u32,
-        advisory: u8,
-        sigma: u32,
         rise: Rise,
         rates: &Cell,
     ) -> UnitCell
-        requires stencil { HaveStencil model.now self.now column advisory sigma }
+        requires stencil { HaveStencil model.now self.now key }
         requires place { i < length model.now.grid.h }
-        requires rise { IsRise model.now self.now column advisory sigma rise }
-        requires rates { let x = numbers.vertex_at model.now.grid (vertex_in model.now.grid column i) in
-            HoldsRates model.now.grid self.now.units (process.moved model.now x advisory sigma) rates.now }
-        ensures cell { let x = numbers.vertex_at model.now.grid (vertex_in model.now.grid column i) in
-            IsUnitCell model.now.grid self.now.units (process.moved model.now x advisory sigma) result }
+        requires rise { IsRise model.now self.now key rise }
+        requires rates { HoldsRates model.now.grid self.now.units (point_from model.now key i) rates.now }
+        ensures cell { IsUnitCell model.now.grid self.now.units (point_from model.now key i) result }
         ensures v0 { result.cell.v0 ≡ rates.now.v0 }
         ensures v1 { result.cell.v1 ≡ rates.now.v1 }
     {
         let grid = model.grid();
-        let at = self.place_risen(model, column, i, advisory, sigma, rise);
+        let at = self.place_risen(model, key, i, rise);
         let base = vertex_in_column(grid, rise.led.column, at.place);
         let size = self.size_above(model, base, rise);
         UnitCell {

@@ -15,9 +15,9 @@ invariant-loop-i l = record {
   long_upper : length l.uppers ≡ 129;
   long_lower : length l.lowers ≡ 129;
   others : (i : ℕ) → l.i ≤ i → raised_in l.uppers l.lowers i ≡ raised_in l.initial.uppers l.initial.lowers i;
-  within : (i : ℕ) → i < l.i → AreRaisedWithin (2 * l.reach.size * weights_below l.model (l.sigma + 1)) (raised_in l.uppers l.lowers i);
-  sums : (below : List Pair) → length below ≡ states l.model.grid → AreWithin l.reach.size Upper below → AreWithin l.reach.size Lower below
-      → AreBlends l.model.grid l.rates (l.advisory * vertices l.model.grid) l.reach.size below l.blend_uppers l.blend_lowers
-      → AreColumnSums l.model below l.reach.size l.column l.advisory l.sigma l.initial.uppers l.initial.lowers
-      → (i : ℕ) → i < l.i → AreRaisedSums l.model below l.reach.size (vertex_at l.model.grid (vertex_in l.model.grid l.column i)) l.advisory (l.sigma + 1) (raised_in l.uppers l.lowers i);
+  within : (i : ℕ) → i < l.i → AreRaisedWithin (2 * l.over.reach.size * weights_below l.over.model.now (l.key.sigma + 1)) (raised_in l.uppers l.lowers i);
+  sums : (below : List Pair) → length below ≡ states l.over.model.now.grid → AreWithin l.over.reach.size Upper below → AreWithin l.over.reach.size Lower below
+      → AreBlends l.over.model.now.grid l.rates (l.key.advisory * vertices l.over.model.now.grid) l.over.reach.size below l.blend_uppers l.blend_lowers
+      → AreColumnSums l.over.model.now below l.over.reach.size l.key.column l.key.advisory l.key.sigma l.initial.uppers l.initial.lowers
+      → (i : ℕ) → i < l.i → AreRaisedSums l.over.model.now below l.over.reach.size (vertex_at l.over.model.now.grid (vertex_in l.over.model.now.grid l.key.column i)) l.key.advisory (l.key.sigma + 1) (raised_in l.uppers l.lowers i);
 }

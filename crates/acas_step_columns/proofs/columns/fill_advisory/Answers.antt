@@ -14,20 +14,20 @@ use Rattle.acas_step_columns.proofs.columns.fill_advisory.Goals as goal
 
 pub mean_pair_from-pair-requires-clause-earlier : goal.mean_pair_from-pair-requires-clause-earlier
 mean_pair_from-pair-requires-clause-earlier c =
-    let here : c.loop-i.i < length c.args.model.now.grid.h = omega (arith, c.loop-i-test.true, c.len-i-end.ensures.value, ap (λ (g : GridData). length g.h) c.behind-model.view_is, ap (λ (g : GridData). length g.h) c.grid.ensures.value) in
+    let here : c.loop-i.i < length c.args.over.now.model.now.grid.h = omega (arith, c.loop-i-test.true, c.len-i-end.ensures.value, ap (λ (g : GridData). length g.h) c.behind-over.view_is, ap (λ (g : GridData). length g.h) c.grid.ensures.value) in
     λ b below. c.loop-i.invariant.earlier c.loop-i.i b here below
 
 pub loop-i-preserved : goal.loop-i-preserved
 loop-i-preserved c =
-    let m = c.args.model.now in
+    let m = c.args.over.now.model.now in
     let a = c.args.advisory in
     let i = c.loop-i.i in
     let lists : List (List Pair) = c.loop-i.means in
     let pairs : List Pair = c.set_pair.new.pairs in
     let so_far = c.loop-i.invariant in
-    let end : c.len-i-end.result ≡ length m.grid.h = c.len-i-end.ensures.value ∙ ap (λ (g : GridData). length g.h) c.behind-model.view_is ∙ ap (λ (g : GridData). length g.h) c.grid.ensures.value in
+    let end : c.len-i-end.result ≡ length m.grid.h = c.len-i-end.ensures.value ∙ ap (λ (g : GridData). length g.h) c.behind-over.view_is ∙ ap (λ (g : GridData). length g.h) c.grid.ensures.value in
     let inside : i < length lists = omega (arith, c.loop-i-test.true, so_far.long, end, c.grid.ensures.valid.grid.altitudes.at_most) in
-    let P : ℕ → ℕ → Pair → Type 0 = λ j b p. AreMeansAt m c.args.below.now (vertex_at m.grid (vertex_in m.grid c.args.column j)) b p in
+    let P : ℕ → ℕ → Pair → Type 0 = λ j b p. AreMeansAt m c.args.over.now.below.now (vertex_at m.grid (vertex_in m.grid c.args.column j)) b p in
     record {
       long = length-set lists i pairs ∙ so_far.long;
       earlier = earlier_kept P (length m.grid.h) i a lists pairs inside c.set_pair.ensures.others so_far.earlier;
@@ -39,12 +39,12 @@ loop-i-preserved c =
 
 pub returns-clause-means : goal.returns-clause-means
 returns-clause-means c =
-    let m = c.args.model.now in
+    let m = c.args.over.now.model.now in
     let so_far = c.loop-i.invariant in
     let lists : List (List Pair) = c.loop-i.means in
-    let end : c.len-i-end.result ≡ length m.grid.h = c.len-i-end.ensures.value ∙ ap (λ (g : GridData). length g.h) c.behind-model.view_is ∙ ap (λ (g : GridData). length g.h) c.grid.ensures.value in
+    let end : c.len-i-end.result ≡ length m.grid.h = c.len-i-end.ensures.value ∙ ap (λ (g : GridData). length g.h) c.behind-over.view_is ∙ ap (λ (g : GridData). length g.h) c.grid.ensures.value in
     λ i b here below. ⊎_elim
     (λ (l : b < c.args.advisory). so_far.earlier i b here l)
-    (λ (at : b ≡ c.args.advisory). subst (λ (k : ℕ). AreMeansAt m c.args.below.now (vertex_at m.grid (vertex_in m.grid c.args.column i)) k (pair_at (pairs_at lists i) k)) (sym at)
+    (λ (at : b ≡ c.args.advisory). subst (λ (k : ℕ). AreMeansAt m c.args.over.now.below.now (vertex_at m.grid (vertex_in m.grid c.args.column i)) k (pair_at (pairs_at lists i) k)) (sym at)
     (so_far.formed i (omega (arith, c.loop-i-test.false, end, here))))
     (below_or_at b c.args.advisory below)

@@ -15,43 +15,43 @@ use Rattle.acas_step_columns.proofs.columns.mean_pair_from.Goals as goal
 
 pub returns-in-Twin-clause-means : goal.returns-in-Twin-clause-means
 returns-in-Twin-clause-means c =
-    let m = c.args.model.now in
-    let below = c.args.below.now in
+    let m = c.args.over.now.model.now in
+    let below = c.args.over.now.below.now in
     let x = vertex_at m.grid (vertex_in m.grid c.args.column c.args.i) in
     let a = c.args.advisory in
     let twin = c.in-Twin.twin in
     let changes = c.args.changes.now in
     let pair : Pair = pair_at c.args.earlier.now c.from.result in
-    let from : IsSource m below c.args.reach changes c.args.column a c.args.uppers.now c.args.lowers.now (Twin twin) =
-    subst (λ (s : Source). IsSource m below c.args.reach changes c.args.column a c.args.uppers.now c.args.lowers.now s) c.in-Twin.is c.requires.source in
+    let from : IsSource c.args.over.now changes c.args.column a c.args.uppers.now c.args.lowers.now (Twin twin) =
+    subst (λ (s : Source). IsSource c.args.over.now changes c.args.column a c.args.uppers.now c.args.lowers.now s) c.in-Twin.is c.requires.source in
     let formed : AreMeansAt m below x twin pair = subst (λ (k : ℕ). AreMeansAt m below x twin (pair_at c.args.earlier.now k)) (sym c.from.ensures) (c.requires.earlier twin from.0) in
-    means_of_twin m below c.args.reach.likes changes c.args.column c.args.i a twin pair c.requires.column.column c.requires.place c.requires.column.reach.likes c.requires.changes c.requires.column.advisory
+    means_of_twin m below c.args.over.now.reach.likes changes c.args.column c.args.i a twin pair c.requires.column.column c.requires.place c.requires.column.reach.likes c.requires.changes c.requires.column.advisory
     (omega (arith, from.0, c.requires.column.advisory)) from.1 from.2 formed
 
 pub returns-in-Twin-clause-bounded : goal.returns-in-Twin-clause-bounded
 returns-in-Twin-clause-bounded c = λ most side within.
-    let m = c.args.model.now in
-    means_bounded m c.args.below.now (vertex_at m.grid (vertex_in m.grid c.args.column c.args.i)) c.args.advisory (pair_at c.args.earlier.now c.from.result) most side
+    let m = c.args.over.now.model.now in
+    means_bounded m c.args.over.now.below.now (vertex_at m.grid (vertex_in m.grid c.args.column c.args.i)) c.args.advisory (pair_at c.args.earlier.now c.from.result) most side
     c.grid-grid.ensures.valid c.requires.column.advisory c.requires.column.below (returns-in-Twin-clause-means c) within
 
 pub returns-in-Sums-clause-means : goal.returns-in-Sums-clause-means
 returns-in-Sums-clause-means c =
-    let m = c.args.model.now in
-    let below = c.args.below.now in
-    let from : IsSource m below c.args.reach c.args.changes.now c.args.column c.args.advisory c.args.uppers.now c.args.lowers.now Sums =
-    subst (λ (s : Source). IsSource m below c.args.reach c.args.changes.now c.args.column c.args.advisory c.args.uppers.now c.args.lowers.now s) c.in-Sums.is c.requires.source in
-    means_of_all m below c.args.reach.size c.args.stencils.now.total.by (vertex_at m.grid (vertex_in m.grid c.args.column c.args.i)) c.args.advisory
-    (raised_in c.args.uppers.now c.args.lowers.now c.args.i) c.means_of_sums.result c.requires.column.stencils.by (from.1.each c.args.i c.requires.place)
+    let m = c.args.over.now.model.now in
+    let below = c.args.over.now.below.now in
+    let from : IsSource c.args.over.now c.args.changes.now c.args.column c.args.advisory c.args.uppers.now c.args.lowers.now Sums =
+    subst (λ (s : Source). IsSource c.args.over.now c.args.changes.now c.args.column c.args.advisory c.args.uppers.now c.args.lowers.now s) c.in-Sums.is c.requires.source in
+    means_of_all m below c.args.over.now.reach.size c.args.over.now.stencils.now.total.by (vertex_at m.grid (vertex_in m.grid c.args.column c.args.i)) c.args.advisory
+    (raised_in c.args.uppers.now c.args.lowers.now c.args.i) c.means_of_sums.result c.requires.column.usable.stencils.by (from.1.each c.args.i c.requires.place)
     c.means_of_sums.ensures.upper c.means_of_sums.ensures.lower
 
 pub returns-in-Sums-clause-bounded : goal.returns-in-Sums-clause-bounded
 returns-in-Sums-clause-bounded c = λ most side within.
-    let m = c.args.model.now in
-    means_bounded m c.args.below.now (vertex_at m.grid (vertex_in m.grid c.args.column c.args.i)) c.args.advisory c.means_of_sums.result most side
+    let m = c.args.over.now.model.now in
+    means_bounded m c.args.over.now.below.now (vertex_at m.grid (vertex_in m.grid c.args.column c.args.i)) c.args.advisory c.means_of_sums.result most side
     c.grid-grid.ensures.valid c.requires.column.advisory c.requires.column.below (returns-in-Sums-clause-means c) within
 
 pub returns-in-Wide-clause-bounded : goal.returns-in-Wide-clause-bounded
 returns-in-Wide-clause-bounded c = λ most side within.
-    let m = c.args.model.now in
-    means_bounded m c.args.below.now (vertex_at m.grid (vertex_in m.grid c.args.column c.args.i)) c.args.advisory c.wide_means.result most side
+    let m = c.args.over.now.model.now in
+    means_bounded m c.args.over.now.below.now (vertex_at m.grid (vertex_in m.grid c.args.column c.args.i)) c.args.advisory c.wide_means.result most side
     c.grid-grid.ensures.valid c.requires.column.advisory c.requires.column.below c.wide_means.ensures within

@@ -6,4 +6,4 @@ use Rattle.acas_step_columns.proofs.wide_means.wide_sums.Given as goal
 
 abbrev pub invariant-loop-sigma : goal.invariant-loop-sigma
 invariant-loop-sigma l =
-    AreRaisedSums l.model l.below l.reach.size (vertex_at l.model.grid (vertex_in l.model.grid l.column l.i)) l.advisory l.sigma (as_raised l.sums)
+    AreRaisedSums l.over.model.now l.over.below.now l.over.reach.size (vertex_at l.over.model.now.grid (vertex_in l.over.model.now.grid l.column l.i)) l.advisory l.sigma (as_raised l.sums)

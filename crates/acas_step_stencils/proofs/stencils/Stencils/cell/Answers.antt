@@ -17,10 +17,9 @@ stencil-stencil-requires-clause-stencil c =
     let inside : v < length m.grid.h * columns m.grid = omega (arith, c.requires.vertex, all_columns m.grid) in
     let width = some_width (length m.grid.h) (columns m.grid) v inside in
     let wide : c.column_count-columns.result ≡ columns m.grid = c.column_count-columns.ensures ∙ ap columns c.grid-grid.ensures.value in
-    subst (λ (w : ℕ). HaveStencil m c.args.self.now (v % w) c.args.advisory c.args.sigma) (sym wide)
+    subst (λ (w : ℕ). HaveStencil m c.args.self.now (record { column = v % w; advisory = c.args.advisory; sigma = c.args.sigma })) (sym wide)
     (record {
-      stencils = c.requires.stencils;
-      horizon = c.requires.horizon;
+      usable = c.requires.usable;
       column = mod_below v (columns m.grid) width;
       advisory = c.requires.advisory;
       sigma = c.requires.sigma;

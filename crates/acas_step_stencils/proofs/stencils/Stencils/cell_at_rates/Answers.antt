@@ -17,7 +17,7 @@ use Rattle.acas_step_stencils.proofs.stencils.Stencils.cell_at_rates.Goals.{Afte
 
 -- the point to which the second leads
 abbrev point : After-size_above-size → Point
-point c = moved c.args.model.now (vertex_at c.args.model.now.grid (vertex_in c.args.model.now.grid c.args.column c.args.i)) c.args.advisory c.args.sigma
+point c = moved c.args.model.now (vertex_at c.args.model.now.grid (vertex_in c.args.model.now.grid c.args.key.column c.args.i)) c.args.key.advisory c.args.key.sigma
 
 -- its stencil
 abbrev stencil : After-size_above-size → Stencil
@@ -30,9 +30,9 @@ stencil-is : (c : After-size_above-size) → IsStencil c.args.model.now.grid c.a
 stencil-is c =
     let m = c.args.model.now in
     let all = c.args.self.now in
-    let are = c.requires.stencil.stencils in
+    let are = c.requires.stencil.usable.stencils in
     let led = c.place_risen-at.ensures in
-    column-IsStencil m all.units all.heights.items c.args.column c.args.i c.args.advisory c.args.sigma c.args.rise.led led.0 c.place_risen-at.result (stencil c) c.grid-grid.ensures.valid.grid are.units are.heights
+    column-IsStencil m all.units all.heights.items c.args.key.column c.args.i c.args.key.advisory c.args.key.sigma c.args.rise.led led.0 c.place_risen-at.result (stencil c) c.grid-grid.ensures.valid.grid are.units are.heights
     c.requires.stencil.column c.requires.place c.requires.rise.led led.1 (omega (arith, c.vertex_in_column-base.ensures.below, ap (λ (g : GridData). vertices g) c.grid-grid.ensures.value)) (base c) refl refl refl
 
 pub ends_in-requires : goal.ends_in-requires
@@ -43,7 +43,7 @@ ends_in-requires c =
     let n = c.vertex_in_column-base.result in
     let above = c.size_above-size.ensures.above in
     let is = stencil-is c in
-    let within = offset_at_rates g u (point c) (stencil c) t n above.0 c.requires.stencil.stencils.units is (base_at_rates g u (point c) (stencil c) t is c.requires.rates) above.1 in
+    let within = offset_at_rates g u (point c) (stencil c) t n above.0 c.requires.stencil.usable.stencils.units is (base_at_rates g u (point c) (stencil c) t is c.requires.rates) above.1 in
     omega (arith, within, above.2)
 
 pub returns-clause-cell : goal.returns-clause-cell
@@ -60,9 +60,9 @@ returns-clause-cell c =
     let x = point before in
     let s = stencil before in
     let is = stencil-is before in
-    let here : at.result.place < length g.h = omega (arith, at.ensures.1.cell.before_last, c.requires.stencil.stencils.heights.count) in
+    let here : at.result.place < length g.h = omega (arith, at.ensures.1.cell.before_last, c.requires.stencil.usable.stencils.heights.count) in
     let from = ap (vertex_at g) (base before) ∙ vertex_at-vertex_in g led.column at.result.place c.requires.rise.led.column here in
     let place : e.result.cell ≡ above.0.i = e.ensures.cell ∙ sym (above.1.i ∙ ap (λ (y : Vertex). y.i) from) in
     subst (λ (d : Divisor). IsUnitCell g u x (record { cell = record { h = e.result; v0 = t.v0; v1 = t.v1 }; base = n; divisor = d })) above.3
-    (cell_at_rates g u x s t n above.0 e.result c.grid-grid.ensures.valid.grid c.requires.stencil.stencils.units is c.requires.rates (base_at_rates g u x s t is c.requires.rates) above.1
+    (cell_at_rates g u x s t n above.0 e.result c.grid-grid.ensures.valid.grid c.requires.stencil.usable.stencils.units is c.requires.rates (base_at_rates g u x s t is c.requires.rates) above.1
     place (e.ensures.lower ∙ sym above.2) e.ensures.upper)

@@ -6,17 +6,17 @@ use Rattle.acas_step_stencils.proofs.stencils.Stencils.place_risen.Goals as goal
 
 pub place_after-requires-clause-some : goal.place_after-requires-clause-some
 place_after-requires-clause-some c =
-    omega (arith, ap (λ (hs : List ℕ). length hs) c.deref.ensures.value, c.requires.stencil.stencils.heights.count, c.grid.ensures.valid.grid.altitudes.at_least)
+    omega (arith, ap (λ (hs : List ℕ). length hs) c.deref.ensures.value, c.requires.stencil.usable.stencils.heights.count, c.grid.ensures.valid.grid.altitudes.at_least)
 
 pub place_after-requires-clause-short : goal.place_after-requires-clause-short
 place_after-requires-clause-short c =
-    omega (arith, ap (λ (hs : List ℕ). length hs) c.deref.ensures.value, c.requires.stencil.stencils.heights.count, c.grid.ensures.valid.grid.altitudes.at_most)
+    omega (arith, ap (λ (hs : List ℕ). length hs) c.deref.ensures.value, c.requires.stencil.usable.stencils.heights.count, c.grid.ensures.valid.grid.altitudes.at_most)
 
 pub place_after-requires-clause-first : goal.place_after-requires-clause-first
 place_after-requires-clause-first c =
     let m = c.args.model.now in
     let all = c.args.self.now in
-    let are = c.requires.stencil.stencils in
+    let are = c.requires.stencil.usable.stencils in
     ap (λ (hs : List ℕ). get_or hs 0 0) c.deref.ensures.value ∙ first_height m.grid.h all.units.h all.heights.items are.units.h (omega (arith, c.requires.place)) are.heights
 
 pub returns : goal.returns

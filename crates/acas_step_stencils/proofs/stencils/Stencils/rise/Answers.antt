@@ -15,7 +15,7 @@ lowest g column valid inside = omega (arith, vertex_in-below g column 0 inside (
 pub index-requires : goal.index-requires
 index-requires c =
     let led = c.in_column-led in
-    omega (arith, lowest c.args.model.now.grid led.result.column c.grid.ensures.valid.grid led.ensures.column, c.requires.stencils.cells.count)
+    omega (arith, lowest c.args.model.now.grid led.result.column c.grid.ensures.valid.grid led.ensures.column, c.requires.usable.stencils.cells.count)
 
 pub returns : goal.returns
 returns c =
@@ -29,5 +29,5 @@ returns c =
     record {
       led = led.ensures;
       climb = subst (λ z. IsInGaps all.even z c.climb_in_gaps.result) fits c.climb_in_gaps.ensures;
-      divisor = record { above = (above, vertex_cell-read g all.units all.cells.items led.result.column above c.requires.stencils.cells there c.index.ensures, refl) };
+      divisor = record { above = (above, vertex_cell-read g all.units all.cells.items led.result.column above c.requires.usable.stencils.cells there c.index.ensures, refl) };
     }
