@@ -4,8 +4,8 @@ use Rattle.acas_units.specs.declared.limits.TheConstants.{GREATEST_CLOSING, GREA
 use Rattle.acas_units.specs.declared.ticks.TheConstants.{TICKS_PER_FOOT}
 use Rattle.acas_spec.specs.Model.{ModelData}
 use Rattle.acas_print.specs.Printing.{below}
-use Rattle.acas_base.specs.Advices.{AdvicesData}
-use Rattle.acas_encounter.specs.Encounter.{EncounterData, intruder_at, own_at, seconds}
+use Rattle.acas_base.specs.Advices.{AdvicesData, AreAdvicesOf}
+use Rattle.acas_encounter.specs.Encounter.{EncounterData, IsEncounterOf, intruder_at, own_at, seconds}
 use Rattle.acas_encounter.specs.declared.limits.TheConstants.{GREATEST_ACCELERATION, GREATEST_START_RANGE}
 use Rattle.acas_process.specs.Axis.{tent}
 use Rattle.acas_second.specs.Contact.{HasContact}
@@ -52,9 +52,18 @@ pub record HasFlown (m : ModelData) (a : AdvicesData) (e : EncounterData) (k : �
 
 -- ---- of what is replayed
 
+-- the advices are those of the model, and the encounter is one that the model takes
+pub record IsReplayable (r : Replayed) : Type 0 where
+  pub advices : AreAdvicesOf r.model.now r.advices.now
+  pub encounter : IsEncounterOf r.model.now r.encounter.now
+
 -- the course of an encounter that is replayed
 abbrev pub IsCourseOf : Replayed → Course → Type 0
 IsCourseOf r c = IsCourse r.model.now r.advices.now r.encounter.now c
+
+-- so many of its seconds are in contact, whatever its course is
+abbrev pub HasContacts : Replayed → ℕ → Type 0
+HasContacts r count = (c : Course) → IsCourseOf r c → count ≡ contacts c (seconds r.encounter.now)
 
 -- what is found in its second of a number, which begins at a state
 abbrev pub IsFoundIn : Replayed → ℕ → EncounterState → Found → Type 0

@@ -1,5 +1,5 @@
 //! The advice that a table issues at a state.
-ghost use Rattle.std.specs.Prelude.{◌<◌, ◌≤◌, MatchOption};
+ghost use Rattle.std.specs.Prelude.{◌<◌, MatchOption};
 ghost use Rattle.acas_units.specs.declared.limits.TheConstants.{GREATEST_SECONDS};
 ghost use Rattle.acas_grid.specs.Grid.{IsInside};
 ghost use Rattle.acas_base.specs.Advices.{AreAdvicesOf};

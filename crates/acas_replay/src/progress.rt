@@ -1,5 +1,5 @@
 //! How far a replay is.
-ghost use Rattle.std.specs.Prelude.{◌≡◌, ◌+◌, ◌<◌, IsTrue, ◌↔◌};
+ghost use Rattle.std.specs.Prelude.{◌+◌, ◌<◌, IsTrue, ◌↔◌};
 ghost use Rattle.acas_base.specs.Advices.{AreAdvicesOf};
 ghost use Rattle.acas_encounter.specs.Encounter.{IsEncounterOf, seconds};
 ghost use Rattle.acas_second.specs.Contact.{HasContact};

@@ -1,12 +1,12 @@
 //! The replay of an encounter, line by line to a sink.
-ghost use Rattle.std.specs.Prelude.{◌≡◌, ◌+◌, ◌<◌, ◌≤◌, ◌++◌, ℕ, List, [], length, OnOk, OnErr, IfOk, IsErr, IsErrOf};
+ghost use Rattle.std.specs.Prelude.{◌≡◌, ◌+◌, ◌<◌, ◌++◌, ℕ, List, [], OnOk, OnErr, IfOk, IsErr, IsErrOf};
 ghost use Rattle.acas_base.specs.Advices.{AreAdvicesOf};
 ghost use Rattle.acas_encounter.specs.Encounter.{IsEncounterOf, seconds};
 ghost use Rattle.acas_outside.specs.Bytes.{Appends, AppendsPart};
 ghost use Rattle.acas_outside.specs.Frame.{Emits};
 ghost use Rattle.acas_print.specs.Printing.{Prints};
-ghost use Rattle.acas_replay.specs.Flown.{IsCourseOf, IsFlown, line_in, lines_in, text_in};
-ghost use Rattle.acas_replay.specs.Replay.{Course, IsReplay, contacts};
+ghost use Rattle.acas_replay.specs.Flown.{HasContacts, IsCourseOf, IsFlown, IsReplayable, line_in, lines_in, text_in};
+ghost use Rattle.acas_replay.specs.Replay.{Course, IsReplay};
 
 use crate::lines::{write_counts, write_line};
 use crate::progress::{Progress, Replayed};
@@ -55,11 +55,9 @@ pub fn replay<S: Sink>(
 
 // Writes the lines of all seconds, and then the counts, with a pen that has written nothing.
 fn write_whole<S: Sink>(replayed: &Replayed<'_>, sink: &mut S, pen: &mut Pen) -> Result<u32, Failed>
-    requires advices { AreAdvicesOf replayed.now.model.now replayed.now.advices.now }
-    requires encounter { IsEncounterOf replayed.now.model.now replayed.now.encounter.now }
+    requires replayable { IsReplayable replayed.now }
     requires empty { pen.old.buffer ≡ [] }
-    ensures counted { IfOk result (λ count. (c : Course) → IsCourseOf replayed.now c
-        → count ≡ contacts c (seconds replayed.now.encounter.now)) }
+    ensures counted { IfOk result (HasContacts replayed.now) }
     ensures ok { OnOk result ((c : Course) → IsCourseOf replayed.now c
         → Appends (S.written sink.old) (S.written sink.new) (text_in replayed.now c)) }
     ensures err { OnErr result ((c : Course) → IsCourseOf replayed.now c
@@ -78,10 +76,8 @@ fn write_seconds<S: Sink>(
     sink: &mut S,
     pen: &mut Pen,
 ) -> Result<u32, Failed>
-    requires advices { AreAdvicesOf replayed.now.model.now replayed.now.advices.now }
-    requires encounter { IsEncounterOf replayed.now.model.now replayed.now.encounter.now }
-    ensures counted { IfOk result (λ count. (c : Course) → IsCourseOf replayed.now c
-        → count ≡ contacts c (seconds replayed.now.encounter.now)) }
+    requires { IsReplayable replayed.now }
+    ensures counted { IfOk result (HasContacts replayed.now) }
     ensures ok { OnOk result ((c : Course) → IsCourseOf replayed.now c
         → Prints (S.written sink.old) (S.written sink.new) pen.old.buffer pen.new.buffer (lines_in replayed.now c)) }
     ensures err { OnErr result ((c : Course) → IsCourseOf replayed.now c

@@ -21,7 +21,6 @@ pub struct EncounterState {
 }
 
 impl EncounterState {
-    ghost use Rattle.acas_process.specs.Step.{after_second};
     ghost use Rattle.acas_replay.specs.States.{second_from, start_of, state_after};
     ghost use Rattle.acas_replay.specs.Flown.{IsReached};
 
