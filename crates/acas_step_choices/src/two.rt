@@ -11,18 +11,11 @@ use acas_base::Model;
 use acas_means::VertexMeans;
 use acas_units::{Entry, Pair};
 
-/// The pairs at two vertices.
+/// What is found at each of two vertices.
 #[derive(Clone, Copy)]
-pub(crate) struct TwoPairs {
-    pub(crate) first: Pair,
-    pub(crate) second: Pair,
-}
-
-/// The entries at two vertices.
-#[derive(Clone, Copy)]
-pub(crate) struct TwoEntries {
-    pub(crate) first: Entry,
-    pub(crate) second: Entry,
+pub(crate) struct Two<T> {
+    pub(crate) first: T,
+    pub(crate) second: T,
 }
 
 // The least upper and the least lower value of the choices in a list, at each of two vertices.
@@ -32,7 +25,7 @@ fn least_of_two(
     list: &PricedList,
     vertex_means: &VertexMeans,
     next_means: &VertexMeans,
-) -> TwoPairs
+) -> Two<Pair>
     requires priced { IsPricedAt model.now present list.now vertex_means.now }
     requires next { LeaveRoom model.now next_means.now }
     ensures first { IsLeast model.now vertex_means.now present (choices_at model.now present) result.first }
@@ -47,7 +40,7 @@ fn least_of_two(
         least = least_of(least, pair);
         next_least = least_of(next_least, next_pair);
     }
-    TwoPairs {
+    Two {
         first: least,
         second: next_least,
     }
@@ -61,7 +54,7 @@ pub(crate) fn best_of_two(
     vertex_means: &VertexMeans,
     next_means: &VertexMeans,
     count: &mut Backups,
-) -> TwoEntries
+) -> Two<Entry>
     requires priced { IsPricedAt model.now present list.now vertex_means.now }
     requires next { LeaveRoom model.now next_means.now }
     requires count { count.old + 2 * length (choices_at model.now present) < 2 ^ 64 }
@@ -73,7 +66,7 @@ pub(crate) fn best_of_two(
     count_formed(count, 2 * list.count);
     let advice = first_choice(model, present, list, vertex_means, least.first.upper);
     let next_advice = first_choice(model, present, list, next_means, least.second.upper);
-    TwoEntries {
+    Two {
         first: Entry {
             pair: least.first,
             advice,
