@@ -23,17 +23,6 @@ least-take f (c ∷ e ∷ rest) zero d some h = absurd (omega arith)
 least-take f (c ∷ e ∷ rest) (suc zero) d some h = refl
 least-take f (c ∷ e ∷ rest) (suc (suc i)) d some h = omega (arith, ints, clamps, least-take f (e ∷ rest) (suc i) d (omega arith) (omega arith))
 
-least-first : (f : ℕ → ℤ) (cs : List Choice) (d : Choice) → 0 < length cs → least f (take 1 cs) ≡ f (get_or cs 0 d).advisory
-least-first f [] d h = absurd (omega arith)
-least-first f (c ∷ rest) d h = refl
-
--- the values of the first choice are the least of the first one
-pub least_of_first : (m : ModelData) (means : List Pair) (p : ℕ) (cs : List Choice) (pair : Pair) → 0 < length cs → IsValued m means p (get_or cs 0 no_choice).advisory pair → IsLeast m means p (take 1 cs) pair
-least_of_first m means p cs pair some v = record {
-  upper = v.upper ∙ sym (least-first (value_by_mean m p (value_at Upper means)) cs no_choice some);
-  lower = v.lower ∙ sym (least-first (value_by_mean m p (value_at Lower means)) cs no_choice some);
-}
-
 -- a pair has the lesser values of two
 pub record IsLesser (pair later lesser : Pair) : Type 0 where
   pub upper : lesser.upper ≡ int_min pair.upper later.upper
