@@ -18,6 +18,10 @@ at present range place = record { present = present; range = range; closing = po
 abbrev pub steady : ℤ → ℤ → ℤ → Second
 steady range closing altitude = record { range = range; closing = closing; altitude = altitude; rate = pos 0; change = pos 0 }
 
+-- a second that begins 100 ticks below, at a relative rate of 5 ft/min that changes by 4
+abbrev pub changing : Second
+changing = record { range = pos 0; closing = pos 250; altitude = pos 100; rate = pos 5; change = pos 4 }
+
 -- Two seconds that start under climb at 1000 ft, 60 ticks below the intruder, at 5 and at 7 ft/min. In the first the own rate
 -- changes by 10 and the intruder's by 20.
 abbrev pub encounter : EncounterData

@@ -2,27 +2,14 @@
 ghost use Rattle.std.specs.Prelude.{◌≡◌, pos};
 ghost use Rattle.acas_second.specs.Contact.{HasContact, IsContactAt, separation};
 ghost use Rattle.acas_second.specs.Seconds.{near_fractions};
-ghost use Rattle.acas_second.specs.declared.second.Second.{Second};
 ghost use Rattle.acas_flight_examples.specs.Numbers.{minus};
-ghost use Rattle.acas_cell_examples.specs.Encounters.{steady};
+ghost use Rattle.acas_cell_examples.specs.Encounters.{changing, steady};
 
 /// In half a second a relative rate of 5 ft/min that changes by 4 in a second is 6 in the mean, which is 6 ticks: from 100 to 106, which
 /// is 424 over 4. In the whole second it is 7 in the mean, and 14 ticks.
 pub fn separations_are_worked_out()
-    ensures half { let s : Second = record {
-      range = pos 0;
-      closing = pos 250;
-      altitude = pos 100;
-      rate = pos 5;
-      change = pos 4;
-    } in separation s 2 1 ≡ pos 424 }
-    ensures whole { let s : Second = record {
-      range = pos 0;
-      closing = pos 250;
-      altitude = pos 100;
-      rate = pos 5;
-      change = pos 4;
-    } in separation s 1 1 ≡ pos 114 }
+    ensures half { separation changing 2 1 ≡ pos 424 }
+    ensures whole { separation changing 1 1 ≡ pos 114 }
 {}
 
 /// At 400 ft/s a range of 600 ft comes to the radius of 500 ft after a quarter of the second, and one of 900 ft at its end. A fraction

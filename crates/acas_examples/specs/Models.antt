@@ -1,35 +1,33 @@
 -- Small models, whose numbers were also worked out by hand.
 use Rattle.std.specs.Prelude.{ℕ, ℤ, pos, List, [], ◌∷◌, codes}
 use Rattle.acas_units.specs.declared.limits.TheConstants.{LEAST_RATE, GREATEST_RATE}
-use Rattle.acas_spec.specs.Model.{ModelData}
+use Rattle.acas_spec.specs.Model.{GridData, ModelData}
 use Rattle.acas_spec.specs.declared.parts.Advisory.{Advisory}
 use Rattle.acas_spec.specs.declared.parts.Choice.{Choice}
 use Rattle.acas_spec.specs.declared.parts.SigmaPoint.{SigmaPoint}
-use Rattle.acas_examples.specs.Parts.{choice, clear, gusts, level, minus, nearly_level, no_noise, only_clear, three_noises}
+use Rattle.acas_examples.specs.Parts.{choice, clear, grid, gusts, level, minus, nearly_level, no_noise, only_clear, three_noises, two_rates}
 
--- Two altitudes, 0 and a top in ticks, and the rates 0 and 600 ft/min. A pilot changes the rate by 480 ft/min in a second. Half the
--- puck's height is 120 ticks, and its radius 500 ft.
-abbrev pub two_altitudes : ℤ → ℕ → ℤ → Advisory → List (List Choice) → List SigmaPoint → ModelData
-two_altitudes top horizon contact second choices sigmas = record {
-  grid = record {
-    h = pos 0 ∷ top ∷ [];
-    v0 = pos 0 ∷ pos 600 ∷ [];
-    v1 = pos 0 ∷ pos 600 ∷ [];
-    advisories = 2;
-    horizon = horizon;
-  };
-  advisories = clear ∷ second ∷ [];
+-- A model of this grid. A pilot changes the rate by 480 ft/min in a second. The puck's radius is 500 ft, and all close at 500 ft/s.
+abbrev pub at_one_speed : GridData → List Advisory → List (List Choice) → List SigmaPoint → ℕ → ℤ → ModelData
+at_one_speed grid advisories choices sigmas half contact = record {
+  grid = grid;
+  advisories = advisories;
   choices = choices;
   sigmas = sigmas;
   pull = 480;
   limit = 960;
   delay = 0;
   radius = 500;
-  half = 120;
+  half = half;
   least_closing = 500;
   greatest_closing = 500;
   contact = contact;
 }
+
+-- two altitudes, 0 and a top in ticks, and the rates 0 and 600 ft/min; half the puck's height is 120 ticks
+abbrev pub two_altitudes : ℤ → ℕ → ℤ → Advisory → List (List Choice) → List SigmaPoint → ModelData
+two_altitudes top horizon contact second choices sigmas =
+    at_one_speed (two_rates top horizon) (clear ∷ second ∷ []) choices sigmas 120 contact
 
 -- only clear may be chosen, at no cost; contact costs 1
 abbrev pub noisy : ModelData
@@ -86,27 +84,12 @@ all_four = choice 0 (pos 0) ∷ choice 1 (pos 1) ∷ choice 2 (pos 1) ∷ choice
 
 -- Four altitudes, -1000, -670, 0 and 1000 ft, three own rates and two of the intruder, and four advisories. Contact costs 5.
 abbrev pub four_advisories : ModelData
-four_advisories = record {
-  grid = record {
-    h = minus 120_000 ∷ minus 80_400 ∷ pos 0 ∷ pos 120_000 ∷ [];
-    v0 = pos 0 ∷ pos 1500 ∷ pos 3000 ∷ [];
-    v1 = pos 0 ∷ pos 3000 ∷ [];
-    advisories = 4;
-    horizon = 30;
-  };
-  advisories = clear
-      ∷ record { name = codes "climb"; lo = pos 1500; hi = GREATEST_RATE }
-      ∷ record { name = codes "descend"; lo = LEAST_RATE; hi = minus 1500 }
-      ∷ nearly_level
-      ∷ [];
-  choices = all_four ∷ all_four ∷ all_four ∷ all_four ∷ [];
-  sigmas = no_noise;
-  pull = 480;
-  limit = 960;
-  delay = 0;
-  radius = 500;
-  half = 12_000;
-  least_closing = 500;
-  greatest_closing = 500;
-  contact = pos 5;
-}
+four_advisories =
+    at_one_speed
+    (grid (minus 120_000 ∷ minus 80_400 ∷ pos 0 ∷ pos 120_000 ∷ []) (pos 0 ∷ pos 1500 ∷ pos 3000 ∷ []) (pos 0 ∷ pos 3000 ∷ []) 4 30)
+    (clear
+    ∷ record { name = codes "climb"; lo = pos 1500; hi = GREATEST_RATE }
+    ∷ record { name = codes "descend"; lo = LEAST_RATE; hi = minus 1500 }
+    ∷ nearly_level
+    ∷ [])
+    (all_four ∷ all_four ∷ all_four ∷ all_four ∷ []) no_noise 12_000 (pos 5)

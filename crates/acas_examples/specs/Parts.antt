@@ -1,6 +1,7 @@
 -- The parts of small models.
 use Rattle.std.specs.Prelude.{ℕ, ℤ, pos, neg_ℤ, List, [], ◌∷◌, codes}
 use Rattle.acas_units.specs.declared.limits.TheConstants.{LEAST_RATE, GREATEST_RATE}
+use Rattle.acas_spec.specs.Model.{GridData}
 use Rattle.acas_spec.specs.declared.parts.Advisory.{Advisory}
 use Rattle.acas_spec.specs.declared.parts.Choice.{Choice}
 use Rattle.acas_spec.specs.declared.parts.SigmaPoint.{SigmaPoint}
@@ -18,6 +19,14 @@ vertex i j k = record { i = i; j = j; k = k }
 -- the point at this relative altitude and these two rates
 abbrev pub point : ℤ → ℤ → ℤ → Point
 point h v0 v1 = record { h = h; v0 = v0; v1 = v1 }
+
+-- the grid of these altitudes, own rates and intruder rates, for so many advisories and seconds
+abbrev pub grid : List ℤ → List ℤ → List ℤ → ℕ → ℕ → GridData
+grid h v0 v1 advisories horizon = record { h = h; v0 = v0; v1 = v1; advisories = advisories; horizon = horizon }
+
+-- two altitudes, 0 and a top in ticks, and the rates 0 and 600 ft/min, for two advisories
+abbrev pub two_rates : ℤ → ℕ → GridData
+two_rates top horizon = grid (pos 0 ∷ top ∷ []) (pos 0 ∷ pos 600 ∷ []) (pos 0 ∷ pos 600 ∷ []) 2 horizon
 
 -- clear of conflict, which asks for nothing
 abbrev pub clear : Advisory

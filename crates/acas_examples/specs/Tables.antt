@@ -4,6 +4,7 @@ use Rattle.acas_spec.specs.Model.{ModelData}
 use Rattle.acas_spec.specs.Table.{Table}
 use Rattle.acas_spec.specs.declared.place.Point.{Point}
 use Rattle.acas_spec.specs.declared.place.Vertex.{Vertex}
+use Rattle.acas_frac.specs.Rounding.{down, up}
 use Rattle.acas_process.specs.Values.{interpolated}
 use Rattle.acas_process.specs.Compiled.{compiled, compiled_values}
 use Rattle.acas_process.specs.Step.{moved, share}
@@ -23,6 +24,11 @@ abbrev pub row : (ℤ → ℤ → ℤ) → ModelData → ℕ → Vertex → List
 row round m n x =
     let at : ℕ → ℤ = λ q. interpolated round m (compiled_values round m n) 0 (moved m x 0 q) in
     at 0 ∷ at 1 ∷ at 2 ∷ compiled_values round m (suc n) 0 x ∷ []
+
+-- these values, rounded up and rounded down
+pub record HasRows (m : ModelData) (n : ℕ) (x : Vertex) (upper lower : List ℤ) : Type 0 where
+  pub at_upper : row up m n x ≡ upper
+  pub at_lower : row down m n x ≡ lower
 
 -- the entry of the compiled table
 pub record HasEntry (m : ModelData) (n p : ℕ) (x : Vertex) (upper lower : ℤ) (advice : ℕ) : Type 0 where

@@ -1,30 +1,24 @@
 //! Values and advices of compiled tables.
-ghost use Rattle.std.specs.Prelude.{◌≡◌, pos, [], ◌∷◌};
-ghost use Rattle.acas_frac.specs.Rounding.{down, up};
+ghost use Rattle.std.specs.Prelude.{pos, [], ◌∷◌};
 ghost use Rattle.acas_examples.specs.Models.{at_edge, at_radius, calm, evading, four_advisories, gusty, noisy, past_edge, switching, tied};
 ghost use Rattle.acas_examples.specs.Parts.{vertex};
-ghost use Rattle.acas_examples.specs.Tables.{HasEntry, row};
+ghost use Rattle.acas_examples.specs.Tables.{HasEntry, HasRows};
 
 /// The values of the noisy model under clear at own rate 0: at the three sigma points and of the entry, above and below.
 pub fn noisy_values_are_rounded_twice()
-    ensures bottom_climbing_upper { row up noisy 0 (vertex 0 0 1)
-        ≡ pos 666_667 ∷ pos 500_000 ∷ pos 833_334 ∷ pos 666_667 ∷ [] }
-    ensures bottom_climbing_lower { row down noisy 0 (vertex 0 0 1)
-        ≡ pos 666_666 ∷ pos 500_000 ∷ pos 833_333 ∷ pos 666_666 ∷ [] }
-    ensures top_climbing_upper { row up noisy 0 (vertex 1 0 1) ≡ pos 0 ∷ pos 0 ∷ pos 0 ∷ pos 0 ∷ [] }
-    ensures top_climbing_lower { row down noisy 0 (vertex 1 0 1) ≡ pos 0 ∷ pos 0 ∷ pos 0 ∷ pos 0 ∷ [] }
-    ensures bottom_level_upper { row up noisy 0 (vertex 0 0 0)
-        ≡ pos 1_000_000 ∷ pos 833_334 ∷ pos 1_000_000 ∷ pos 944_445 ∷ [] }
-    ensures bottom_level_lower { row down noisy 0 (vertex 0 0 0)
-        ≡ pos 1_000_000 ∷ pos 833_333 ∷ pos 1_000_000 ∷ pos 944_444 ∷ [] }
-    ensures top_level_upper { row up noisy 0 (vertex 1 0 0)
-        ≡ pos 0 ∷ pos 0 ∷ pos 166_667 ∷ pos 55_556 ∷ [] }
-    ensures top_level_lower { row down noisy 0 (vertex 1 0 0)
-        ≡ pos 0 ∷ pos 0 ∷ pos 166_666 ∷ pos 55_555 ∷ [] }
-    ensures later_upper { row up noisy 1 (vertex 0 0 1)
-        ≡ pos 444_445 ∷ pos 333_334 ∷ pos 796_297 ∷ pos 524_692 ∷ [] }
-    ensures later_lower { row down noisy 1 (vertex 0 0 1)
-        ≡ pos 444_444 ∷ pos 333_333 ∷ pos 796_295 ∷ pos 524_690 ∷ [] }
+    ensures bottom_climbing { HasRows noisy 0 (vertex 0 0 1)
+        (pos 666_667 ∷ pos 500_000 ∷ pos 833_334 ∷ pos 666_667 ∷ [])
+        (pos 666_666 ∷ pos 500_000 ∷ pos 833_333 ∷ pos 666_666 ∷ []) }
+    ensures top_climbing { HasRows noisy 0 (vertex 1 0 1)
+        (pos 0 ∷ pos 0 ∷ pos 0 ∷ pos 0 ∷ []) (pos 0 ∷ pos 0 ∷ pos 0 ∷ pos 0 ∷ []) }
+    ensures bottom_level { HasRows noisy 0 (vertex 0 0 0)
+        (pos 1_000_000 ∷ pos 833_334 ∷ pos 1_000_000 ∷ pos 944_445 ∷ [])
+        (pos 1_000_000 ∷ pos 833_333 ∷ pos 1_000_000 ∷ pos 944_444 ∷ []) }
+    ensures top_level { HasRows noisy 0 (vertex 1 0 0)
+        (pos 0 ∷ pos 0 ∷ pos 166_667 ∷ pos 55_556 ∷ []) (pos 0 ∷ pos 0 ∷ pos 166_666 ∷ pos 55_555 ∷ []) }
+    ensures later { HasRows noisy 1 (vertex 0 0 1)
+        (pos 444_445 ∷ pos 333_334 ∷ pos 796_297 ∷ pos 524_692 ∷ [])
+        (pos 444_444 ∷ pos 333_333 ∷ pos 796_295 ∷ pos 524_690 ∷ []) }
 {}
 
 /// Of two advisories with the same value the first in the list is the advice. Without noise a point lands on a vertex, and upper

@@ -1,37 +1,22 @@
 -- A small model, what its advisory asks, and areas and searches under it.
 use Rattle.std.specs.Prelude.{pos, [], ◌∷◌, codes}
-use Rattle.acas_units.specs.declared.limits.TheConstants.{LEAST_RATE, GREATEST_RATE}
 use Rattle.acas_spec.specs.Model.{ModelData}
 use Rattle.acas_flight.specs.Response.{Demand}
 use Rattle.acas_flight.specs.State.{Box}
 use Rattle.acas_flight.specs.Clear.{Area}
+use Rattle.acas_examples.specs.Models.{at_one_speed}
+use Rattle.acas_examples.specs.Parts.{clear, two_rates}
 use Rattle.acas_flight_examples.specs.Numbers.{area, from_to}
 
 -- Altitudes from 0 to 1200 ticks, rates from 0 to 600 ft/min. Climb asks for 1000 to 2000 ft/min, with at least 100 ft/min per
 -- second and at most 200, after a hold of at most 2 seconds. The puck's radius is 500 ft and half of its height 120 ticks, and
 -- closing speeds go from 250 to 500 ft/s.
 abbrev pub small : ModelData
-small = record {
-  grid = record {
-    h = pos 0 ∷ pos 1200 ∷ [];
-    v0 = pos 0 ∷ pos 600 ∷ [];
-    v1 = pos 0 ∷ pos 600 ∷ [];
-    advisories = 2;
-    horizon = 2;
-  };
-  advisories = record { name = codes "clear"; lo = LEAST_RATE; hi = GREATEST_RATE }
-      ∷ record { name = codes "climb"; lo = pos 1000; hi = pos 2000 }
-      ∷ [];
-  choices = [];
-  sigmas = [];
+small = record (at_one_speed (two_rates (pos 1200) 2) (clear ∷ record { name = codes "climb"; lo = pos 1000; hi = pos 2000 } ∷ []) [] [] 120 (pos 1)) {
   pull = 100;
   limit = 200;
   delay = 2;
-  radius = 500;
-  half = 120;
   least_closing = 250;
-  greatest_closing = 500;
-  contact = pos 1;
 }
 
 -- the same, where intruders fly at 0 to 300 ft/min
