@@ -6,7 +6,7 @@ use Rattle.acas_race.specs.Runs.{race_of}
 use Rattle.acas_race.specs.declared.contest.Contest.{Contest}
 
 abbrev pub race_in : Contest → Race
-race_in c = race_of c.start c.aim c.pull c.hold c.height c.rate c.goal c.accel
+race_in c = race_of c.chase.start c.chase.aim c.chase.pull c.chase.hold c.chase.height c.chase.rate c.goal c.accel
 
 abbrev pub instant_at : Moment → Instant
 instant_at t = record { num = t.num; den = t.den }

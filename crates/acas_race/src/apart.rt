@@ -21,10 +21,10 @@ use acas_units::{GREATEST_HALF_HEIGHT, TICKS_PER_FOOT};
 // Whether the curve is more than the half height above the intruder at a time.
 fn is_over(contest: &Contest, at: &Moment, half: u64) -> bool
     requires { half ≤ TICKS_PER_FOOT * GREATEST_HALF_HEIGHT }
-    ensures { result ≡ int_lt (pos (half * (at.now.den * at.now.den * contest.now.pull * contest.now.accel)))
+    ensures { result ≡ int_lt (pos (half * (at.now.den * at.now.den * contest.now.chase.pull * contest.now.accel)))
         (race_number (race_in contest.now) (instant_at at.now)) }
 {
-    let band = times(i128::from(half), at.den * at.den * contest.pull);
+    let band = times(i128::from(half), at.den * at.den * contest.chase.pull);
     times(band, contest.accel) < number(contest, at)
 }
 

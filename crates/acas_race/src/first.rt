@@ -34,7 +34,7 @@ fn place(contest: &Contest, from: &Moment, to: &Moment) -> Moment
     ensures after { IsSoonerOrSame (instant_at from.now) (instant_at result) }
     ensures before { IsSoonerOrSame (instant_at result) (instant_at to.now) }
 {
-    if contest.start < contest.aim {
+    if contest.chase.start < contest.chase.aim {
         turn_within(contest, from, to)
     } else {
         *from

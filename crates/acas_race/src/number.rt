@@ -21,13 +21,16 @@ pub(crate) fn times(number: i128, by: u64) -> i128
 
 // Where the intruder is at a time, times its acceleration.
 fn intruder_at(contest: &Contest, at: &Moment) -> i128
-    ensures value { result ≡ contest.now.height *ℤ pos (at.now.den * at.now.den * contest.now.accel)
-        +ℤ approach (contest.now.rate *ℤ pos at.now.den) (contest.now.goal *ℤ pos at.now.den)
+    ensures value { result ≡ contest.now.chase.height *ℤ pos (at.now.den * at.now.den * contest.now.accel)
+        +ℤ approach (contest.now.chase.rate *ℤ pos at.now.den) (contest.now.goal *ℤ pos at.now.den)
         contest.now.accel at.now.num }
     ensures size { unsigned_abs result ≤ 2 * 10 ^ 20 }
 {
-    let height = times(i128::from(contest.height), at.den * at.den * contest.accel);
-    height + climb_at(contest.rate, contest.goal, contest.accel, 0, at)
+    let height = times(
+        i128::from(contest.chase.height),
+        at.den * at.den * contest.accel,
+    );
+    height + climb_at(contest.chase.rate, contest.goal, contest.accel, 0, at)
 }
 
 /// How far the curve is above the intruder at a time, over the square of the time's denominator, the pull and the acceleration.
@@ -35,8 +38,14 @@ pub(crate) fn number(contest: &Contest, at: &Moment) -> i128
     ensures value { result ≡ race_number (race_in contest.now) (instant_at at.now) }
     ensures size { unsigned_abs result ≤ 10 ^ 24 }
 {
-    let climb = climb_at(contest.start, contest.aim, contest.pull, contest.hold, at);
-    times(climb, contest.accel) - times(intruder_at(contest, at), contest.pull)
+    let climb = climb_at(
+        contest.chase.start,
+        contest.chase.aim,
+        contest.chase.pull,
+        contest.chase.hold,
+        at,
+    );
+    times(climb, contest.accel) - times(intruder_at(contest, at), contest.chase.pull)
 }
 
 /// Whether the curve is less above the intruder at a time than at another.

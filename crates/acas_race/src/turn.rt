@@ -10,7 +10,7 @@ use acas_units::{GREATEST_DELAY, GREATEST_LIMIT, GREATEST_RATE};
 
 // The turn, or the end of a window next to it.
 fn clipped(contest: &Contest, num: u64, den: u64, from: &Moment, to: &Moment) -> Moment
-    requires rising { contest.now.start ≤ℤ contest.now.aim }
+    requires rising { contest.now.chase.start ≤ℤ contest.now.chase.aim }
     requires turn { IsTurnTime (race_in contest.now) (record { num = num; den = den }) }
     requires some { 0 < den }
     requires den { den ≤ GREATEST_LIMIT }
@@ -53,24 +53,24 @@ fn reach(start: i64, rate: i64, held: u64) -> i64
 
 // Whether the intruder is at its goal before the curve is as fast.
 fn is_late(contest: &Contest, held: u64) -> bool
-    requires held { held ≡ contest.now.hold * contest.now.pull }
+    requires held { held ≡ contest.now.chase.hold * contest.now.chase.pull }
     requires size { held ≤ GREATEST_DELAY * GREATEST_LIMIT }
     ensures { result ≡ int_lt
-        (contest.now.start *ℤ pos contest.now.accel
-        +ℤ (contest.now.goal -ℤ contest.now.rate) *ℤ pos contest.now.pull)
+        (contest.now.chase.start *ℤ pos contest.now.accel
+        +ℤ (contest.now.goal -ℤ contest.now.chase.rate) *ℤ pos contest.now.chase.pull)
         (contest.now.goal *ℤ pos contest.now.accel
-        +ℤ pos (contest.now.hold * contest.now.pull * contest.now.accel)) }
+        +ℤ pos (contest.now.chase.hold * contest.now.chase.pull * contest.now.accel)) }
 {
-    let own = scaled(contest.start, contest.accel)
-        + scaled(contest.goal - contest.rate, contest.pull);
+    let own = scaled(contest.chase.start, contest.accel)
+        + scaled(contest.goal - contest.chase.rate, contest.chase.pull);
     let other = scaled(contest.goal, contest.accel) + (held * contest.accel) as i64;
     own < other
 }
 
 // Where the intruder is at its goal before.
 fn late_turn(contest: &Contest, held: u64, from: &Moment, to: &Moment) -> Moment
-    requires rising { contest.now.start ≤ℤ contest.now.aim }
-    requires held { held ≡ contest.now.hold * contest.now.pull }
+    requires rising { contest.now.chase.start ≤ℤ contest.now.chase.aim }
+    requires held { held ≡ contest.now.chase.hold * contest.now.chase.pull }
     requires size { held ≤ GREATEST_DELAY * GREATEST_LIMIT }
     requires late { IsLateTurn (race_in contest.now) }
     requires order { IsSoonerOrSame (instant_at from.now) (instant_at to.now) }
@@ -79,31 +79,31 @@ fn late_turn(contest: &Contest, held: u64, from: &Moment, to: &Moment) -> Moment
     ensures after { IsSoonerOrSame (instant_at from.now) (instant_at result) }
     ensures before { IsSoonerOrSame (instant_at result) (instant_at to.now) }
 {
-    let num = natural(reach(contest.start, contest.goal, held));
-    clipped(contest, num, contest.pull, from, to)
+    let num = natural(reach(contest.chase.start, contest.goal, held));
+    clipped(contest, num, contest.chase.pull, from, to)
 }
 
 // Where it is not yet, and the curve gains on it.
 fn early_turn(contest: &Contest, held: u64, from: &Moment, to: &Moment) -> Moment
-    requires rising { contest.now.start ≤ℤ contest.now.aim }
-    requires held { held ≡ contest.now.hold * contest.now.pull }
+    requires rising { contest.now.chase.start ≤ℤ contest.now.chase.aim }
+    requires held { held ≡ contest.now.chase.hold * contest.now.chase.pull }
     requires size { held ≤ GREATEST_DELAY * GREATEST_LIMIT }
     requires early { IsEarlyTurn (race_in contest.now) }
-    requires gains { contest.now.accel < contest.now.pull }
+    requires gains { contest.now.accel < contest.now.chase.pull }
     requires order { IsSoonerOrSame (instant_at from.now) (instant_at to.now) }
     ensures looked { IsLooked (race_in contest.now) (instant_at from.now) (instant_at to.now)
         (instant_at result) }
     ensures after { IsSoonerOrSame (instant_at from.now) (instant_at result) }
     ensures before { IsSoonerOrSame (instant_at result) (instant_at to.now) }
 {
-    let reach = reach(contest.start, contest.rate, held);
+    let reach = reach(contest.chase.start, contest.chase.rate, held);
     if reach < 0 {
         return *from;
     }
     clipped(
         contest,
         natural(reach),
-        contest.pull - contest.accel,
+        contest.chase.pull - contest.accel,
         from,
         to,
     )
@@ -111,18 +111,18 @@ fn early_turn(contest: &Contest, held: u64, from: &Moment, to: &Moment) -> Momen
 
 /// A time of the window that is the turn of a rising curve, if that is within.
 pub(crate) fn turn_within(contest: &Contest, from: &Moment, to: &Moment) -> Moment
-    requires rising { contest.now.start ≤ℤ contest.now.aim }
+    requires rising { contest.now.chase.start ≤ℤ contest.now.chase.aim }
     requires order { IsSoonerOrSame (instant_at from.now) (instant_at to.now) }
     ensures looked { IsLooked (race_in contest.now) (instant_at from.now) (instant_at to.now)
         (instant_at result) }
     ensures after { IsSoonerOrSame (instant_at from.now) (instant_at result) }
     ensures before { IsSoonerOrSame (instant_at result) (instant_at to.now) }
 {
-    let held = contest.hold * contest.pull;
+    let held = contest.chase.hold * contest.chase.pull;
     if is_late(contest, held) {
         return late_turn(contest, held, from, to);
     }
-    if contest.pull <= contest.accel {
+    if contest.chase.pull <= contest.accel {
         return *from;
     }
     early_turn(contest, held, from, to)

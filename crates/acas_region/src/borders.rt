@@ -7,7 +7,7 @@ use crate::numbers::minus;
 use acas_areas::{Asked, BoxState, Chase};
 
 /// The low curve of a box against its highest intruder.
-pub(crate) fn low_chase(asked: &Asked, area: &BoxState) -> Chase
+pub fn low_chase(asked: &Asked, area: &BoxState) -> Chase
     ensures { border_in result ≡ low_border_of (demand_in asked.now) (area_of area.now) }
 {
     if area.v0.least < asked.lo {
@@ -62,7 +62,7 @@ fn from_under(asked: &Asked, area: &BoxState) -> Chase
 }
 
 /// The high curve of a box against its lowest intruder, turned upside down.
-pub(crate) fn high_chase(asked: &Asked, area: &BoxState) -> Chase
+pub fn high_chase(asked: &Asked, area: &BoxState) -> Chase
     ensures { border_in result ≡ high_border_of (demand_in asked.now) (area_of area.now) }
 {
     if asked.hi < area.v0.greatest {

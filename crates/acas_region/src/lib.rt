@@ -12,6 +12,7 @@ mod nearest;
 mod numbers;
 mod window;
 
+pub use borders::{high_chase, low_chase};
 pub use chase::{climb_at, moment_of, over};
 pub use clear::is_clear;
 pub use demand::{asked_by, highest, lowest};

@@ -12,7 +12,7 @@ pub times-requires-clause-number : goal.times-requires-clause-number
 times-requires-clause-number c =
     let h : to_z w128 (of_z w128 c.from.result) ≡ pos c.args.half = omega (arith, ints, c.from.ensures, c.requires) in
     let hs : unsigned_abs (to_z w128 (of_z w128 c.from.result)) ≤ 120000 = rw h (omega (arith, ints, c.requires)) in
-    let dens : c.args.at.now.den * c.args.at.now.den * c.args.contest.now.pull ≤ GREATEST_CLOSING * GREATEST_CLOSING * GREATEST_LIMIT = mul-le-mul (mul-le-mul c.args.at.now.within.den c.args.at.now.within.den) c.args.contest.now.fits.pull in
+    let dens : c.args.at.now.den * c.args.at.now.den * c.args.contest.now.chase.pull ≤ GREATEST_CLOSING * GREATEST_CLOSING * GREATEST_LIMIT = mul-le-mul (mul-le-mul c.args.at.now.within.den c.args.at.now.within.den) c.args.contest.now.chase.fits.pull in
     let t = c.times-band.ensures.size 120000 (GREATEST_CLOSING * GREATEST_CLOSING * GREATEST_LIMIT) hs dens in
     let a : to_z w128 (of_z w128 c.times-band.result) ≡ c.times-band.result = omega (arith, ints, t) in
     rw a (omega (arith, t))
@@ -21,7 +21,7 @@ pub returns : goal.returns
 returns c =
     let h : to_z w128 (of_z w128 c.from.result) ≡ pos c.args.half = omega (arith, ints, c.from.ensures, c.requires) in
     let hs : unsigned_abs (to_z w128 (of_z w128 c.from.result)) ≤ 120000 = rw h (omega (arith, ints, c.requires)) in
-    let dens : c.args.at.now.den * c.args.at.now.den * c.args.contest.now.pull ≤ GREATEST_CLOSING * GREATEST_CLOSING * GREATEST_LIMIT = mul-le-mul (mul-le-mul c.args.at.now.within.den c.args.at.now.within.den) c.args.contest.now.fits.pull in
+    let dens : c.args.at.now.den * c.args.at.now.den * c.args.contest.now.chase.pull ≤ GREATEST_CLOSING * GREATEST_CLOSING * GREATEST_LIMIT = mul-le-mul (mul-le-mul c.args.at.now.within.den c.args.at.now.within.den) c.args.contest.now.chase.fits.pull in
     let t = c.times-band.ensures.size 120000 (GREATEST_CLOSING * GREATEST_CLOSING * GREATEST_LIMIT) hs dens in
     let a : to_z w128 (of_z w128 c.times-band.result) ≡ c.times-band.result = omega (arith, ints, t) in
     let t2 = c.times.ensures.size (120000 * (GREATEST_CLOSING * GREATEST_CLOSING * GREATEST_LIMIT)) GREATEST_LIMIT (rw a t) c.args.contest.now.fits.accel in
@@ -29,4 +29,4 @@ returns c =
     let n : to_z w128 (of_z w128 c.number.result) ≡ c.number.result = omega (arith, ints, c.number.ensures.size) in
     let one = rw h at c.times-band.ensures.value in
     let two = rw (a, one) at c.times.ensures.value in
-    ap₂ (λ (x y : ℤ). int_lt x y) (b ∙ two ∙ band c.args.half c.args.at.now.den c.args.contest.now.pull c.args.contest.now.accel) (n ∙ c.number.ensures.value)
+    ap₂ (λ (x y : ℤ). int_lt x y) (b ∙ two ∙ band c.args.half c.args.at.now.den c.args.contest.now.chase.pull c.args.contest.now.accel) (n ∙ c.number.ensures.value)

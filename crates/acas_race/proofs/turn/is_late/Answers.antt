@@ -14,9 +14,9 @@ overflow_add-other c =
 
 pub returns : goal.returns
 returns c =
-    let v : to_z w64 (of_z w64 c.args.contest.now.start) ≡ c.args.contest.now.start = omega (arith, ints, c.args.contest.now.fits.start) in
+    let v : to_z w64 (of_z w64 c.args.contest.now.chase.start) ≡ c.args.contest.now.chase.start = omega (arith, ints, c.args.contest.now.chase.fits.start) in
     let g : to_z w64 (of_z w64 c.args.contest.now.goal) ≡ c.args.contest.now.goal = omega (arith, ints, c.args.contest.now.fits.goal) in
-    let d : to_z w64 (of_z w64 (to_z w64 (of_z w64 c.args.contest.now.goal) -ℤ to_z w64 (of_z w64 c.args.contest.now.rate))) ≡ c.args.contest.now.goal -ℤ c.args.contest.now.rate = omega (arith, ints, c.args.contest.now.fits.goal, c.args.contest.now.fits.rate) in
+    let d : to_z w64 (of_z w64 (to_z w64 (of_z w64 c.args.contest.now.goal) -ℤ to_z w64 (of_z w64 c.args.contest.now.chase.rate))) ≡ c.args.contest.now.goal -ℤ c.args.contest.now.chase.rate = omega (arith, ints, c.args.contest.now.fits.goal, c.args.contest.now.chase.fits.rate) in
     let o = rw v at c.scaled.ensures.value in
     let p = rw d at c.scaled-2.ensures.value in
     let q = rw g at c.scaled-3.ensures.value in

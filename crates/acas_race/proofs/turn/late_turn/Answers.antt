@@ -7,7 +7,7 @@ use Rattle.acas_race.proofs.turn.late_turn.Goals as goal
 
 pub natural-num-requires : goal.natural-num-requires
 natural-num-requires c =
-    let v : to_z w64 (of_z w64 c.args.contest.now.start) ≡ c.args.contest.now.start = omega (arith, ints, c.args.contest.now.fits.start) in
+    let v : to_z w64 (of_z w64 c.args.contest.now.chase.start) ≡ c.args.contest.now.chase.start = omega (arith, ints, c.args.contest.now.chase.fits.start) in
     let w : to_z w64 (of_z w64 c.args.contest.now.goal) ≡ c.args.contest.now.goal = omega (arith, ints, c.args.contest.now.fits.goal) in
     let value = rw (v, w, c.requires.held) at c.reach.ensures.value in
     let size = c.reach.ensures.size in

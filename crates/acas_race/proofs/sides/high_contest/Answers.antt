@@ -1,0 +1,28 @@
+use Rattle.std.proofs.Common.{◌≡◌, ap, pos, neg_ℤ, to_z, of_z, unsigned_abs, arith}
+use Rattle.std.specs.Int.{w64}
+use Rattle.std.proofs.lemmas.Int.{ints}
+use Rattle.acas_flight.specs.Border.{Border}
+use Rattle.acas_race.specs.Runs.{race_of}
+use Rattle.acas_frac.proofs.Orders.{unsigned_abs-low}
+use Rattle.acas_race.proofs.sides.high_contest.Goals as goal
+
+pub invariant_of-result : goal.invariant_of-result
+invariant_of-result c =
+    let g : to_z w64 (of_z w64 c.args.may.now.rate) ≡ pos (unsigned_abs c.args.may.now.rate) = omega (arith, ints, c.args.may.now.within.least_rate, c.args.may.now.within.greatest_rate) in
+    let a : c.natural.result ≡ unsigned_abs c.args.may.now.accel = omega (arith, ints, c.natural.ensures) in
+    let r : c.high_chase.result.rate ≡ neg_ℤ c.args.area.now.v1.least = ap (λ (s : Border). s.rate) c.high_chase.ensures in
+    record {
+      fits = rw (g, a, r) (record {
+        goal = omega (arith, ints, c.args.may.now.within.least_rate, c.args.may.now.within.greatest_rate);
+        some_accel = omega (arith, ints, c.args.may.now.within.least_accel);
+        accel = omega (arith, ints, c.args.may.now.within.least_accel, c.args.may.now.within.greatest_accel);
+        up = let l = unsigned_abs-low c.args.area.now.v1.least (unsigned_abs c.args.may.now.rate) c.requires.least in omega (arith, ints, l);
+      });
+    }
+
+pub returns : goal.returns
+returns c =
+    let g : to_z w64 (of_z w64 c.args.may.now.rate) ≡ pos (unsigned_abs c.args.may.now.rate) = omega (arith, ints, c.args.may.now.within.least_rate, c.args.may.now.within.greatest_rate) in
+    let a : c.natural.result ≡ unsigned_abs c.args.may.now.accel = omega (arith, ints, c.natural.ensures) in
+    let zero : neg_ℤ (neg_ℤ (pos (unsigned_abs c.args.may.now.rate))) ≡ pos (unsigned_abs c.args.may.now.rate) = omega (arith, ints) in
+    rw (g, a, zero) (ap (λ (s : Border). race_of s.start s.aim s.pull s.hold s.height s.rate (pos (unsigned_abs c.args.may.now.rate)) (unsigned_abs c.args.may.now.accel)) c.high_chase.ensures)
