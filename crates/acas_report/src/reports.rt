@@ -13,7 +13,7 @@ use acas_audit_blocks::{BlockAudit, Decisions};
 use acas_base::{Advices, Model};
 use acas_outside::Sink;
 use acas_print::PrintFault;
-use acas_report_cells::write_report_by;
+use acas_report_cells::{Audit, write_report_by};
 use acas_report_lines::{Counts, Which, write_boxes_by};
 use acas_rulings::Boxes;
 use std::alloc::Global;
@@ -35,16 +35,13 @@ pub fn write_report<S: Sink>(
     ensures memory { IsErrOf result PrintFault.Memory → S.written sink.new ≡ S.written sink.old }
     ensures frame { Emits S.Sink sink.old sink.new (IsErrOf result PrintFault.Sink) }
 {
-    let mut count = Decisions::new();
-    write_report_by(
-        alloc,
+    let audit = Audit {
         model,
         advices,
-        &mut OneByOne,
-        sink,
         which,
-        &mut count,
-    )
+    };
+    let mut count = Decisions::new();
+    write_report_by(alloc, &audit, &mut OneByOne, sink, &mut count)
 }
 
 /// Writes the same report, in which whole blocks of cells are decided first, and answers its counts. It takes all its memory before
@@ -72,11 +69,15 @@ pub fn write_blocks<S: Sink>(
         × AreAuditsDecisions model.now advices.now number × (count.new ≡ count.old + number)) }
     ensures rising { count.old ≤ count.new }
 {
-    let Ok(audit) = BlockAudit::make(alloc, model) else {
+    let Ok(blocks) = BlockAudit::make(alloc, model) else {
         return Err(PrintFault::Memory);
     };
-    let mut blocks = ByBlocks(audit);
-    write_report_by(alloc, model, advices, &mut blocks, sink, which, count)
+    let audit = Audit {
+        model,
+        advices,
+        which,
+    };
+    write_report_by(alloc, &audit, &mut ByBlocks(blocks), sink, count)
 }
 
 /// Writes the report of a box file, and answers its counts, with no clear cells. It takes all its memory before the first byte goes

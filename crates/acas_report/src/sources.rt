@@ -27,14 +27,7 @@ impl Rulings for OneByOne {
 
     ghost takes = { λ m a n present number. number ≡ 0 };
 
-    fn prepare(
-        &mut self,
-        _model: &Model,
-        _advices: &Advices,
-        _n: u32,
-        _present: u8,
-        _count: &mut Decisions,
-    ) {}
+    fn prepare(&mut self, _model: &Model, _advices: &Advices, _at: Place, _count: &mut Decisions) {}
 
     fn advised(&self, model: &Model, advices: &Advices, at: Place) -> AdviceSet {
         let Place {
@@ -81,15 +74,8 @@ impl Rulings for ByBlocks {
 
     ghost takes = { AreDecisionsOf };
 
-    fn prepare(
-        &mut self,
-        model: &Model,
-        advices: &Advices,
-        n: u32,
-        present: u8,
-        count: &mut Decisions,
-    ) {
-        self.0.decide(model, advices, n, present, count);
+    fn prepare(&mut self, model: &Model, advices: &Advices, at: Place, count: &mut Decisions) {
+        self.0.decide(model, advices, at.n, at.present, count);
     }
 
     fn advised(&self, _model: &Model, _advices: &Advices, at: Place) -> AdviceSet {

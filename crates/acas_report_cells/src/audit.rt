@@ -5,10 +5,10 @@ use acas_report_lines::Which;
 
 /// A model, what a table advises for it, and which lines are written.
 #[derive(Clone, Copy)]
-pub(crate) struct Audit<'a> {
-    pub(crate) model: &'a Model,
-    pub(crate) advices: &'a Advices,
-    pub(crate) which: Which,
+pub struct Audit<'a> {
+    pub model: &'a Model,
+    pub advices: &'a Advices,
+    pub which: Which,
 }
 
 /// The numbers of a cell. A loop over cells sets one of them; those that are set within it do not matter to it.

@@ -77,7 +77,6 @@ fn write_layer<R: Rulings, S: Sink>(
     ensures rising { count.old ≤ count.new }
 {
     for present in 0..audit.model.grid().advisories as u8 {
-        rulings.prepare(audit.model, audit.advices, n, present, count);
         let at = Place {
             n,
             present,
@@ -85,6 +84,7 @@ fn write_layer<R: Rulings, S: Sink>(
             j: 0,
             k: 0,
         };
+        rulings.prepare(audit.model, audit.advices, at, count);
         write_block(audit, rulings, at, sink, pen)?;
     }
     Ok(())

@@ -7,7 +7,7 @@ mod laws;
 mod report;
 mod rulings;
 
-pub use audit::Place;
+pub use audit::{Audit, Place};
 pub use laws::begun_reports_go_on;
 pub use report::write_report_by;
 pub use rulings::Rulings;

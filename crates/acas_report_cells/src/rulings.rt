@@ -32,23 +32,22 @@ pub trait Rulings {
     /// So many decisions prepare the cells of n seconds and a present advisory, for a model and the advices of its table.
     ghost takes: { ModelData → AdvicesData → ℕ → ℕ → ℕ → Type 0 };
 
-    /// Prepares the cells of n seconds and a present advisory. It counts each decision.
+    /// Prepares the cells of a place's seconds and present advisory. It counts each decision.
     fn prepare(
         &mut self,
         model: &Model,
         advices: &Advices,
-        n: u32,
-        present: u8,
+        at: Place,
         count: &mut Counter<Self::Decision>,
     )
         requires fits { fits self.old model.now }
         requires advices { AreAdvicesOf model.now advices.now }
-        requires n { n < model.now.grid.horizon }
-        requires present { present < model.now.grid.advisories }
+        requires n { at.n < model.now.grid.horizon }
+        requires present { at.present < model.now.grid.advisories }
         requires room { count.old + most_decisions model.now < 2 ^ 64 }
         ensures fits { fits self.new model.now }
-        ensures ready { ready self.new model.now advices.now n present }
-        ensures counted { (number : ℕ) × takes model.now advices.now n present number
+        ensures ready { ready self.new model.now advices.now at.n at.present }
+        ensures counted { (number : ℕ) × takes model.now advices.now at.n at.present number
             × (count.new ≡ count.old + number) }
         ensures most { count.new ≤ count.old + most_decisions model.now }
         ensures rising { count.old ≤ count.new };

@@ -63,7 +63,7 @@ pub fn write_boxes_by<R: BoxSource, S: Sink>(
     ensures memory { IsErrOf result PrintFault.Memory → S.written sink.new ≡ S.written sink.old }
     ensures frame { Emits S.Sink sink.old sink.new (IsErrOf result PrintFault.Sink) }
 {
-    let Ok(mut pen) = Pen::make(alloc) else {
+    let Ok(pen) = Pen::make(alloc) else {
         return Err(PrintFault::Memory);
     };
     let audited = Audited {
@@ -71,26 +71,26 @@ pub fn write_boxes_by<R: BoxSource, S: Sink>(
         boxes,
         rulings,
     };
-    match write_whole(&audited, sink, &mut pen) {
-        Ok(()) => Ok(pen.counts),
+    match write_whole(&audited, sink, pen) {
+        Ok(counts) => Ok(counts),
         Err(_) => Err(PrintFault::Sink),
     }
 }
 
-// Writes the lines of all boxes, and then the counts, with a pen that has written and counted nothing.
+// Writes the lines of all boxes, and then the counts, which it answers, with a pen that has written and counted nothing.
 fn write_whole<R: BoxSource, S: Sink>(
     on: &Audited<'_, R>,
     sink: &mut S,
-    pen: &mut Pen,
-) -> Result<(), Failed>
+    mut pen: Pen,
+) -> Result<Counts, Failed>
     requires boxes { IsEachBox (R.takes on.now.rulings.now on.now.model.now) on.now.boxes.now }
-    requires empty { pen.old.out.buffer ≡ [] }
-    requires certified { pen.old.counts.certified ≡ 0 }
-    requires reported { pen.old.counts.reported ≡ 0 }
-    requires clear { pen.old.counts.clear ≡ 0 }
-    ensures ok { OnOk result ((text : List ℕ)
+    requires empty { pen.out.buffer ≡ [] }
+    requires certified { pen.counts.certified ≡ 0 }
+    requires reported { pen.counts.reported ≡ 0 }
+    requires clear { pen.counts.clear ≡ 0 }
+    ensures ok { IfOk result (λ counts. (text : List ℕ)
         × IsReportOn (IsSaidAt (R.rules on.now.rulings.now on.now.model.now) on.now.boxes.now)
-        R.Ruling.certified (places on.now.boxes.now) 0 (boxes_text R.Ruling.certified R.Ruling.text) pen.new.counts text
+        R.Ruling.certified (places on.now.boxes.now) 0 (boxes_text R.Ruling.certified R.Ruling.text) counts text
         × Appends (S.written sink.old) (S.written sink.new) text) }
     ensures err { OnErr result
         (IsBegun (IsSaidAt (R.rules on.now.rulings.now on.now.model.now) on.now.boxes.now)
@@ -100,11 +100,11 @@ fn write_whole<R: BoxSource, S: Sink>(
 {
     // There is room for the counts, since the number of boxes is one of 32 bits.
     let _ = on.boxes.len();
-    write_boxes(on, sink, pen)?;
+    write_boxes(on, sink, &mut pen)?;
     let counts = pen.counts;
     write_box_counts(&mut pen.out.line, &counts);
     pen.out.end(sink)?;
-    Ok(())
+    Ok(counts)
 }
 
 // Writes the lines of all boxes.
