@@ -36,10 +36,10 @@ pub fn write_safeable<S: Sink>(
 {
     // Opens the model's limits: each of its cells has an outlook.
     let _ = model.grid();
-    let Ok(mut pen) = Pen::make(alloc) else {
+    let Ok(pen) = Pen::make(alloc) else {
         return Err(PrintFault::Memory);
     };
-    match write_whole(model, advices, sink, &mut pen) {
+    match write_whole(model, advices, sink, pen) {
         Ok(counts) => Ok(counts),
         Err(_) => Err(PrintFault::Sink),
     }
@@ -50,10 +50,10 @@ fn write_whole<S: Sink>(
     model: &Model,
     advices: &Advices,
     sink: &mut S,
-    pen: &mut Pen,
+    mut pen: Pen,
 ) -> Result<SafeCounts, Failed>
     requires advices { AreAdvicesOf model.now advices.now }
-    requires empty { pen.old.buffer ≡ [] }
+    requires empty { pen.buffer ≡ [] }
     ensures counted { IfOk result (λ counts. (found : Cell → Outlook) →
         AreOutlooks model.now advices.now found →
         counts ≡ counts_of model.now advices.now found) }
@@ -63,7 +63,7 @@ fn write_whole<S: Sink>(
         AppendsPart (S.written sink.old) (S.written sink.new) (safeable_text model.now advices.now found)) }
     ensures frame { Emits S.Sink sink.old sink.new (IsErr result) }
 {
-    let counts = write_cells(model, advices, sink, pen)?;
+    let counts = write_cells(model, advices, sink, &mut pen)?;
     write_counts(&mut pen.line, &counts);
     pen.end(sink)?;
     Ok(counts)

@@ -13,7 +13,7 @@ returns-in-Ok-write_whole-clause-report g c =
       c.in-Ok-write_whole.ensures.ok some.0 some.1,
     )
 
-pub returns-clause-part : goal.returns-clause-part
-returns-clause-part g c = λ x.
+pub returns-in-Err-clause-part : goal.returns-in-Err-clause-part
+returns-in-Err-clause-part g c = λ x.
     let some = some_outlooks c.args.model.now c.args.advices.now c.grid.ensures.valid in
     record { found = some.0; outlooks = some.1; part = c.in-Err.ensures.err some.0 some.1 }
