@@ -17,31 +17,22 @@ pub record Race : Type 0 where
   pub goal : ℤ
   pub accel : ℕ
 
+-- the race of these eight numbers
+abbrev pub race_of : ℤ → ℤ → ℕ → ℕ → ℤ → ℤ → ℤ → ℕ → Race
+race_of start aim pull hold height rate goal accel =
+    record { start = start; aim = aim; pull = pull; hold = hold; height = height; rate = rate; goal = goal; accel = accel }
+
 -- the low curve of an area against its highest intruder
 abbrev pub low_race : Demand → Manoeuvre → Area → Race
-low_race a may area = record {
-  start = area.own.least;
-  aim = a.lo;
-  pull = low_pull a area.own.least;
-  hold = low_hold a area.own.least;
-  height = area.altitude.greatest;
-  rate = area.intruder.greatest;
-  goal = pos may.rate;
-  accel = may.accel;
-}
+low_race a may area =
+    race_of area.own.least a.lo (low_pull a area.own.least) (low_hold a area.own.least)
+    area.altitude.greatest area.intruder.greatest (pos may.rate) may.accel
 
 -- the high curve of an area against its lowest intruder
 abbrev pub high_race : Demand → Manoeuvre → Area → Race
-high_race a may area = record {
-  start = area.own.greatest;
-  aim = a.hi;
-  pull = high_pull a area.own.greatest;
-  hold = high_hold a area.own.greatest;
-  height = area.altitude.least;
-  rate = area.intruder.least;
-  goal = neg_ℤ (pos may.rate);
-  accel = may.accel;
-}
+high_race a may area =
+    race_of area.own.greatest a.hi (high_pull a area.own.greatest) (high_hold a area.own.greatest)
+    area.altitude.least area.intruder.least (neg_ℤ (pos may.rate)) may.accel
 
 -- the same race upside down
 abbrev pub turned : Race → Race
