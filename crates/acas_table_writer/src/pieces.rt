@@ -22,7 +22,7 @@ pub struct Pieces {
 }
 
 impl Pieces {
-    ghost use Rattle.std.specs.Prelude.{◌≡◌, ◌≤◌, ◌++◌, List, ℕ, IfOk, OnOk, OnErr, IsErr, IsSome, IsTrue, length};
+    ghost use Rattle.std.specs.Prelude.{◌≡◌, ◌≤◌, ◌*◌, ◌++◌, List, ℕ, IfOk, OnOk, OnErr, IsErr, IsSome, IsTrue, length, take};
     ghost use Rattle.sha2.specs.Sha256.{sha256};
     ghost use Rattle.acas_outside.specs.Files.{Given, Grows, GrowsPart};
     ghost use Rattle.acas_outside.specs.Frame.{OnlyWrites};
@@ -84,34 +84,33 @@ impl Pieces {
         let mut at = 0;
         while at < pairs.len() {
             let count = (pairs.len() - at).min(STATES);
-            self.piece(
-                &pairs[at..at + count],
-                &advice[at..at + count],
-                folder,
-                name,
-            )?;
+            self.encode(&pairs[at..at + count], &advice[at..at + count]);
+            self.front(17 * count, folder, name)?;
             at += count;
         }
         Ok(())
     }
 
-    // Appends one piece of a layer.
-    fn piece<F: Folder>(
-        &mut self,
-        pairs: &[Pair],
-        advice: &[u8],
-        folder: &mut F,
-        name: &str,
-    ) -> Result<(), Failed>
-        requires served { IsTrue (F.serves folder.old name.now) }
-        requires held { Given (F.holds folder.old) name.now (λ file. IsSome file) }
+    // Puts the entries of so many states at the front of the buffer.
+    fn encode(&mut self, pairs: &[Pair], advice: &[u8])
         requires long { length advice.now ≡ length pairs.now }
         requires bound { length pairs.now ≤ 3855 }
-        ensures { let text = layer_text (layer_of pairs.now advice.now) in
-            Appends F.Folder folder.old folder.new name.now text self.old self.new result }
+        ensures text { take (17 * length pairs.now) self.new.buffer.items
+            ≡ layer_text (layer_of pairs.now advice.now) }
+        ensures hashed { (m : List ℕ) → Holds self.old m → Holds self.new m }
     {
         encode_entries(&mut self.buffer, pairs, advice);
-        let bytes = &self.buffer[..17 * pairs.len()];
+    }
+
+    // Appends so many bytes from the front of the buffer.
+    fn front<F: Folder>(&mut self, count: usize, folder: &mut F, name: &str) -> Result<(), Failed>
+        requires served { IsTrue (F.serves folder.old name.now) }
+        requires held { Given (F.holds folder.old) name.now (λ file. IsSome file) }
+        requires within { count ≤ PIECE }
+        ensures { let bytes = take count self.old.buffer.items in
+            Appends F.Folder folder.old folder.new name.now bytes self.old self.new result }
+    {
+        let bytes = &self.buffer[..count];
         self.hasher.update(bytes);
         write_piece(folder, name, bytes)
     }
