@@ -1,7 +1,8 @@
 -- A table in check, of which some entries were read and accepted.
-use Rattle.std.specs.Prelude.{◌≡◌, ℕ, ◌*◌, List, length, false, Option, Some, None, Result, Ok, Err, ⊤}
+use Rattle.std.specs.Prelude.{◌≡◌, ℕ, ◌*◌, ◌<◌, ◌≤◌, List, length, false, Option, Some, None, Result, Ok, Err, ⊤}
 use Rattle.acas_spec.specs.Limits.{IsModel}
-use Rattle.acas_spec.specs.Model.{ModelData, states}
+use Rattle.acas_spec.specs.Model.{GridData, ModelData, states, vertices}
+use Rattle.acas_grid.specs.Grid.{state_number}
 use Rattle.acas_means.specs.Layer.{AreValuesOf}
 use Rattle.acas_means.specs.Means.{AreMeansOf}
 use Rattle.acas_bounds.specs.Checks.{OfBelow}
@@ -31,6 +32,14 @@ pub record IsCheckOf (m : ModelData) (t : TableCheck) (n state : ℕ) : Type 0 w
   pub means : length t.means.items ≡ states m.grid
   pub leasts : HaveLeasts m t.means.items t.leasts
   pub allowed : MayBeChosen m n state t.advice.items
+
+-- with n seconds to go, a state is that of a vertex under a present advisory
+pub record IsAt (g : GridData) (n present vertex state : ℕ) : Type 0 where
+  pub seconds : n ≤ g.horizon
+  pub advisory : present < g.advisories
+  pub place : vertex < vertices g
+  pub inside : state < states g
+  pub is : state ≡ state_number g present vertex
 
 -- the reader has read so many entries of these bytes, and none has a refusal
 pub record HasAccepted (m : ModelData) (digest : List ℕ) (t : TableCheck) (count : ℕ) (bytes : List ℕ)

@@ -6,3 +6,4 @@ pub mod Answers
 pub mod Faults
 pub mod Leasts
 pub mod Checking
+pub mod Reading

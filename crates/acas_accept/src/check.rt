@@ -11,9 +11,10 @@ ghost use Rattle.acas_table.specs.Source.{Takes};
 ghost use Rattle.acas_table_text.specs.Format.{expected_length, length_of};
 ghost use Rattle.acas_table_text.specs.declared.format.Format.TheVariants.{Layered};
 ghost use Rattle.acas_bounds.specs.Planes.{IsPlane};
-ghost use Rattle.acas_accept.specs.Checking.{Begins, HasAccepted, HasNoRefusal, IsAnswer, IsBeforeLayer, IsCheckOf, IsInLayer};
+ghost use Rattle.acas_accept.specs.Checking.{Begins, HasAccepted, HasNoRefusal, IsAnswer, IsAt, IsBeforeLayer, IsCheckOf, IsInLayer};
 ghost use Rattle.acas_accept.specs.Faults.{IsAnswerable, answered};
 ghost use Rattle.acas_accept.specs.Leasts.{AreFound, HaveLeasts};
+ghost use Rattle.acas_accept.specs.Reading.{ReadsOn};
 
 use crate::keeping::KeepsLayers;
 use crate::leasts::Leasts;
@@ -164,11 +165,7 @@ impl TableCheck {
         name: &str,
     ) -> Result<(), AcceptFault>
         requires served { IsTrue (F.serves folder.old name.now) }
-        requires n { n ≤ model.now.grid.horizon }
-        requires present { present < model.now.grid.advisories }
-        requires vertex { vertex < vertices model.now.grid }
-        requires state { state < states model.now.grid }
-        requires place { state ≡ state_number model.now.grid present vertex }
+        requires at { IsAt model.now.grid n present vertex state }
         requires check { IsCheckOf model.now self.old n state }
         ensures given { (digest : List ℕ) → Told (F.holds folder.old) name.now (λ bytes.
             IsInLayer model.now digest self.old n state bytes → MatchResult result
@@ -177,13 +174,7 @@ impl TableCheck {
         ensures check { OnOk result (IsCheckOf model.now self.new n (state + 1)) }
         ensures means { self.new.means ≡ self.old.means }
         ensures leasts { self.new.leasts ≡ self.old.leasts }
-        ensures shape { (reader_state self.new.reader).shape ≡ (reader_state self.old.reader).shape }
-        ensures format { (reader_state self.new.reader).format ≡ (reader_state self.old.reader).format }
-        ensures taken { Takes F.Folder folder.old folder.new
-            (reader_state self.old.reader).taken (reader_state self.new.reader).taken }
-        ensures kind { IfErr result IsAnswerable }
-        ensures frame { OnlyReads F.Folder folder.old folder.new
-            (IsErrOf result AcceptFault.Failed) (IsErrOf result AcceptFault.Absent) }
+        ensures reads { ReadsOn F.Folder folder.old folder.new self.old self.new result }
     {
         let entry = match self.reader.entry(folder, name) {
             Ok(entry) => entry,
@@ -267,13 +258,7 @@ impl TableCheck {
             (IsAnswer model.now digest bytes)) }
         ensures check { OnOk result
             (IsCheckOf model.now self.new n (state_number model.now.grid (present + 1) 0)) }
-        ensures shape { (reader_state self.new.reader).shape ≡ (reader_state self.old.reader).shape }
-        ensures format { (reader_state self.new.reader).format ≡ (reader_state self.old.reader).format }
-        ensures taken { Takes F.Folder folder.old folder.new
-            (reader_state self.old.reader).taken (reader_state self.new.reader).taken }
-        ensures kind { IfErr result IsAnswerable }
-        ensures frame { OnlyReads F.Folder folder.old folder.new
-            (IsErrOf result AcceptFault.Failed) (IsErrOf result AcceptFault.Absent) }
+        ensures reads { ReadsOn F.Folder folder.old folder.new self.old self.new result }
     {
         let vertices = model.grid().vertices();
         let plane = Plane::new(model, present);
@@ -306,13 +291,7 @@ impl TableCheck {
             (λ _. IsInLayer model.now digest self.new n (states model.now.grid) bytes)
             (IsAnswer model.now digest bytes)) }
         ensures check { OnOk result (IsCheckOf model.now self.new n (states model.now.grid)) }
-        ensures shape { (reader_state self.new.reader).shape ≡ (reader_state self.old.reader).shape }
-        ensures format { (reader_state self.new.reader).format ≡ (reader_state self.old.reader).format }
-        ensures taken { Takes F.Folder folder.old folder.new
-            (reader_state self.old.reader).taken (reader_state self.new.reader).taken }
-        ensures kind { IfErr result IsAnswerable }
-        ensures frame { OnlyReads F.Folder folder.old folder.new
-            (IsErrOf result AcceptFault.Failed) (IsErrOf result AcceptFault.Absent) }
+        ensures reads { ReadsOn F.Folder folder.old folder.new self.old self.new result }
     {
         self.begin_layer(model, layer_means, n);
         for present in 0..model.grid().advisories as u8 {
@@ -342,13 +321,7 @@ impl TableCheck {
             (IsAnswer model.now digest bytes)) }
         ensures check { OnOk result (IsCheckOf model.now self.new (model.now.grid.horizon + 1) 0) }
         ensures kept { OnOk result (K.was_given kept.new model.now (model.now.grid.horizon + 1)) }
-        ensures shape { (reader_state self.new.reader).shape ≡ (reader_state self.old.reader).shape }
-        ensures format { (reader_state self.new.reader).format ≡ (reader_state self.old.reader).format }
-        ensures taken { Takes F.Folder folder.old folder.new
-            (reader_state self.old.reader).taken (reader_state self.new.reader).taken }
-        ensures kind { IfErr result IsAnswerable }
-        ensures frame { OnlyReads F.Folder folder.old folder.new
-            (IsErrOf result AcceptFault.Failed) (IsErrOf result AcceptFault.Absent) }
+        ensures reads { ReadsOn F.Folder folder.old folder.new self.old self.new result }
     {
         for n in 0..model.grid().horizon + 1 {
             self.layer(model, layer_means, n, folder, name)?;

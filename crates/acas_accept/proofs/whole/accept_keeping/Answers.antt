@@ -28,7 +28,7 @@ returns-in_err-finish-clause-given g c =
     rw (p.1, p.2)
     (fault_at_end (λ bytes (kept : g.row.K.Denot). g.K.KeepsLayers.is_of kept m bytes (m.grid.horizon + 1)) m digest _ c.args.name.now c.in_ok-check.check c.layers.new.self c.layers.new.kept c.in_err-finish.field-0.0
     c.in_ok-check.ensures.given (told_at _ _ c.args.name.now _ c.start.ensures.frame.holds (c.in_ok-layers.ensures.given digest))
-    (told_at _ _ c.args.name.now _ (c.layers.ensures.frame.holds ∙ c.start.ensures.frame.holds) (c.in_err-finish.ensures.given m digest c.in_ok-layers.ensures.check)))
+    (told_at _ _ c.args.name.now _ (c.layers.ensures.reads.frame.holds ∙ c.start.ensures.frame.holds) (c.in_err-finish.ensures.given m digest c.in_ok-layers.ensures.check)))
 
 pub returns-clause-given : goal.returns-clause-given
 returns-clause-given g c =
@@ -37,7 +37,7 @@ returns-clause-given g c =
     whole_given (λ bytes (kept : g.row.K.Denot). g.K.KeepsLayers.is_of kept m bytes (m.grid.horizon + 1)) m digest _ c.args.name.now c.in_ok-check.check c.layers.new.self c.layers.new.kept
     c.in_ok-layers.ensures.check.valid c.fits-digest c.in_ok-check.ensures.given
     (told_at _ _ c.args.name.now _ c.start.ensures.frame.holds (c.in_ok-layers.ensures.given digest))
-    (told_at _ _ c.args.name.now _ (c.layers.ensures.frame.holds ∙ c.start.ensures.frame.holds) (c.in_ok-finish.ensures.given m digest c.in_ok-layers.ensures.check))
+    (told_at _ _ c.args.name.now _ (c.layers.ensures.reads.frame.holds ∙ c.start.ensures.frame.holds) (c.in_ok-finish.ensures.given m digest c.in_ok-layers.ensures.check))
 
 pub returns-clause-all_taken : goal.returns-clause-all_taken
 returns-clause-all_taken g c =
@@ -45,7 +45,7 @@ returns-clause-all_taken g c =
     let shape : old.shape ≡ shape_of c.args.model.now.grid = c.in_ok-layers.ensures.check.shape in (
       old.format,
       subst (λ (s : TableShape). g.F.Folder.taken c.finish.new.folder ≡ raised (g.F.Folder.taken c.args.folder.now) (length_of old.format s)) shape
-          (omega (arith, c.in_ok-finish.ensures.all_taken.taken, c.in_ok-finish.ensures.all_taken.later, c.layers.ensures.taken.taken, c.layers.ensures.taken.later, c.in_ok-check.ensures.taken.taken)),
+          (omega (arith, c.in_ok-finish.ensures.all_taken.taken, c.in_ok-finish.ensures.all_taken.later, c.layers.ensures.reads.taken.taken, c.layers.ensures.reads.taken.later, c.in_ok-check.ensures.taken.taken)),
     )
 
 pub returns-clause-all_of_file : goal.returns-clause-all_of_file
@@ -54,13 +54,13 @@ returns-clause-all_of_file g c =
     let old = reader_state c.layers.new.self.reader in
     let shape : old.shape ≡ shape_of c.args.model.now.grid = c.in_ok-layers.ensures.check.shape in
     file_expected (λ n. g.F.Folder.taken c.finish.new.folder ≡ raised (g.F.Folder.taken c.args.folder.now) n) m c.args.digest.now _ c.args.name.now c.in_ok-check.check old.format
-    c.layers.ensures.format c.in_ok-check.ensures.given
+    c.layers.ensures.reads.format c.in_ok-check.ensures.given
     (subst (λ (s : TableShape). g.F.Folder.taken c.finish.new.folder ≡ raised (g.F.Folder.taken c.args.folder.now) (length_of old.format s)) shape
-    (omega (arith, c.in_ok-finish.ensures.all_taken.taken, c.in_ok-finish.ensures.all_taken.later, c.layers.ensures.taken.taken, c.layers.ensures.taken.later, c.in_ok-check.ensures.taken.taken)))
+    (omega (arith, c.in_ok-finish.ensures.all_taken.taken, c.in_ok-finish.ensures.all_taken.later, c.layers.ensures.reads.taken.taken, c.layers.ensures.reads.taken.later, c.in_ok-check.ensures.taken.taken)))
 
 pub returns-in_err-finish-clause-frame : goal.returns-in_err-finish-clause-frame
 returns-in_err-finish-clause-frame g c =
     let p = err_from_is_err_and c.from_residual-in_err-finish.result c.from_residual-in_err-finish.ensures.1 in
     rw (p.1, p.2)
     (reads_then {X = Unit {0}} g.F.Folder _ _ _ c.in_err-finish.field-0.0 Failed Absent _ _ c.start.ensures.frame
-    (reads_then {X = Unit {0}} g.F.Folder _ _ _ c.in_err-finish.field-0.0 Failed Absent _ _ c.layers.ensures.frame c.in_err-finish.ensures.frame))
+    (reads_then {X = Unit {0}} g.F.Folder _ _ _ c.in_err-finish.field-0.0 Failed Absent _ _ c.layers.ensures.reads.frame c.in_err-finish.ensures.frame))

@@ -5,6 +5,8 @@ use Rattle.acas_grid.specs.Grid.{state_number}
 use Rattle.acas_table.specs.Reader.{Told, reader_state}
 use Rattle.acas_table.specs.declared.reader.TableReader.{TableReader}
 use Rattle.acas_accept.specs.Checking.{IsBeforeLayer, IsInLayer}
+use Rattle.acas_accept.specs.declared.refusal.AcceptFault.TheVariants.{Absent, Failed}
+use Rattle.acas_accept.proofs.Frames.{reads_then}
 use Rattle.acas_accept.proofs.Planes.{last_plane}
 use Rattle.acas_table.proofs.Told.{told_all, told_at, told_then}
 use Rattle.acas_accept.proofs.check.TableCheck.layer.Goals as goal
@@ -29,14 +31,25 @@ returns-in_err-plane-clause-given g c =
     told_then _ c.args.name.now (λ bytes. IsBeforeLayer c.args.model.now digest c.args.self.now c.args.n bytes) (λ bytes. IsInLayer c.args.model.now digest c.loop-present.self c.args.n (state_number c.args.model.now.grid c.loop-present.present 0) bytes) _
     (c.loop-present.invariant.given digest) (told_at _ _ c.args.name.now _ c.loop-present.invariant.frame.holds (c.in_err-plane.ensures.given digest)))
 
+pub returns-in_err-plane-clause-reads : goal.returns-in_err-plane-clause-reads
+returns-in_err-plane-clause-reads g c =
+    let p = err_from_is_err_and c.from_residual.result c.from_residual.ensures.1 in
+    rw (p.1, p.2) (record {
+      shape = c.plane.ensures.reads.shape ∙ c.loop-present.invariant.shape;
+      format = c.plane.ensures.reads.format ∙ c.loop-present.invariant.format;
+      taken = grind arith;
+      kind = c.in_err-plane.ensures.reads.kind;
+      frame = reads_then {X = Unit {0}} g.F.Folder _ _ _ c.in_err-plane.field-0.0 Failed Absent _ _ c.loop-present.invariant.frame c.in_err-plane.ensures.reads.frame;
+    })
+
 pub loop-present-preserved : goal.loop-present-preserved
 loop-present-preserved g c = record {
   check = c.in_ok-plane.ensures.check;
   given = λ digest.
       told_then _ c.args.name.now (λ bytes. IsBeforeLayer c.args.model.now digest c.args.self.now c.args.n bytes) (λ bytes. IsInLayer c.args.model.now digest c.loop-present.self c.args.n (state_number c.args.model.now.grid c.loop-present.present 0) bytes) _
       (c.loop-present.invariant.given digest) (told_at _ _ c.args.name.now _ c.loop-present.invariant.frame.holds (c.in_ok-plane.ensures.given digest));
-  shape = c.plane.ensures.shape ∙ c.loop-present.invariant.shape;
-  format = c.plane.ensures.format ∙ c.loop-present.invariant.format;
+  shape = c.plane.ensures.reads.shape ∙ c.loop-present.invariant.shape;
+  format = c.plane.ensures.reads.format ∙ c.loop-present.invariant.format;
   taken = grind arith;
   frame = grind arith;
 }

@@ -4,6 +4,8 @@ use Rattle.acas_units.specs.declared.pair.Pair.{Pair}
 use Rattle.acas_spec.specs.Model.{GridData, entries, states}
 use Rattle.acas_accept.specs.Checking.{HasAccepted, IsAnswer, IsBeforeLayer, IsInLayer}
 use Rattle.acas_accept.specs.Keeping.{AreRead}
+use Rattle.acas_accept.specs.declared.refusal.AcceptFault.TheVariants.{Absent, Failed}
+use Rattle.acas_accept.proofs.Frames.{reads_then}
 use Rattle.acas_accept.proofs.Steps.{accepted_at, before_next_layer, check_next_layer}
 use Rattle.acas_table.proofs.Told.{told_at, told_both, told_map}
 use Rattle.acas_accept.proofs.check.TableCheck.layers.Goals as goal
@@ -18,6 +20,17 @@ returns-in_err-layer-clause-given g c =
     × (IsBeforeLayer m digest c.loop-n.self c.loop-n.n bytes → IsAnswer m digest bytes c.in_err-layer.field-0.0)) _
     (λ bytes both accepted. both.1 (both.0 accepted).0)
     (told_both _ c.args.name.now _ _ (c.loop-n.invariant.given digest) (told_at _ _ c.args.name.now _ c.loop-n.invariant.frame.holds (c.in_err-layer.ensures.given digest))))
+
+pub returns-in_err-layer-clause-reads : goal.returns-in_err-layer-clause-reads
+returns-in_err-layer-clause-reads g c =
+    let p = err_from_is_err_and c.from_residual.result c.from_residual.ensures.1 in
+    rw (p.1, p.2) (record {
+      shape = c.layer.ensures.reads.shape ∙ c.loop-n.invariant.shape;
+      format = c.layer.ensures.reads.format ∙ c.loop-n.invariant.format;
+      taken = grind arith;
+      kind = c.in_err-layer.ensures.reads.kind;
+      frame = reads_then {X = Unit {0}} g.F.Folder _ _ _ c.in_err-layer.field-0.0 Failed Absent _ _ c.loop-n.invariant.frame c.in_err-layer.ensures.reads.frame;
+    })
 
 pub loop-n-preserved : goal.loop-n-preserved
 loop-n-preserved g c =
@@ -39,8 +52,8 @@ loop-n-preserved g c =
             c.keep.ensures.of bytes read before.1,
           ))
           (told_both _ c.args.name.now _ _ (c.loop-n.invariant.given digest) (told_at _ _ c.args.name.now _ c.loop-n.invariant.frame.holds (c.in_ok-layer.ensures.given digest)));
-      shape = c.layer.ensures.shape ∙ c.loop-n.invariant.shape;
-      format = c.layer.ensures.format ∙ c.loop-n.invariant.format;
+      shape = c.layer.ensures.reads.shape ∙ c.loop-n.invariant.shape;
+      format = c.layer.ensures.reads.format ∙ c.loop-n.invariant.format;
       taken = grind arith;
       frame = grind arith;
     }

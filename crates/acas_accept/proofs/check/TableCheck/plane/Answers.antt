@@ -1,19 +1,28 @@
-use Rattle.std.proofs.Common.{◌≡◌, ℕ, ◌+◌, ◌*◌, ◌∙◌, refl, ap, sym, subst, arith}
+use Rattle.std.proofs.Common.{◌≡◌, ℕ, ◌+◌, ◌*◌, ◌<◌, ◌∙◌, refl, ap, sym, subst, arith}
 use Rattle.std.proofs.lemmas.Result.{err_from_is_err_and}
 use Rattle.acas_spec.specs.Model.{vertices}
 use Rattle.acas_grid.specs.Grid.{state_number}
 use Rattle.acas_table.specs.Reader.{Told}
 use Rattle.acas_accept.specs.Checking.{IsCheckOf, IsInLayer}
 use Rattle.acas_accept.specs.declared.check.TableCheck.{TableCheck}
+use Rattle.acas_accept.specs.declared.refusal.AcceptFault.TheVariants.{Absent, Failed}
+use Rattle.acas_accept.proofs.Frames.{reads_then}
 use Rattle.acas_accept.proofs.Planes.{next_plane, next_vertex, numbered, state_below}
 use Rattle.acas_table.proofs.Told.{told_all, told_at, told_then}
 use Rattle.acas_accept.proofs.check.TableCheck.plane.Goals as goal
 
-pub entry-requires-clause-state : goal.entry-requires-clause-state
-entry-requires-clause-state g c =
+pub entry-requires-clause-at : goal.entry-requires-clause-at
+entry-requires-clause-at g c =
     let m = c.args.model.now in
-    state_below m.grid c.args.present c.loop-vertex.vertex (c.from.result * c.vertices-vertices.result + c.loop-vertex.vertex) c.requires.present (omega (arith, c.vertices-vertices.ensures.value, ap vertices c.grid.ensures.value))
-    (numbered m.grid c.args.present c.loop-vertex.vertex c.from.result c.vertices-vertices.result c.from.ensures (c.vertices-vertices.ensures.value ∙ ap vertices c.grid.ensures.value))
+    let within : c.loop-vertex.vertex < vertices c.args.model.now.grid = omega (arith, c.vertices-vertices.ensures.value, ap vertices c.grid.ensures.value) in
+    let number = numbered m.grid c.args.present c.loop-vertex.vertex c.from.result c.vertices-vertices.result c.from.ensures (c.vertices-vertices.ensures.value ∙ ap vertices c.grid.ensures.value) in
+    record {
+      seconds = c.requires.n;
+      advisory = c.requires.present;
+      place = within;
+      inside = state_below m.grid c.args.present c.loop-vertex.vertex (c.from.result * c.vertices-vertices.result + c.loop-vertex.vertex) c.requires.present within number;
+      is = number;
+    }
 
 pub quick_entry-requires-clause-state : goal.quick_entry-requires-clause-state
 quick_entry-requires-clause-state g c =
@@ -55,6 +64,17 @@ returns-in_err-entry-clause-given g c =
     (subst (λ (s : ℕ). Told (g.F.Folder.holds c.args.folder.now) c.args.name.now (λ bytes. IsInLayer c.args.model.now digest c.args.self.now c.args.n first bytes → IsInLayer c.args.model.now digest c.loop-vertex.self c.args.n s bytes)) (sym number) (c.loop-vertex.invariant.given digest)))
     (told_at _ _ c.args.name.now _ c.loop-vertex.invariant.frame.holds (c.in_err-entry.ensures.given digest)))
 
+pub returns-in_err-entry-clause-reads : goal.returns-in_err-entry-clause-reads
+returns-in_err-entry-clause-reads g c =
+    let p = err_from_is_err_and c.from_residual.result c.from_residual.ensures.1 in
+    rw (p.1, p.2) (record {
+      shape = c.entry.ensures.reads.shape ∙ c.quick_entry.ensures.shape ∙ c.loop-vertex.invariant.shape;
+      format = c.entry.ensures.reads.format ∙ c.quick_entry.ensures.format ∙ c.loop-vertex.invariant.format;
+      taken = grind arith;
+      kind = c.in_err-entry.ensures.reads.kind;
+      frame = reads_then {X = Unit {0}} g.F.Folder _ _ _ c.in_err-entry.field-0.0 Failed Absent _ _ c.loop-vertex.invariant.frame c.in_err-entry.ensures.reads.frame;
+    })
+
 pub loop-vertex-preserved : goal.loop-vertex-preserved
 loop-vertex-preserved g c =
     let m = c.args.model.now in
@@ -71,8 +91,8 @@ loop-vertex-preserved g c =
           (subst (λ (s : ℕ). Told (g.F.Folder.holds c.args.folder.now) c.args.name.now (λ bytes. IsInLayer c.args.model.now digest c.args.self.now c.args.n first bytes → IsInLayer c.args.model.now digest c.loop-vertex.self c.args.n s bytes)) (sym number) (c.loop-vertex.invariant.given digest)))
           (told_at _ _ c.args.name.now _ c.loop-vertex.invariant.frame.holds (c.in_ok-entry.ensures.given digest)));
       found = λ yes. rw (c.entry.ensures.means, c.entry.ensures.leasts, c.quick_entry.ensures.means, c.quick_entry.ensures.leasts) (c.loop-vertex.invariant.found yes);
-      shape = c.entry.ensures.shape ∙ c.quick_entry.ensures.shape ∙ c.loop-vertex.invariant.shape;
-      format = c.entry.ensures.format ∙ c.quick_entry.ensures.format ∙ c.loop-vertex.invariant.format;
+      shape = c.entry.ensures.reads.shape ∙ c.quick_entry.ensures.shape ∙ c.loop-vertex.invariant.shape;
+      format = c.entry.ensures.reads.format ∙ c.quick_entry.ensures.format ∙ c.loop-vertex.invariant.format;
       taken = grind arith;
       frame = grind arith;
     }
