@@ -4,3 +4,4 @@ pub mod Layers
 pub mod Pairs
 pub mod RiskText
 pub mod Rows
+pub mod Steps

@@ -7,9 +7,10 @@ ghost use Rattle.acas_means.specs.Columns.{columns, pairs_at};
 ghost use Rattle.acas_means.specs.Layer.{AreWithin, pair_at};
 ghost use Rattle.acas_means.specs.declared.layer.Side.{Side};
 ghost use Rattle.acas_risk.specs.Counts.{model_counting};
-ghost use Rattle.acas_risk.specs.Layers.{AreOver, AreSmall, IsPlanned, LeaveRoom, altitude_at, column_at, with_cost};
+ghost use Rattle.acas_risk.specs.Layers.{AreOver, IsPlanned, LeaveRoom, altitude_at, column_at, with_cost};
 ghost use Rattle.acas_risk.specs.Pairs.{ArePairsOf};
-ghost use Rattle.acas_risk.specs.Plans.{FitsModel, policy_of};
+ghost use Rattle.acas_risk.specs.Plans.{policy_of};
+ghost use Rattle.acas_risk.specs.Steps.{IsStepOf};
 
 use crate::counted::{Counted, SecondCosts, ending};
 use crate::plan::Plan;
@@ -18,6 +19,14 @@ use acas_means::{
     ColumnMeans, LayerMeans, VertexMeans, advisory_count, column_count, reach_of, vertex_in_column,
 };
 use acas_units::Pair;
+
+/// One second of a plan: the plan, how many seconds are to go after it, and what a second costs.
+#[derive(Clone, Copy)]
+pub(crate) struct Step<'a> {
+    pub(crate) plan: &'a Plan<'a>,
+    pub(crate) n: u32,
+    pub(crate) costs: &'a SecondCosts,
+}
 
 /// Writes the layer with no second to go.
 pub(crate) fn put_endings(model: &Model, counted: Counted, pairs: &mut [Pair])
@@ -48,24 +57,14 @@ fn with_cost(mean: Pair, cost: i64) -> Pair
     }
 }
 
-// Writes the pairs of the states at a vertex with one second more to go than `n`, by the means there.
-fn put_vertex(
-    model: &Model,
-    plan: &Plan<'_>,
-    n: u32,
-    costs: &SecondCosts,
-    vertex: u32,
-    means: &VertexMeans,
-    above: &mut [Pair],
-)
-    requires plan { FitsModel model.now plan.now }
-    requires n { n < model.now.grid.horizon }
-    requires costs { AreSmall model.now.grid costs.now }
+// Writes the pairs of the states at a vertex before a second of a plan, by the means there.
+fn put_vertex(model: &Model, step: &Step<'_>, vertex: u32, means: &VertexMeans, above: &mut [Pair])
+    requires step { IsStepOf model.now step.now }
     requires vertex { vertex < vertices model.now.grid }
     requires means { LeaveRoom model.now.grid means.now }
     requires above { length above.old ≡ states model.now.grid }
     ensures written { (s : ℕ) → s < states model.now.grid → s % vertices model.now.grid ≡ vertex
-        → IsPlanned model.now.grid costs.now (policy_of model.now plan.now) (n + 1) means.now s (pair_at above.new s) }
+        → IsPlanned model.now.grid step.now.costs.now (policy_of model.now step.now.plan.now) (step.now.n + 1) means.now s (pair_at above.new s) }
     ensures others { (s : ℕ) → s % vertices model.now.grid ≢ vertex
         → pair_at above.new s ≡ pair_at above.old s }
     ensures count { length above.new ≡ states model.now.grid }
@@ -73,30 +72,20 @@ fn put_vertex(
     let vertices = model.grid().vertices();
     for present in 0..advisory_count(model) {
         let state = u32::from(present) * vertices + vertex;
-        let advisory = plan.given(model, n, state);
-        let cost = costs[usize::from(present)][usize::from(advisory)];
+        let advisory = step.plan.given(model, step.n, state);
+        let cost = step.costs[usize::from(present)][usize::from(advisory)];
         above[state as usize] = with_cost(means[usize::from(advisory)], cost);
     }
 }
 
 // Writes the pairs of the states in a column.
-fn put_column(
-    model: &Model,
-    plan: &Plan<'_>,
-    n: u32,
-    costs: &SecondCosts,
-    column: u32,
-    means: &ColumnMeans,
-    above: &mut [Pair],
-)
-    requires plan { FitsModel model.now plan.now }
-    requires n { n < model.now.grid.horizon }
-    requires costs { AreSmall model.now.grid costs.now }
+fn put_column(model: &Model, step: &Step<'_>, column: u32, means: &ColumnMeans, above: &mut [Pair])
+    requires step { IsStepOf model.now step.now }
     requires column { column < columns model.now.grid }
     requires means { (i : ℕ) → i < length model.now.grid.h → LeaveRoom model.now.grid (pairs_at means.now i) }
     requires above { length above.old ≡ states model.now.grid }
     ensures written { (s : ℕ) → s < states model.now.grid → column_at model.now.grid s ≡ column
-        → IsPlanned model.now.grid costs.now (policy_of model.now plan.now) (n + 1)
+        → IsPlanned model.now.grid step.now.costs.now (policy_of model.now step.now.plan.now) (step.now.n + 1)
         (pairs_at means.now (altitude_at model.now.grid s)) s (pair_at above.new s) }
     ensures others { (s : ℕ) → column_at model.now.grid s ≢ column
         → pair_at above.new s ≡ pair_at above.old s }
@@ -105,35 +94,31 @@ fn put_column(
     let grid = model.grid();
     for i in 0..grid.h.len() {
         let vertex = vertex_in_column(grid, column, i);
-        put_vertex(model, plan, n, costs, vertex, &means[i as usize], above);
+        put_vertex(model, step, vertex, &means[i as usize], above);
     }
 }
 
-/// Writes a layer over the one below, with one second more to go than `n`, by room for the means of a column. It takes no memory.
+/// Writes a layer over the one below, which a second of a plan leads to, by room for the means of a column. It takes no memory.
 pub(crate) fn put_over<M: LayerMeans>(
     model: &Model,
     layer_means: &M,
-    plan: &Plan<'_>,
-    n: u32,
-    costs: &SecondCosts,
+    step: &Step<'_>,
     below: &[Pair],
     means: &mut ColumnMeans,
     above: &mut [Pair],
 )
     requires fits { M.fits layer_means.now model.now }
-    requires plan { FitsModel model.now plan.now }
-    requires n { n < model.now.grid.horizon }
-    requires costs { AreSmall model.now.grid costs.now }
+    requires step { IsStepOf model.now step.now }
     requires below { length below.now ≡ states model.now.grid }
     requires small { (side : Side) → AreWithin (2 ^ 62) side below.now }
     requires above { length above.old ≡ states model.now.grid }
-    ensures over { AreOver model.now costs.now (policy_of model.now plan.now) (n + 1) below.now
+    ensures over { AreOver model.now step.now.costs.now (policy_of model.now step.now.plan.now) (step.now.n + 1) below.now
         (columns model.now.grid) above.new }
     ensures count { length above.new ≡ states model.now.grid }
 {
     let reach = reach_of(model, below);
     for column in 0..column_count(model.grid()) {
         layer_means.fill_column(model, reach, column, below, means);
-        put_column(model, plan, n, costs, column, means, above);
+        put_column(model, step, column, means, above);
     }
 }

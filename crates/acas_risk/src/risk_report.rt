@@ -1,12 +1,11 @@
 //! The report of `risk`, line by line to a sink.
-ghost use Rattle.std.specs.Prelude.{◌≡◌, ◌<◌, ◌≤◌, ◌++◌, [], length, IfOk, IsErr, IsErrOf, OnErr, OnOk};
+ghost use Rattle.std.specs.Prelude.{◌≡◌, [], IfOk, IsErr, IsErrOf, OnErr, OnOk};
 ghost use Rattle.acas_base.specs.Advices.{AreAdvicesOf};
 ghost use Rattle.acas_outside.specs.Bytes.{Appends, AppendsPart};
 ghost use Rattle.acas_outside.specs.Frame.{Emits};
-ghost use Rattle.acas_print.specs.Printing.{Prints, below};
 ghost use Rattle.acas_spec.specs.Model.{states};
 ghost use Rattle.acas_risk.specs.Plans.{advised};
-ghost use Rattle.acas_risk.specs.RiskText.{AreRisks, risk_line, risk_lines, risk_row, risk_text};
+ghost use Rattle.acas_risk.specs.RiskText.{AreRisks, risk_lines, risk_row, risk_text};
 ghost use Rattle.acas_risk.specs.Rows.{AreOfStates, row_at};
 
 use crate::risk_lines::{write_risk_line, write_states_line};
@@ -65,50 +64,12 @@ fn print_risks<S: Sink>(
         (risk_lines model.now (row_at values.now))) }
     ensures frame { Emits S.Sink sink.old sink.new (IsErr result) }
 {
-    print_states(model, values, pen, sink)?;
-    write_states_line(&mut pen.line, model.grid().states());
-    pen.end(sink)?;
-    Ok(())
-}
-
-// Prints the line of each state.
-fn print_states<S: Sink>(
-    model: &Model,
-    values: &RiskValues,
-    pen: &mut Pen,
-    sink: &mut S,
-) -> Result<(), Failed>
-    requires { AreOfStates model.now.grid values.now }
-    ensures ok { OnOk result (Prints (S.written sink.old) (S.written sink.new) pen.old.buffer pen.new.buffer
-        (below (states model.now.grid) (λ s. risk_line model.now s (row_at values.now s)))) }
-    ensures err { OnErr result (AppendsPart (S.written sink.old) (S.written sink.new)
-        (pen.old.buffer
-        ++ below (states model.now.grid) (λ s. risk_line model.now s (row_at values.now s)))) }
-    ensures frame { Emits S.Sink sink.old sink.new (IsErr result) }
-{
-    for state in 0..model.grid().states() {
-        print_state(model, values, state, pen, sink)?;
+    let states = model.grid().states();
+    for state in 0..states {
+        write_risk_line(&mut pen.line, model, values, state);
+        pen.buffer.print(sink, pen.line.bytes())?;
     }
-    Ok(())
-}
-
-// Prints the line of a state.
-fn print_state<S: Sink>(
-    model: &Model,
-    values: &RiskValues,
-    state: u32,
-    pen: &mut Pen,
-    sink: &mut S,
-) -> Result<(), Failed>
-    requires values { AreOfStates model.now.grid values.now }
-    requires state { state < states model.now.grid }
-    ensures ok { OnOk result (Prints (S.written sink.old) (S.written sink.new)
-        pen.old.buffer pen.new.buffer (risk_line model.now state (row_at values.now state))) }
-    ensures err { OnErr result (AppendsPart (S.written sink.old) (S.written sink.new)
-        (pen.old.buffer ++ risk_line model.now state (row_at values.now state))) }
-    ensures frame { Emits S.Sink sink.old sink.new (IsErr result) }
-{
-    write_risk_line(&mut pen.line, model, values, state);
-    pen.buffer.print(sink, pen.line.bytes())?;
+    write_states_line(&mut pen.line, states);
+    pen.end(sink)?;
     Ok(())
 }

@@ -6,7 +6,7 @@ ghost use Rattle.acas_risk.specs.Pairs.{ArePairsOf};
 ghost use Rattle.acas_risk.specs.Plans.{FitsModel, policy_of};
 
 use crate::counted::{Counted, second_costs};
-use crate::layer::{put_endings, put_over};
+use crate::layer::{Step, put_endings, put_over};
 use crate::plan::Plan;
 use acas_base::Model;
 use acas_means::{ColumnMeans, LayerMeans};
@@ -39,16 +39,12 @@ pub(crate) fn plan_values<M: LayerMeans>(
     let costs = second_costs(model, counted);
     put_endings(model, counted, &mut below);
     for n in 0..model.grid().horizon {
-        put_over(
-            model,
-            layer_means,
-            &plan,
+        let step = Step {
+            plan: &plan,
             n,
-            &costs,
-            &below,
-            &mut means,
-            &mut above,
-        );
+            costs: &costs,
+        };
+        put_over(model, layer_means, &step, &below, &mut means, &mut above);
         swap(&mut below, &mut above);
     }
     Ok(below)

@@ -16,7 +16,7 @@ loop-i-preserved c =
     let at : c.vertex_in_column-vertex.result ≡ vertex_in g column i = c.vertex_in_column-vertex.ensures.value ∙ ap (λ (g : GridData). vertex_in g column i) c.grid-grid.ensures.value in
     record {
       count = c.put_vertex.ensures.count;
-      written = column_next g c.args.costs.now (policy_of m c.args.plan.now) (c.args.n + 1) column i c.vertex_in_column-vertex.result c.args.means.now c.loop-i.above c.put_vertex.new.above at inside so_far.written c.put_vertex.ensures.written c.put_vertex.ensures.others;
+      written = column_next g c.args.step.now.costs.now (policy_of m c.args.step.now.plan.now) (c.args.step.now.n + 1) column i c.vertex_in_column-vertex.result c.args.means.now c.loop-i.above c.put_vertex.new.above at inside so_far.written c.put_vertex.ensures.written c.put_vertex.ensures.others;
       others = λ s other. c.put_vertex.ensures.others s (λ same. other (column_of_vertex g s column i inside (same ∙ at))) ∙ so_far.others s other;
     }
 

@@ -16,7 +16,7 @@ loop-column-preserved g c =
     let m = c.args.model.now in
     record {
       count = c.put_column.ensures.count;
-      over = over_next m c.args.costs.now (policy_of m c.args.plan.now) (c.args.n + 1) c.args.below.now c.loop-column.column c.fill_column.new.means c.loop-column.above c.put_column.new.above c.fill_column.ensures.means c.loop-column.invariant.over
+      over = over_next m c.args.step.now.costs.now (policy_of m c.args.step.now.plan.now) (c.args.step.now.n + 1) c.args.below.now c.loop-column.column c.fill_column.new.means c.loop-column.above c.put_column.new.above c.fill_column.ensures.means c.loop-column.invariant.over
           c.put_column.ensures.written c.put_column.ensures.others;
     }
 

@@ -42,7 +42,7 @@ pub loop-present-preserved : goal.loop-present-preserved
 loop-present-preserved c =
     let m = c.args.model.now in
     let g = m.grid in
-    let policy = policy_of m c.args.plan.now in
+    let policy = policy_of m c.args.step.now.plan.now in
     let p = c.loop-present.present in
     let v = c.args.vertex in
     let inside = c.requires.vertex in
@@ -52,11 +52,11 @@ loop-present-preserved c =
     let present = ap (λ (s : ℕ). s / vertices g) is ∙ state_present-state_number g p v inside in
     let below = place_below g p v place is (omega (arith, c.loop-present-test.true, c.advisory_count-present-end.ensures.value)) inside in
     let given = c.given-advisory.ensures in
-    let fits : SFits w64 (second_cost c.args.costs.now c.from-in-loop-present.result c.from-in-loop-present-2.result) = search rules in
+    let fits : SFits w64 (second_cost c.args.step.now.costs.now c.from-in-loop-present.result c.from-in-loop-present-2.result) = search rules in
     record {
       count = length-set c.loop-present.above place c.with_cost.result ∙ so_far.count;
-      written = vertex_next g c.args.costs.now policy (c.args.n + 1) v p place c.args.means.now c.loop-present.above c.with_cost.result is inside (omega (arith, below, so_far.count)) so_far.written
-          (planned g c.args.costs.now policy (c.args.n + 1) c.args.means.now place c.with_cost.result c.from-in-loop-present.result c.from-in-loop-present-3.result c.from-in-loop-present-2.result (c.from-in-loop-present.ensures ∙ sym present)
+      written = vertex_next g c.args.step.now.costs.now policy (c.args.step.now.n + 1) v p place c.args.means.now c.loop-present.above c.with_cost.result is inside (omega (arith, below, so_far.count)) so_far.written
+          (planned g c.args.step.now.costs.now policy (c.args.step.now.n + 1) c.args.means.now place c.with_cost.result c.from-in-loop-present.result c.from-in-loop-present-3.result c.from-in-loop-present-2.result (c.from-in-loop-present.ensures ∙ sym present)
           (c.from-in-loop-present-3.ensures ∙ given.value) (c.from-in-loop-present-2.ensures ∙ given.value) (omega (arith, c.from-in-loop-present-2.ensures, given.known)) (simp to_z-of_z at c.with_cost.ensures));
       others = λ s other. other_vertex g s p v place c.loop-present.above c.with_cost.result is inside other ∙ so_far.others s other;
     }

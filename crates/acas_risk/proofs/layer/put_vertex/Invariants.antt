@@ -10,6 +10,6 @@ abbrev pub invariant-loop-present : goal.invariant-loop-present
 invariant-loop-present l = record {
   count : length l.above ≡ states l.model.grid;
   written : (s : ℕ) → state_present l.model.grid s < l.present → s % vertices l.model.grid ≡ l.vertex
-      → IsPlanned l.model.grid l.costs (policy_of l.model l.plan) (l.n + 1) l.means s (pair_at l.above s);
+      → IsPlanned l.model.grid l.step.costs.now (policy_of l.model l.step.plan.now) (l.step.n + 1) l.means s (pair_at l.above s);
   others : (s : ℕ) → s % vertices l.model.grid ≢ l.vertex → pair_at l.above s ≡ pair_at l.initial.above s;
 }

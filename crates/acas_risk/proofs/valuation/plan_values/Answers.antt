@@ -30,8 +30,12 @@ loop-n-init g c =
       known = λ k s earlier. absurd (omega arith);
     }
 
-pub put_over-requires-clause-costs : goal.put_over-requires-clause-costs
-put_over-requires-clause-costs g c = are_small c.args.counted c.args.model.now c.second_costs-costs.result c.grid.ensures.valid c.second_costs-costs.ensures
+pub put_over-requires-clause-step : goal.put_over-requires-clause-step
+put_over-requires-clause-step g c = record {
+  plan = c.requires.plan;
+  n = omega (arith, c.loop-n-test.true, ap (λ (h : GridData). h.horizon) c.behind-model.view_is, ap (λ (h : GridData). h.horizon) c.grid-2.ensures.value);
+  costs = are_small c.args.counted c.args.model.now c.second_costs-costs.result c.grid.ensures.valid c.second_costs-costs.ensures;
+}
 
 pub put_over-requires-clause-below : goal.put_over-requires-clause-below
 put_over-requires-clause-below g c =
