@@ -238,37 +238,36 @@ impl TableCheck {
         true
     }
 
-    // Reads and checks the entries with n seconds to go of the states where an advisory is present.
+    // Reads and checks the entries with n seconds to go of the states under a plane's present advisory.
     fn plane<F: Folder>(
         &mut self,
         model: &Model,
         n: u32,
-        present: u8,
+        plane: &Plane,
         folder: &mut F,
         name: &str,
     ) -> Result<(), AcceptFault>
         requires served { IsTrue (F.serves folder.old name.now) }
         requires n { n ≤ model.now.grid.horizon }
-        requires present { present < model.now.grid.advisories }
-        requires check { IsCheckOf model.now self.old n (state_number model.now.grid present 0) }
+        requires plane { IsPlane model.now plane.now }
+        requires check { IsCheckOf model.now self.old n (state_number model.now.grid plane.now.present 0) }
         ensures given { (digest : List ℕ) → Told (F.holds folder.old) name.now (λ bytes.
-            IsInLayer model.now digest self.old n (state_number model.now.grid present 0) bytes
+            IsInLayer model.now digest self.old n (state_number model.now.grid plane.now.present 0) bytes
             → MatchResult result
-            (λ _. IsInLayer model.now digest self.new n (state_number model.now.grid (present + 1) 0) bytes)
+            (λ _. IsInLayer model.now digest self.new n (state_number model.now.grid (plane.now.present + 1) 0) bytes)
             (IsAnswer model.now digest bytes)) }
         ensures check { OnOk result
-            (IsCheckOf model.now self.new n (state_number model.now.grid (present + 1) 0)) }
+            (IsCheckOf model.now self.new n (state_number model.now.grid (plane.now.present + 1) 0)) }
         ensures reads { ReadsOn F.Folder folder.old folder.new self.old self.new result }
     {
         let vertices = model.grid().vertices();
-        let plane = Plane::new(model, present);
-        let found = self.find_leasts(model, n, &plane);
+        let found = self.find_leasts(model, n, plane);
         for vertex in 0..vertices {
-            let state = u32::from(present) * vertices + vertex;
-            if self.quick_entry(model, n, &plane, found, vertex, state) {
+            let state = u32::from(plane.present) * vertices + vertex;
+            if self.quick_entry(model, n, plane, found, vertex, state) {
                 continue;
             }
-            self.entry(model, n, present, vertex, state, folder, name)?;
+            self.entry(model, n, plane.present, vertex, state, folder, name)?;
         }
         Ok(())
     }
@@ -295,7 +294,8 @@ impl TableCheck {
     {
         self.begin_layer(model, layer_means, n);
         for present in 0..model.grid().advisories as u8 {
-            self.plane(model, n, present, folder, name)?;
+            let plane = Plane::new(model, present);
+            self.plane(model, n, &plane, folder, name)?;
         }
         Ok(())
     }

@@ -26,10 +26,11 @@ loop-present-init g c =
 
 pub returns-in_err-plane-clause-given : goal.returns-in_err-plane-clause-given
 returns-in_err-plane-clause-given g c =
+    let is = c.new-plane.ensures.present in
     let p = err_from_is_err_and c.from_residual.result c.from_residual.ensures.1 in
     rw (p.1, p.2) (λ digest.
     told_then _ c.args.name.now (λ bytes. IsBeforeLayer c.args.model.now digest c.args.self.now c.args.n bytes) (λ bytes. IsInLayer c.args.model.now digest c.loop-present.self c.args.n (state_number c.args.model.now.grid c.loop-present.present 0) bytes) _
-    (c.loop-present.invariant.given digest) (told_at _ _ c.args.name.now _ c.loop-present.invariant.frame.holds (c.in_err-plane.ensures.given digest)))
+    (c.loop-present.invariant.given digest) (told_at _ _ c.args.name.now _ c.loop-present.invariant.frame.holds (rw is at (c.in_err-plane.ensures.given digest))))
 
 pub returns-in_err-plane-clause-reads : goal.returns-in_err-plane-clause-reads
 returns-in_err-plane-clause-reads g c =
@@ -43,16 +44,17 @@ returns-in_err-plane-clause-reads g c =
     })
 
 pub loop-present-preserved : goal.loop-present-preserved
-loop-present-preserved g c = record {
-  check = c.in_ok-plane.ensures.check;
-  given = λ digest.
-      told_then _ c.args.name.now (λ bytes. IsBeforeLayer c.args.model.now digest c.args.self.now c.args.n bytes) (λ bytes. IsInLayer c.args.model.now digest c.loop-present.self c.args.n (state_number c.args.model.now.grid c.loop-present.present 0) bytes) _
-      (c.loop-present.invariant.given digest) (told_at _ _ c.args.name.now _ c.loop-present.invariant.frame.holds (c.in_ok-plane.ensures.given digest));
-  shape = c.plane.ensures.reads.shape ∙ c.loop-present.invariant.shape;
-  format = c.plane.ensures.reads.format ∙ c.loop-present.invariant.format;
-  taken = grind arith;
-  frame = grind arith;
-}
+loop-present-preserved g c =
+    let is = c.new-plane.ensures.present in record {
+      check = rw is at c.in_ok-plane.ensures.check;
+      given = λ digest.
+          told_then _ c.args.name.now (λ bytes. IsBeforeLayer c.args.model.now digest c.args.self.now c.args.n bytes) (λ bytes. IsInLayer c.args.model.now digest c.loop-present.self c.args.n (state_number c.args.model.now.grid c.loop-present.present 0) bytes) _
+          (c.loop-present.invariant.given digest) (told_at _ _ c.args.name.now _ c.loop-present.invariant.frame.holds (rw is at (c.in_ok-plane.ensures.given digest)));
+      shape = c.plane.ensures.reads.shape ∙ c.loop-present.invariant.shape;
+      format = c.plane.ensures.reads.format ∙ c.loop-present.invariant.format;
+      taken = grind arith;
+      frame = grind arith;
+    }
 
 pub returns-clause-given : goal.returns-clause-given
 returns-clause-given g c = λ digest.

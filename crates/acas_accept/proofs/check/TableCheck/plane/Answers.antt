@@ -15,28 +15,28 @@ pub entry-requires-clause-at : goal.entry-requires-clause-at
 entry-requires-clause-at g c =
     let m = c.args.model.now in
     let within : c.loop-vertex.vertex < vertices c.args.model.now.grid = omega (arith, c.vertices-vertices.ensures.value, ap vertices c.grid.ensures.value) in
-    let number = numbered m.grid c.args.present c.loop-vertex.vertex c.from.result c.vertices-vertices.result c.from.ensures (c.vertices-vertices.ensures.value ∙ ap vertices c.grid.ensures.value) in
+    let number = numbered m.grid c.args.plane.now.present c.loop-vertex.vertex c.from.result c.vertices-vertices.result c.from.ensures (c.vertices-vertices.ensures.value ∙ ap vertices c.grid.ensures.value) in
     record {
       seconds = c.requires.n;
-      advisory = c.requires.present;
+      advisory = c.requires.plane.present;
       place = within;
-      inside = state_below m.grid c.args.present c.loop-vertex.vertex (c.from.result * c.vertices-vertices.result + c.loop-vertex.vertex) c.requires.present within number;
+      inside = state_below m.grid c.args.plane.now.present c.loop-vertex.vertex (c.from.result * c.vertices-vertices.result + c.loop-vertex.vertex) c.requires.plane.present within number;
       is = number;
     }
 
 pub quick_entry-requires-clause-state : goal.quick_entry-requires-clause-state
 quick_entry-requires-clause-state g c =
     let m = c.args.model.now in
-    state_below m.grid c.args.present c.loop-vertex.vertex (c.from.result * c.vertices-vertices.result + c.loop-vertex.vertex) c.requires.present (omega (arith, c.vertices-vertices.ensures.value, ap vertices c.grid.ensures.value))
-    (numbered m.grid c.args.present c.loop-vertex.vertex c.from.result c.vertices-vertices.result c.from.ensures (c.vertices-vertices.ensures.value ∙ ap vertices c.grid.ensures.value))
+    state_below m.grid c.args.plane.now.present c.loop-vertex.vertex (c.from.result * c.vertices-vertices.result + c.loop-vertex.vertex) c.requires.plane.present (omega (arith, c.vertices-vertices.ensures.value, ap vertices c.grid.ensures.value))
+    (numbered m.grid c.args.plane.now.present c.loop-vertex.vertex c.from.result c.vertices-vertices.result c.from.ensures (c.vertices-vertices.ensures.value ∙ ap vertices c.grid.ensures.value))
 
 pub loop-vertex-preserved-then-quick_entry : goal.loop-vertex-preserved-then-quick_entry
 loop-vertex-preserved-then-quick_entry g c =
     let m = c.args.model.now in
     let state : ℕ = c.from.result * c.vertices-vertices.result + c.loop-vertex.vertex in
-    let first : ℕ = state_number c.args.model.now.grid c.args.present 0 in
-    let number = numbered m.grid c.args.present c.loop-vertex.vertex c.from.result c.vertices-vertices.result c.from.ensures (c.vertices-vertices.ensures.value ∙ ap vertices c.grid.ensures.value) in
-    let next : state + 1 ≡ state_number c.args.model.now.grid c.args.present (c.loop-vertex.vertex + 1) = ap (λ (s : ℕ). s + 1) number ∙ next_vertex m.grid c.args.present c.loop-vertex.vertex in
+    let first : ℕ = state_number c.args.model.now.grid c.args.plane.now.present 0 in
+    let number = numbered m.grid c.args.plane.now.present c.loop-vertex.vertex c.from.result c.vertices-vertices.result c.from.ensures (c.vertices-vertices.ensures.value ∙ ap vertices c.grid.ensures.value) in
+    let next : state + 1 ≡ state_number c.args.model.now.grid c.args.plane.now.present (c.loop-vertex.vertex + 1) = ap (λ (s : ℕ). s + 1) number ∙ next_vertex m.grid c.args.plane.now.present c.loop-vertex.vertex in
     record {
       check = subst (λ (s : ℕ). IsCheckOf c.args.model.now c.quick_entry.new.self c.args.n s) next (c.if-quick_entry.ensures.check refl);
       given = λ digest.
@@ -56,8 +56,8 @@ returns-in_err-entry-clause-given g c =
     let p = err_from_is_err_and c.from_residual.result c.from_residual.ensures.1 in
     let m = c.args.model.now in
     let state : ℕ = c.from.result * c.vertices-vertices.result + c.loop-vertex.vertex in
-    let first : ℕ = state_number c.args.model.now.grid c.args.present 0 in
-    let number = numbered m.grid c.args.present c.loop-vertex.vertex c.from.result c.vertices-vertices.result c.from.ensures (c.vertices-vertices.ensures.value ∙ ap vertices c.grid.ensures.value) in
+    let first : ℕ = state_number c.args.model.now.grid c.args.plane.now.present 0 in
+    let number = numbered m.grid c.args.plane.now.present c.loop-vertex.vertex c.from.result c.vertices-vertices.result c.from.ensures (c.vertices-vertices.ensures.value ∙ ap vertices c.grid.ensures.value) in
     rw (p.1, p.2) (λ digest.
     told_then _ c.args.name.now (λ bytes. IsInLayer c.args.model.now digest c.args.self.now c.args.n first bytes) (λ bytes. IsInLayer c.args.model.now digest c.quick_entry.new.self c.args.n state bytes) _
     (subst (λ (t : TableCheck). Told (g.F.Folder.holds c.args.folder.now) c.args.name.now (λ bytes. IsInLayer c.args.model.now digest c.args.self.now c.args.n first bytes → IsInLayer c.args.model.now digest t c.args.n state bytes)) (sym (c.if-quick_entry.ensures.none refl))
@@ -79,9 +79,9 @@ pub loop-vertex-preserved : goal.loop-vertex-preserved
 loop-vertex-preserved g c =
     let m = c.args.model.now in
     let state : ℕ = c.from.result * c.vertices-vertices.result + c.loop-vertex.vertex in
-    let first : ℕ = state_number c.args.model.now.grid c.args.present 0 in
-    let number = numbered m.grid c.args.present c.loop-vertex.vertex c.from.result c.vertices-vertices.result c.from.ensures (c.vertices-vertices.ensures.value ∙ ap vertices c.grid.ensures.value) in
-    let next : state + 1 ≡ state_number c.args.model.now.grid c.args.present (c.loop-vertex.vertex + 1) = ap (λ (s : ℕ). s + 1) number ∙ next_vertex m.grid c.args.present c.loop-vertex.vertex in
+    let first : ℕ = state_number c.args.model.now.grid c.args.plane.now.present 0 in
+    let number = numbered m.grid c.args.plane.now.present c.loop-vertex.vertex c.from.result c.vertices-vertices.result c.from.ensures (c.vertices-vertices.ensures.value ∙ ap vertices c.grid.ensures.value) in
+    let next : state + 1 ≡ state_number c.args.model.now.grid c.args.plane.now.present (c.loop-vertex.vertex + 1) = ap (λ (s : ℕ). s + 1) number ∙ next_vertex m.grid c.args.plane.now.present c.loop-vertex.vertex in
     record {
       check = subst (λ (s : ℕ). IsCheckOf c.args.model.now c.entry.new.self c.args.n s) next c.in_ok-entry.ensures.check;
       given = λ digest.
@@ -100,7 +100,7 @@ loop-vertex-preserved g c =
 pub returns-clause-given : goal.returns-clause-given
 returns-clause-given g c = λ digest.
     let m = c.args.model.now in
-    let first : ℕ = state_number c.args.model.now.grid c.args.present 0 in
+    let first : ℕ = state_number c.args.model.now.grid c.args.plane.now.present 0 in
     let all : c.loop-vertex.vertex ≡ vertices c.args.model.now.grid = omega (arith, c.vertices-vertices.ensures.value, ap vertices c.grid.ensures.value) in
-    subst (λ (s : ℕ). Told (g.F.Folder.holds c.args.folder.now) c.args.name.now (λ bytes. IsInLayer c.args.model.now digest c.args.self.now c.args.n first bytes → IsInLayer c.args.model.now digest c.loop-vertex.self c.args.n s bytes)) (next_plane m.grid c.args.present c.loop-vertex.vertex all)
+    subst (λ (s : ℕ). Told (g.F.Folder.holds c.args.folder.now) c.args.name.now (λ bytes. IsInLayer c.args.model.now digest c.args.self.now c.args.n first bytes → IsInLayer c.args.model.now digest c.loop-vertex.self c.args.n s bytes)) (next_plane m.grid c.args.plane.now.present c.loop-vertex.vertex all)
     (c.loop-vertex.invariant.given digest)

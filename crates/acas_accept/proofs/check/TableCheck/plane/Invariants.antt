@@ -9,8 +9,8 @@ use Rattle.acas_accept.proofs.check.TableCheck.plane.Given as goal
 
 abbrev pub invariant-loop-vertex : goal.invariant-loop-vertex
 invariant-loop-vertex g l = record {
-  check : IsCheckOf l.model l.self l.n (state_number l.model.grid l.present l.vertex);
-  given : (digest : List ℕ) → Told (g.F.Folder.holds l.fn.folder) l.name (λ bytes. IsInLayer l.model digest l.fn.self l.n (state_number l.model.grid l.present 0) bytes → IsInLayer l.model digest l.self l.n (state_number l.model.grid l.present l.vertex) bytes);
+  check : IsCheckOf l.model l.self l.n (state_number l.model.grid l.plane.present l.vertex);
+  given : (digest : List ℕ) → Told (g.F.Folder.holds l.fn.folder) l.name (λ bytes. IsInLayer l.model digest l.fn.self l.n (state_number l.model.grid l.plane.present 0) bytes → IsInLayer l.model digest l.self l.n (state_number l.model.grid l.plane.present l.vertex) bytes);
   found : IsTrue l.found → AreFound l.model l.n l.plane.present l.self.means.items l.self.leasts;
   shape : (reader_state l.self.reader).shape ≡ (reader_state l.fn.self.reader).shape;
   format : (reader_state l.self.reader).format ≡ (reader_state l.fn.self.reader).format;
