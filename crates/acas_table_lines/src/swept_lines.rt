@@ -1,13 +1,11 @@
 //! The lines of a compiled table, printed layer by layer as the sweep goes.
-ghost use Rattle.std.specs.Prelude.{◌≡◌, ◌+◌, ◌≤◌, ◌^◌, ◌++◌, [], IsErr, OnOk, OnErr};
+ghost use Rattle.std.specs.Prelude.{◌≡◌, ◌+◌, ◌≤◌, ◌^◌, [], IsErr, OnOk, OnErr};
 ghost use Rattle.acas_spec.specs.Model.{entries};
 ghost use Rattle.acas_outside.specs.Bytes.{Appends, AppendsPart};
 ghost use Rattle.acas_outside.specs.Frame.{Emits};
-ghost use Rattle.acas_print.specs.Printing.{Prints};
-ghost use Rattle.acas_process.specs.Compiled.{compiled};
 ghost use Rattle.acas_sweep.specs.Layers.{backup_count};
 ghost use Rattle.acas_sweep.specs.Room.{IsRoomFor};
-ghost use Rattle.acas_table_lines.specs.ValuesText.{table_lines, values_text};
+ghost use Rattle.acas_table_lines.specs.ValuesText.{values_text};
 
 use crate::line_rows::LineRows;
 use crate::table_lines::Pen;
@@ -42,35 +40,6 @@ pub fn print_table<M: LayerMeans, O: Sink>(
     ensures rising { backups.old ≤ backups.new }
     ensures rising_turned { turned.old ≤ turned.new }
 {
-    print_layers(model, layer_means, room, pen, out, backups, turned)?;
-    pen.buffer.flush(out)?;
-    Ok(())
-}
-
-// Prints the lines of each layer.
-fn print_layers<M: LayerMeans, O: Sink>(
-    model: &Model,
-    layer_means: &M,
-    room: &mut SweepRoom,
-    pen: &mut Pen,
-    out: &mut O,
-    backups: &mut Backups,
-    turned: &mut Turned,
-) -> Result<(), Failed>
-    requires fits { M.fits layer_means.now model.now }
-    requires room { IsRoomFor model.now room.old }
-    requires backups { backups.old ≤ 2 ^ 63 }
-    requires turned { turned.old ≤ 2 ^ 63 }
-    ensures ok { OnOk result (Prints (O.written out.old) (O.written out.new)
-        pen.old.buffer pen.new.buffer (table_lines model.now (compiled model.now))) }
-    ensures err { OnErr result (AppendsPart (O.written out.old) (O.written out.new)
-        (pen.old.buffer ++ table_lines model.now (compiled model.now))) }
-    ensures frame { Emits O.Sink out.old out.new (IsErr result) }
-    ensures counted { OnOk result (backups.new ≡ backups.old + backup_count model.now) }
-    ensures turns { OnOk result (turned.new ≡ turned.old + entries model.now.grid) }
-    ensures rising { backups.old ≤ backups.new }
-    ensures rising_turned { turned.old ≤ turned.new }
-{
     let left = model.grid().horizon + 1;
     let mut rows = LineRows {
         model,
@@ -79,7 +48,10 @@ fn print_layers<M: LayerMeans, O: Sink>(
         left,
     };
     match sweep_to(model, layer_means, room, &mut rows, backups, turned) {
-        Ok(()) => Ok(()),
+        Ok(()) => {
+            pen.buffer.flush(out)?;
+            Ok(())
+        }
         Err(SweepFault::Rows) => Err(Failed),
     }
 }
