@@ -5,11 +5,13 @@ use Rattle.acas_units.specs.declared.limits.TheConstants.{TEXT_BYTES}
 use Rattle.acas_spec.specs.Model.{ModelData}
 use Rattle.acas_model.specs.Whole.{model_of}
 use Rattle.acas_input.specs.declared.fault.InputFault.{InputFault}
+use Rattle.acas_input.specs.declared.fault.InputFault.TheVariants as inputs
 use Rattle.acas_model.specs.declared.fault.ModelFault.{ModelFault}
 use Rattle.acas_command.specs.Outcome.{Outcome, refuses}
 use Rattle.acas_command.specs.declared.status.FileRole.{FileRole}
 use Rattle.acas_command.specs.declared.status.FileRole.TheVariants.{Model as ModelFile}
-use Rattle.acas_command.specs.declared.status.Cause.TheVariants.{Absent, Input, Model, TooLong}
+use Rattle.acas_command.specs.declared.status.Cause.{Cause}
+use Rattle.acas_command.specs.declared.status.Cause.TheVariants.{Absent, Input, Memory, Model, TooLong}
 
 -- a text file is there and is not too long; the rest goes on with its bytes
 abbrev pub with_text : FileRole → Option (List ℕ) → (List ℕ → Outcome) → Outcome
@@ -29,6 +31,11 @@ with_model file rest = with_text ModelFile file (λ bytes. with_reading (model_o
 abbrev pub with_input : {A : Type 0} → Result A InputFault → (A → Outcome) → Outcome
 with_input (Ok said) rest = rest said
 with_input (Err fault) rest = refuses (Input fault)
+
+-- the cause with which a fault of such a text ends a command
+abbrev pub input_cause : InputFault → Cause
+input_cause inputs.Memory = Memory
+input_cause fault = Input fault
 
 -- the file is such a text, not too long; the rest goes on with what it says
 abbrev pub with_input_file : {A : Type 0} → FileRole → (List ℕ → Result A InputFault) → Option (List ℕ) → (A → Outcome) → Outcome

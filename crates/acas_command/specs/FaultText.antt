@@ -35,14 +35,17 @@ axis_text axis TooLong = codes "axis " ++ axis_word axis ++ codes " too long"
 axis_text axis (NotRising place) = codes "axis " ++ axis_word axis ++ codes " not rising at " ++ decimal place
 
 -- whose name it is: an advisory's own, or one of its choices
+abbrev pub name_text : List ℕ → List ℕ → ℕ → Option ℕ → List ℕ
+name_text own choice advisory None = own ++ decimal advisory
+name_text own choice advisory (Some place) = choice ++ decimal advisory ++ codes " at " ++ decimal place
+
+-- a name that stands twice
 abbrev pub repeated_text : ℕ → Option ℕ → List ℕ
-repeated_text advisory None = codes "repeated name of advisory " ++ decimal advisory
-repeated_text advisory (Some choice) = codes "repeated choice of advisory " ++ decimal advisory ++ codes " at " ++ decimal choice
+repeated_text advisory choice = name_text (codes "repeated name of advisory ") (codes "repeated choice of advisory ") advisory choice
 
 -- an unknown name is always a choice's
 abbrev pub unknown_text : ℕ → Option ℕ → List ℕ
-unknown_text advisory None = codes "unknown choice of advisory " ++ decimal advisory
-unknown_text advisory (Some choice) = codes "unknown choice of advisory " ++ decimal advisory ++ codes " at " ++ decimal choice
+unknown_text advisory choice = name_text (codes "unknown choice of advisory ") (codes "unknown choice of advisory ") advisory choice
 
 -- what ties the numbers of a model, with the values that break it
 unfoldable pub weights_text : ℤ → List ℕ

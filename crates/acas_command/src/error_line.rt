@@ -1,8 +1,6 @@
 //! The line on the error output. Writing it takes no memory.
-ghost use Rattle.std.specs.Prelude.{◌≡◌, ◌≤◌, ◌++◌, ◌∷◌, [], ℕ, List, IsErr, OnOk, OnErr, map, string_bytes, slice_index_or};
-ghost use Rattle.acas_outside.specs.Bytes.{Appends, AppendsPart};
-ghost use Rattle.acas_outside.specs.Frame.{Emits};
-ghost use Rattle.acas_command.specs.ErrorLine.{Reports, name_of};
+ghost use Rattle.std.specs.Prelude.{◌≡◌, ◌≤◌, ◌++◌, ◌∷◌, [], ℕ, List, map, string_bytes, slice_index_or};
+ghost use Rattle.acas_command.specs.ErrorLine.{AppendsLine, Reports, name_of};
 ghost use Rattle.acas_command.specs.declared.status.Cause.TheVariants.{Memory, Words};
 ghost use Rattle.acas_command.specs.LineParts.{fault_head, fault_subject, input_head, input_subject, line_head, line_of_parts, line_subject, line_tail};
 
@@ -10,7 +8,7 @@ use crate::fault_text::write_tail;
 use crate::status::{Cause, FileRole};
 use acas_input::InputFault;
 use acas_model::ModelFault;
-use acas_outside::{Failed, Sink, emit_parts};
+use acas_outside::{Sink, emit_parts};
 use acas_units::Line;
 
 /// Writes the line of a run whose output is not all out, with a buffer for its numbers.
@@ -23,16 +21,12 @@ pub fn report<E: Sink>(words: &[String], cause: &Cause, line: &mut Line, err: &m
         return;
     }
     write_tail(line, cause);
-    let written = emit_line(
+    emit_line(
         err,
         line_head(cause).as_bytes(),
         line_subject(cause, words),
         line.bytes(),
     );
-    match written {
-        Ok(()) => {}
-        Err(_) => {}
-    }
 }
 
 /// Writes the line of words that are refused, whatever the words are.
@@ -41,10 +35,7 @@ pub fn report_words<E: Sink>(err: &mut E)
         (E.written err.old) (E.written err.new) (E.faults err.old) (E.faults err.new) }
     ensures faults { E.faults err.old ≤ E.faults err.new }
 {
-    match emit_line(err, b"words refused", b"", b"") {
-        Ok(()) => {}
-        Err(_) => {}
-    }
+    emit_line(err, b"words refused", b"", b"");
 }
 
 /// Writes the line of a run that found no memory for a buffer, whatever the words are.
@@ -53,26 +44,19 @@ pub fn report_memory<E: Sink>(err: &mut E)
         (E.written err.old) (E.written err.new) (E.faults err.old) (E.faults err.new) }
     ensures faults { E.faults err.old ≤ E.faults err.new }
 {
-    match emit_line(err, b"out of memory", b"", b"") {
+    emit_line(err, b"out of memory", b"", b"");
+}
+
+// Writes a line of three parts, which stand at one lifetime here, or its first part where the output fails.
+fn emit_line<'p, E: Sink>(err: &mut E, head: &'p [u8], subject: &'p [u8], tail: &'p [u8])
+    ensures line { AppendsLine (line_of_parts head.now subject.now tail.now)
+        (E.written err.old) (E.written err.new) (E.faults err.old) (E.faults err.new) }
+    ensures faults { E.faults err.old ≤ E.faults err.new }
+{
+    match emit_parts(err, &[b"acas: ", head, subject, tail, b"\n"]) {
         Ok(()) => {}
         Err(_) => {}
     }
-}
-
-// Writes a line of three parts, which stand at one lifetime here.
-fn emit_line<'p, E: Sink>(
-    err: &mut E,
-    head: &'p [u8],
-    subject: &'p [u8],
-    tail: &'p [u8],
-) -> Result<(), Failed>
-    ensures ok { OnOk result (Appends (E.written err.old) (E.written err.new)
-        (line_of_parts head.now subject.now tail.now)) }
-    ensures err { OnErr result
-        (AppendsPart (E.written err.old) (E.written err.new) (line_of_parts head.now subject.now tail.now)) }
-    ensures frame { Emits E.Sink err.old err.new (IsErr result) }
-{
-    emit_parts(err, &[b"acas: ", head, subject, tail, b"\n"])
 }
 
 fn line_head(cause: &Cause) -> &'static str

@@ -1,16 +1,16 @@
 //! What is printed of a model's fault and of an input's.
 ghost use Rattle.std.specs.Prelude.{◌≡◌, ◌+◌, ◌≤◌, ◌++◌, [], length, codes};
 ghost use Rattle.std.specs.Fmt.{decimal, signed_decimal};
-ghost use Rattle.acas_command.specs.FaultText.{axis_text, axis_word, entries_text, kind_text, range_text, repeated_text, unknown_text, weights_text, window_text};
+ghost use Rattle.acas_command.specs.FaultText.{axis_text, axis_word, kind_text, name_text, range_text};
 ghost use Rattle.acas_command.specs.LineParts.{fault_tail, input_tail, line_tail};
 
-use crate::line_fields::{put_count, put_number, put_text};
+use crate::line_fields::{put_count, put_counts, put_number, put_numbers, put_text};
 use crate::refusal_text::write_refusal;
 use crate::status::Cause;
 use acas_doc::DocKind;
 use acas_grid::AxisFault;
 use acas_input::InputFault;
-use acas_model::{AxisName, ModelFault};
+use acas_model::{AxisName, ModelFault, NamePlace};
 use acas_units::{GREATEST_ENTRIES, GREATEST_TOTAL_WEIGHT, Line};
 
 /// Makes a line of what is printed of a cause behind the name or the key that it is about.
@@ -26,6 +26,7 @@ pub(crate) fn write_tail(line: &mut Line, cause: &Cause)
     }
 }
 
+#[tactic(auto, unfolding(crate::specs::FaultText::weights_text, crate::specs::FaultText::window_text, crate::specs::FaultText::entries_text))]
 fn write_fault_tail(line: &mut Line, fault: &ModelFault)
     requires { line.old ≡ [] }
     ensures { line.new ≡ fault_tail fault.now }
@@ -40,11 +41,24 @@ fn write_fault_tail(line: &mut Line, fault: &ModelFault)
         ModelFault::NoChoice { advisory } => {
             write_numbered(line, "no choice of advisory ", *advisory)
         }
-        ModelFault::UnknownName { at } => write_unknown(line, at.advisory, at.choice),
-        ModelFault::RepeatedName { at } => write_repeated(line, at.advisory, at.choice),
-        ModelFault::Weights { total } => write_weights(line, *total),
-        ModelFault::Window { needed, allowed } => write_window(line, *needed, *allowed),
-        ModelFault::TooManyEntries { entries } => write_entries(line, *entries),
+        ModelFault::UnknownName { at } => {
+            let choice = "unknown choice of advisory ";
+            write_name(line, choice, choice, *at)
+        }
+        ModelFault::RepeatedName { at } => {
+            let own = "repeated name of advisory ";
+            write_name(line, own, "repeated choice of advisory ", *at)
+        }
+        ModelFault::Weights { total } => {
+            let most = i64::from(GREATEST_TOTAL_WEIGHT);
+            put_numbers(line, "weights ", *total, " over ", most)
+        }
+        ModelFault::Window { needed, allowed } => {
+            put_numbers(line, "window ", *needed, " over ", *allowed)
+        }
+        ModelFault::TooManyEntries { entries } => {
+            put_counts(line, "entries ", *entries, " over ", GREATEST_ENTRIES)
+        }
         ModelFault::Memory => put_text(line, "out of memory"),
     }
 }
@@ -128,66 +142,16 @@ fn write_numbered(line: &mut Line, text: &str, number: u32)
     put_count(line, u64::from(number));
 }
 
-fn write_choice(line: &mut Line, text: &str, advisory: u32, choice: u32)
+// Makes a line of whose name it is: an advisory's own, or one of its choices.
+fn write_name(line: &mut Line, own: &str, choice: &str, at: NamePlace)
     requires empty { line.old ≡ [] }
-    requires short { length text.now ≤ 100 }
-    ensures { line.new ≡ text.now ++ decimal advisory ++ codes " at " ++ decimal choice }
+    requires own { length own.now ≤ 100 }
+    requires choice { length choice.now ≤ 100 }
+    ensures { line.new ≡ name_text own.now choice.now at.advisory at.choice }
 {
-    put_text(line, text);
-    put_count(line, u64::from(advisory));
-    put_text(line, " at ");
-    put_count(line, u64::from(choice));
-}
-
-fn write_unknown(line: &mut Line, advisory: u32, choice: Option<u32>)
-    requires { line.old ≡ [] }
-    ensures { line.new ≡ unknown_text advisory choice }
-{
-    match choice {
-        None => write_numbered(line, "unknown choice of advisory ", advisory),
-        Some(choice) => write_choice(line, "unknown choice of advisory ", advisory, choice),
+    let advisory = u64::from(at.advisory);
+    match at.choice {
+        None => write_numbered(line, own, at.advisory),
+        Some(place) => put_counts(line, choice, advisory, " at ", u64::from(place)),
     }
-}
-
-fn write_repeated(line: &mut Line, advisory: u32, choice: Option<u32>)
-    requires { line.old ≡ [] }
-    ensures { line.new ≡ repeated_text advisory choice }
-{
-    match choice {
-        None => write_numbered(line, "repeated name of advisory ", advisory),
-        Some(choice) => write_choice(line, "repeated choice of advisory ", advisory, choice),
-    }
-}
-
-#[tactic(auto, unfolding(crate::specs::FaultText::weights_text))]
-fn write_weights(line: &mut Line, total: i64)
-    requires { line.old ≡ [] }
-    ensures { line.new ≡ weights_text total }
-{
-    put_text(line, "weights ");
-    put_number(line, total);
-    put_text(line, " over ");
-    put_count(line, u64::from(GREATEST_TOTAL_WEIGHT));
-}
-
-#[tactic(auto, unfolding(crate::specs::FaultText::window_text))]
-fn write_window(line: &mut Line, needed: i64, allowed: i64)
-    requires { line.old ≡ [] }
-    ensures { line.new ≡ window_text needed allowed }
-{
-    put_text(line, "window ");
-    put_number(line, needed);
-    put_text(line, " over ");
-    put_number(line, allowed);
-}
-
-#[tactic(auto, unfolding(crate::specs::FaultText::entries_text))]
-fn write_entries(line: &mut Line, entries: u64)
-    requires { line.old ≡ [] }
-    ensures { line.new ≡ entries_text entries }
-{
-    put_text(line, "entries ");
-    put_count(line, entries);
-    put_text(line, " over ");
-    put_count(line, GREATEST_ENTRIES);
 }

@@ -49,3 +49,26 @@ pub fn put_wide_millionths(line: &mut Line, value: i128)
 {
     line.millionths(value);
 }
+
+/// Appends two numbers that are not negative, each behind a text.
+pub(crate) fn put_counts(line: &mut Line, head: &str, first: u64, between: &str, second: u64)
+    requires { length line.old + length head.now + length between.now + 40 ≤ LINE_BYTES }
+    ensures value { line.new ≡ line.old ++ head.now ++ decimal first ++ between.now ++ decimal second }
+    ensures room { length line.new ≤ length line.old + length head.now + length between.now + 40 }
+{
+    put_text(line, head);
+    put_count(line, first);
+    put_text(line, between);
+    put_count(line, second);
+}
+
+/// Appends two numbers, each behind a text.
+pub(crate) fn put_numbers(line: &mut Line, head: &str, first: i64, between: &str, second: i64)
+    requires { length line.old + length head.now + length between.now + 40 ≤ LINE_BYTES }
+    ensures { line.new ≡ line.old ++ head.now ++ signed_decimal first ++ between.now ++ signed_decimal second }
+{
+    put_text(line, head);
+    put_number(line, first);
+    put_text(line, between);
+    put_number(line, second);
+}

@@ -1,9 +1,11 @@
 //! What is printed of a table's refusal.
 ghost use Rattle.std.specs.Prelude.{[], ◌≡◌, ◌++◌, ◌+◌, ◌≤◌, length};
 ghost use Rattle.hex.specs.Hex.{encode_lower};
-ghost use Rattle.acas_command.specs.RefusalText.{bound_text, byte_text, digest_text, form_text, layer_digest_text, length_text, lower_text, model_text, refusal_text, shape_text, state_text, upper_text};
+ghost use Rattle.std.specs.Fmt.{decimal};
+ghost use Rattle.acas_units.specs.Printed.{millionths_text};
+ghost use Rattle.acas_command.specs.RefusalText.{bound_text, byte_text, digest_text, form_text, layer_digest_text, model_text, refusal_text, shape_text, state_text};
 
-use crate::line_fields::{put_count, put_millionths, put_text, put_wide_millionths};
+use crate::line_fields::{put_count, put_counts, put_millionths, put_text, put_wide_millionths};
 use acas_spec::BoundFault;
 use acas_table_text::{TableFault, TableRefusal};
 use acas_units::Line;
@@ -26,6 +28,7 @@ pub(crate) fn write_refusal(line: &mut Line, refusal: &TableRefusal)
     }
 }
 
+#[tactic(auto, unfolding(crate::specs::RefusalText::length_text))]
 fn write_form(line: &mut Line, fault: &TableFault)
     requires { line.old ≡ [] }
     ensures { line.new ≡ form_text fault.now }
@@ -42,7 +45,9 @@ fn write_form(line: &mut Line, fault: &TableFault)
             kept,
             expected,
         } => write_shape(line, *place, *kept, *expected),
-        TableFault::Length { expected, found } => write_length(line, *expected, *found),
+        TableFault::Length { expected, found } => {
+            put_counts(line, "length ", *found, " of ", *expected)
+        }
         TableFault::Advice { layer, state, byte } => write_byte(line, *layer, *state, *byte),
         TableFault::Digest { kept, computed } => put_digest(line, kept, computed),
         TableFault::LayerDigest {
@@ -114,27 +119,19 @@ fn write_shape(line: &mut Line, place: u32, kept: u32, expected: u32)
     put_count(line, u64::from(expected));
 }
 
-#[tactic(auto, unfolding(crate::specs::RefusalText::length_text))]
-fn write_length(line: &mut Line, expected: u64, found: u64)
-    requires { line.old ≡ [] }
-    ensures { line.new ≡ length_text expected found }
-{
-    put_text(line, "length ");
-    put_count(line, found);
-    put_text(line, " of ");
-    put_count(line, expected);
-}
-
 #[tactic(auto, unfolding(crate::specs::RefusalText::state_text))]
 fn write_state(line: &mut Line, layer: u32, state: u32)
     requires { line.old ≡ [] }
     ensures value { line.new ≡ state_text layer state }
     ensures short { length line.new ≤ 60 }
 {
-    put_text(line, "layer ");
-    put_count(line, u64::from(layer));
-    put_text(line, " state ");
-    put_count(line, u64::from(state));
+    put_counts(
+        line,
+        "layer ",
+        u64::from(layer),
+        " state ",
+        u64::from(state),
+    );
 }
 
 #[tactic(auto, unfolding(crate::specs::RefusalText::byte_text))]
@@ -147,35 +144,29 @@ fn write_byte(line: &mut Line, layer: u32, state: u32, byte: u8)
     put_count(line, u64::from(byte));
 }
 
+#[tactic(auto, unfolding(crate::specs::RefusalText::upper_text, crate::specs::RefusalText::lower_text))]
 fn write_bound(line: &mut Line, fault: &BoundFault)
     requires { length line.old ≤ 60 }
     ensures { line.new ≡ line.old ++ bound_text fault.now }
 {
     match fault {
         BoundFault::AdviceNotAllowed => put_text(line, " advice not allowed"),
-        BoundFault::UpperTooLow { stands, needed } => write_upper(line, *stands, *needed),
-        BoundFault::LowerTooHigh { stands, allowed } => write_lower(line, *stands, *allowed),
+        BoundFault::UpperTooLow { stands, needed } => {
+            put_values(line, " upper ", *stands, " under ", *needed)
+        }
+        BoundFault::LowerTooHigh { stands, allowed } => {
+            put_values(line, " lower ", *stands, " over ", *allowed)
+        }
     }
 }
 
-#[tactic(auto, unfolding(crate::specs::RefusalText::upper_text))]
-fn write_upper(line: &mut Line, stands: i64, needed: i128)
-    requires { length line.old ≤ 60 }
-    ensures { line.new ≡ line.old ++ upper_text stands needed }
+// Appends two values, each behind a text.
+fn put_values(line: &mut Line, head: &str, stands: i64, between: &str, against: i128)
+    requires { length line.old + length head.now + length between.now ≤ 900 }
+    ensures { line.new ≡ line.old ++ head.now ++ millionths_text stands ++ between.now ++ millionths_text against }
 {
-    put_text(line, " upper ");
+    put_text(line, head);
     put_millionths(line, stands);
-    put_text(line, " under ");
-    put_wide_millionths(line, needed);
-}
-
-#[tactic(auto, unfolding(crate::specs::RefusalText::lower_text))]
-fn write_lower(line: &mut Line, stands: i64, allowed: i128)
-    requires { length line.old ≤ 60 }
-    ensures { line.new ≡ line.old ++ lower_text stands allowed }
-{
-    put_text(line, " lower ");
-    put_millionths(line, stands);
-    put_text(line, " over ");
-    put_wide_millionths(line, allowed);
+    put_text(line, between);
+    put_wide_millionths(line, against);
 }

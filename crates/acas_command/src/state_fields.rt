@@ -1,5 +1,5 @@
 //! The fields of a line, each with a space behind it, and those of a state.
-ghost use Rattle.std.specs.Prelude.{◌≡◌, ◌+◌, ◌≤◌, ◌<◌, ◌++◌, ◌∷◌, [], length};
+ghost use Rattle.std.specs.Prelude.{◌≡◌, ◌+◌, ◌≤◌, ◌<◌, ◌++◌, length};
 ghost use Rattle.std.specs.Fmt.{decimal, signed_decimal};
 ghost use Rattle.acas_grid.specs.Grid.{IsVertex};
 ghost use Rattle.acas_units.specs.Printed.{millionths_text};

@@ -51,6 +51,19 @@ pub struct Status {
     pub cause: Cause,
 }
 
+impl Status {
+    /// The end of a run by a cause, with the code that goes with it.
+    pub fn of(cause: Cause) -> Status
+        ensures cause { result.cause ≡ cause }
+        ensures code { result.code ≡ code_of cause }
+    {
+        Status {
+            code: cause.code(),
+            cause,
+        }
+    }
+}
+
 impl From<AllocError> for Cause {
     ghost use Rattle.std.specs.Prelude.{◌≡◌};
     ghost use Rattle.acas_command.specs.declared.status.Cause.TheVariants.{Memory};
@@ -59,6 +72,20 @@ impl From<AllocError> for Cause {
 
     fn from(_: AllocError) -> Cause {
         Cause::Memory
+    }
+}
+
+impl From<InputFault> for Cause {
+    ghost use Rattle.std.specs.Prelude.{◌≡◌};
+    ghost use Rattle.acas_command.specs.Calls.{input_cause};
+
+    ghost from_gives = { λ fault e. e ≡ input_cause fault };
+
+    fn from(fault: InputFault) -> Cause {
+        match fault {
+            InputFault::Memory => Cause::Memory,
+            fault => Cause::Input(fault),
+        }
     }
 }
 
