@@ -1,7 +1,6 @@
 //! The command on encounters: `replay` flies one under the advice of a table.
 #![tactic(auto)]
 
-mod encounter_file;
 mod replay_command;
 
 pub use replay_command::replay;

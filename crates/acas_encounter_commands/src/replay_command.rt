@@ -5,8 +5,8 @@ ghost use Rattle.acas_outside.specs.Outside.{outside};
 ghost use Rattle.acas_command.specs.Answers.{Answers, ended};
 ghost use Rattle.acas_encounter_commands.specs.Calls.{CallsForReplay};
 
-use crate::encounter_file::read_encounter_file;
-use acas_command::{Cause, read_model_file};
+use acas_command::{Cause, FileRole, read_model_file, read_text_file};
+use acas_encounter::read_encounter;
 use acas_means::LayerMeans;
 use acas_outside::{Folder, Sink};
 use acas_print::PrintFault;
@@ -33,7 +33,8 @@ pub fn replay<M: LayerMeans, F: Folder, O: Sink>(
 {
     let found = read_model_file(alloc, model, folder)?;
     let advices = read_table_file::<M, F>(alloc, &found, table, folder)?;
-    let flown = read_encounter_file(alloc, &found.model, encounter, folder)?;
+    let text = read_text_file(alloc, FileRole::Encounter, encounter, folder)?;
+    let flown = read_encounter(alloc, &found.model, &text)?;
     match acas_replay::replay(alloc, &found.model, &advices, &flown, out) {
         Ok(_) => Ok(()),
         Err(PrintFault::Sink) => Err(Cause::Output),

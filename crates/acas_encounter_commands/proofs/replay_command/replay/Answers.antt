@@ -1,4 +1,4 @@
-use Rattle.std.proofs.Common.{refl, ◌∙◌, Option, inr, subst, arith, rules, []}
+use Rattle.std.proofs.Common.{ℕ, List, refl, ◌∙◌, Option, inr, subst, sym, arith, rules, []}
 use Rattle.std.specs.Prelude.{IfSome}
 use Rattle.std.specs.FinMap.{get}
 use Rattle.std.proofs.lemmas.Result.{err_from_is_err_and}
@@ -8,7 +8,11 @@ use Rattle.acas_outside.specs.Files.{Files, Given}
 use Rattle.acas_outside.specs.Outside.{Outside, outside}
 use Rattle.acas_encounter.specs.Whole.{encounter_of}
 use Rattle.acas_command.specs.Called.{calls_for}
+use Rattle.acas_command.specs.Calls.{input_cause, with_input}
 use Rattle.acas_command.specs.InputFile.{IsInputFile}
+use Rattle.acas_command.specs.TextFile.{IsTextFile}
+use Rattle.acas_command.specs.declared.status.FileRole.TheVariants.{Encounter as EncounterFile}
+use Rattle.acas_command.proofs.Inputs.{answers-input, ends-input}
 use Rattle.acas_command.specs.ModelFile.{IsModelFile}
 use Rattle.acas_command.specs.Outcome.{prints, reports}
 use Rattle.acas_command.specs.declared.status.Cause.TheVariants.{Done}
@@ -54,8 +58,8 @@ returns-in_err-advices-clause-answers g c =
     c.in_ok-found.ensures.ok)
     (c.in_err-advices.ensures.err (λ files bytes. encounter_looked_at encounter files m) _ _))
 
-pub returns-in_err-flown-clause-answers : goal.returns-in_err-flown-clause-answers
-returns-in_err-flown-clause-answers g c =
+pub returns-in_err-text-clause-answers : goal.returns-in_err-text-clause-answers
+returns-in_err-text-clause-answers g c =
     let m = c.in_ok-found.found.model in
     let digest = c.in_ok-found.found.digest in
     let model = c.args.model.now in
@@ -64,15 +68,15 @@ returns-in_err-flown-clause-answers g c =
     let advices = c.in_ok-advices.advices in
     let before : Outside = outside g.F.Folder g.O.Sink c.args.folder.now c.args.out.now in
     let mid : Outside = outside g.F.Folder g.O.Sink c.read_table_file.new.folder c.args.out.now in
-    let after : Outside = outside g.F.Folder g.O.Sink c.read_encounter_file.new.folder c.args.out.now in
+    let after : Outside = outside g.F.Folder g.O.Sink c.read_text_file.new.folder c.args.out.now in
     let first = c.read_model_file.ensures.frame in
     let second = c.read_table_file.ensures.frame in
-    let p = err_from_is_err_and c.from_residual-in_err-flown.result c.from_residual-in_err-flown.ensures.1 in
+    let p = err_from_is_err_and c.from_residual-in_err-text.result c.from_residual-in_err-text.ensures.1 in
     let accepted : Given before.holds table (λ file. IsTableFile m digest file advices) =
     subst (λ (h : Option Files). Given h table (λ file. IsTableFile m digest file advices)) first.holds c.in_ok-advices.ensures.ok in
     rw (p.1, p.2)
-    (answers-behind (calls_for (λ files. encounter_looked_at encounter files m)) (CallsForReplay model table encounter) c.in_err-flown.field-0.0 before mid after
-    c.in_err-flown.ensures.refused
+    (answers-behind (calls_for (λ files. encounter_looked_at encounter files m)) (CallsForReplay model table encounter) c.in_err-text.field-0.0 before mid after
+    c.in_err-text.ensures.refused
     (record {
       holds = second.holds ∙ first.holds;
       written = refl;
@@ -84,7 +88,44 @@ returns-in_err-flown-clause-answers g c =
     (told-both before.holds _ _ _
     (λ files is is_table. replay-refers model table encounter files (λ fs. encounter_looked_at encounter fs m) (replay-behind_table model table encounter digest m advices files is is_table))
     c.in_ok-found.ensures.ok accepted)
-    (c.in_err-flown.ensures.err (λ flown. prints []) _ _))
+    (c.in_err-text.ensures.err (λ files bytes. with_input (encounter_of m bytes) (λ flown. prints [])) _ _))
+
+pub returns-in_err-flown-clause-answers : goal.returns-in_err-flown-clause-answers
+returns-in_err-flown-clause-answers g c =
+    let m = c.in_ok-found.found.model in
+    let digest = c.in_ok-found.found.digest in
+    let model = c.args.model.now in
+    let table = c.args.table.now in
+    let encounter = c.args.encounter.now in
+    let advices = c.in_ok-advices.advices in
+    let before : Outside = outside g.F.Folder g.O.Sink c.args.folder.now c.args.out.now in
+    let after : Outside = outside g.F.Folder g.O.Sink c.read_text_file.new.folder c.args.out.now in
+    let first = c.read_model_file.ensures.frame in
+    let second = c.read_table_file.ensures.frame in
+    let third = c.read_text_file.ensures.frame in
+    let bytes = c.deref.result.now in
+    let fault = c.in_err-flown.field-0.0 in
+    let p = err_from_is_err_and c.from_residual-in_err-flown.result c.from_residual-in_err-flown.ensures.1 in
+    let accepted : Given before.holds table (λ file. IsTableFile m digest file advices) =
+    subst (λ (h : Option Files). Given h table (λ file. IsTableFile m digest file advices)) first.holds c.in_ok-advices.ensures.ok in
+    let given : Given after.holds encounter (λ file. IsTextFile file bytes) =
+    subst (λ (h : Option Files). Given h encounter (λ file. IsTextFile file bytes)) (sym third.holds)
+    (subst (λ (b : List ℕ). Given (g.F.Folder.holds c.read_table_file.new.folder) encounter (λ file. IsTextFile file b)) (sym c.deref.ensures.value) c.in_ok-text.ensures.ok) in
+    rw (p.1, p.2)
+    (answers-behind (calls_for (λ files. encounter_looked_at encounter files m)) (CallsForReplay model table encounter) (input_cause fault) before after after
+    (ends-input fault)
+    (record {
+      holds = third.holds ∙ second.holds ∙ first.holds;
+      written = refl;
+      misses = omega (arith, first.misses, second.misses, third.misses);
+      taken = omega (arith, first.taken, second.taken, third.taken);
+      faults = omega (arith, first.faults, second.faults, third.faults);
+      output_faults = omega arith;
+    })
+    (told-both before.holds _ _ _
+    (λ files is is_table. replay-refers model table encounter files (λ fs. encounter_looked_at encounter fs m) (replay-behind_table model table encounter digest m advices files is is_table))
+    c.in_ok-found.ensures.ok accepted)
+    (answers-input EncounterFile (encounter_of m) encounter bytes fault (λ flown. prints []) after given c.in_err-flown.ensures.value))
 
 pub returns-in-Ok-clause-answers : goal.returns-in-Ok-clause-answers
 returns-in-Ok-clause-answers g c =
@@ -97,13 +138,17 @@ returns-in-Ok-clause-answers g c =
     let flown = c.in_ok-flown.flown in
     let r = c.in-Ok.ensures.replay in
     let before : Outside = outside g.F.Folder g.O.Sink c.args.folder.now c.args.out.now in
-    let after : Outside = outside g.F.Folder g.O.Sink c.read_encounter_file.new.folder c.replay.new.sink in
+    let after : Outside = outside g.F.Folder g.O.Sink c.read_text_file.new.folder c.replay.new.sink in
     let first = c.read_model_file.ensures.frame in
     let second = c.read_table_file.ensures.frame in
     let accepted : Given before.holds table (λ file. IsTableFile m digest file advices) =
     subst (λ (h : Option Files). Given h table (λ file. IsTableFile m digest file advices)) first.holds c.in_ok-advices.ensures.ok in
+    let bytes = c.deref.result.now in
+    let given : Given before.holds encounter (λ file. IsTextFile file bytes) =
+    subst (λ (h : Option Files). Given h encounter (λ file. IsTextFile file bytes)) (second.holds ∙ first.holds)
+    (subst (λ (b : List ℕ). Given (g.F.Folder.holds c.read_table_file.new.folder) encounter (λ file. IsTextFile file b)) (sym c.deref.ensures.value) c.in_ok-text.ensures.ok) in
     let read : Given before.holds encounter (λ file. IsInputFile (encounter_of m) file flown) =
-    subst (λ (h : Option Files). Given h encounter (λ file. IsInputFile (encounter_of m) file flown)) (second.holds ∙ first.holds) c.in_ok-flown.ensures.ok in
+    told-map before.holds _ _ (λ files text. record { bytes = bytes; text = text; is_read = c.in_ok-flown.ensures.value }) given in
     let replayed : IfSome before.holds (λ files. IsReplayed model table encounter files m advices flown) =
     told-both before.holds _ _ _ (λ files both is_encounter. record {
       advised = record { digest = digest; model_file = both.0; table_file = both.1; fits = c.in_ok-advices.ensures.advices; known = subst AreAdvices c.advices.view_is c.advices.invariant };
@@ -117,7 +162,7 @@ returns-in-Ok-clause-answers g c =
       report = record { m = m; advices = advices; flown = flown; replayed = is; contacts = _; replay = r.1; none = refl };
       is = refl;
     })) replayed) refl
-    (told-kept before.holds after.holds (c.read_encounter_file.ensures.frame.holds ∙ second.holds ∙ first.holds)) r.2
+    (told-kept before.holds after.holds (c.read_text_file.ensures.frame.holds ∙ second.holds ∙ first.holds)) r.2
 
 pub returns-in-Err-Sink-clause-answers : goal.returns-in-Err-Sink-clause-answers
 returns-in-Err-Sink-clause-answers g c =
@@ -130,14 +175,18 @@ returns-in-Err-Sink-clause-answers g c =
     let flown = c.in_ok-flown.flown in
     let r = c.in-Err-Sink.ensures.part (search rules) in
     let before : Outside = outside g.F.Folder g.O.Sink c.args.folder.now c.args.out.now in
-    let after : Outside = outside g.F.Folder g.O.Sink c.read_encounter_file.new.folder c.replay.new.sink in
+    let after : Outside = outside g.F.Folder g.O.Sink c.read_text_file.new.folder c.replay.new.sink in
     let first = c.read_model_file.ensures.frame in
     let second = c.read_table_file.ensures.frame in
     let rose : Rose before.output_faults after.output_faults = search rules in
     let accepted : Given before.holds table (λ file. IsTableFile m digest file advices) =
     subst (λ (h : Option Files). Given h table (λ file. IsTableFile m digest file advices)) first.holds c.in_ok-advices.ensures.ok in
+    let bytes = c.deref.result.now in
+    let given : Given before.holds encounter (λ file. IsTextFile file bytes) =
+    subst (λ (h : Option Files). Given h encounter (λ file. IsTextFile file bytes)) (second.holds ∙ first.holds)
+    (subst (λ (b : List ℕ). Given (g.F.Folder.holds c.read_table_file.new.folder) encounter (λ file. IsTextFile file b)) (sym c.deref.ensures.value) c.in_ok-text.ensures.ok) in
     let read : Given before.holds encounter (λ file. IsInputFile (encounter_of m) file flown) =
-    subst (λ (h : Option Files). Given h encounter (λ file. IsInputFile (encounter_of m) file flown)) (second.holds ∙ first.holds) c.in_ok-flown.ensures.ok in
+    told-map before.holds _ _ (λ files text. record { bytes = bytes; text = text; is_read = c.in_ok-flown.ensures.value }) given in
     let replayed : IfSome before.holds (λ files. IsReplayed model table encounter files m advices flown) =
     told-both before.holds _ _ _ (λ files both is_encounter. record {
       advised = record { digest = digest; model_file = both.0; table_file = both.1; fits = c.in_ok-advices.ensures.advices; known = subst AreAdvices c.advices.view_is c.advices.invariant };
@@ -150,4 +199,4 @@ returns-in-Err-Sink-clause-answers g c =
       replay = record { m = m; advices = advices; flown = flown; replayed = is; contacts = r.0; replay = r.2; none = refl };
       part = r.3;
     }) replayed)
-    (told-kept before.holds after.holds (c.read_encounter_file.ensures.frame.holds ∙ second.holds ∙ first.holds)) rose
+    (told-kept before.holds after.holds (c.read_text_file.ensures.frame.holds ∙ second.holds ∙ first.holds)) rose
