@@ -1,7 +1,6 @@
 //! The command `regions`, which rules on each box of a file.
 #![tactic(auto)]
 
-mod boxes_file;
 mod regions_command;
 
 pub use regions_command::regions;

@@ -5,8 +5,8 @@ ghost use Rattle.acas_outside.specs.Outside.{outside};
 ghost use Rattle.acas_command.specs.Answers.{Answers, report_ended};
 ghost use Rattle.acas_region_commands.specs.Calls.{CallsForRegions};
 
-use crate::boxes_file::read_boxes_file;
-use acas_command::{Cause, read_model_file};
+use acas_boxes::read_boxes;
+use acas_command::{Cause, FileRole, read_model_file, read_text_file};
 use acas_outside::{Folder, Sink};
 use acas_print::PrintFault;
 use acas_report::write_regions;
@@ -28,7 +28,8 @@ pub fn regions<F: Folder, O: Sink>(
     ensures output { O.faults out.old ≤ O.faults out.new }
 {
     let found = read_model_file(alloc, model, folder)?;
-    let said = read_boxes_file(alloc, &found.model, boxes, folder)?;
+    let text = read_text_file(alloc, FileRole::Boxes, boxes, folder)?;
+    let said = read_boxes(alloc, &found.model, &text)?;
     match write_regions(alloc, &found.model, &said, out) {
         Ok(counts) => Ok(counts.reported),
         Err(PrintFault::Sink) => Err(Cause::Output),
