@@ -22,7 +22,7 @@ pub record SaysBeside {A : Type 0} (IsText : ModelData → List ℕ → A → Ty
   pub short : length given ≤ TEXT_BYTES
   pub text : IsText m given said
 
--- M says a model, and the other file says nothing beside it, and beside the digest of M's text
+-- M says a model, beside which, and beside the digest of its text, the other file says nothing
 pub record RejectsBeside {A : Type 0} (IsText : ModelData → List ℕ → List ℕ → A → Type 0) (model input : List ℕ) (files : Files) : Type 0 where
   pub bytes : List ℕ
   pub m : ModelData
