@@ -6,8 +6,8 @@ ghost use Rattle.acas_manoeuvre.specs.View.{may_of};
 ghost use Rattle.acas_command.specs.Answers.{Answers, report_ended};
 ghost use Rattle.acas_manoeuvre_commands.specs.Calls.{CallsForManoeuvre};
 
-use crate::boxes_file::read_boxes_file;
-use acas_command::{Cause, read_model_file};
+use acas_boxes::read_fitting_boxes;
+use acas_command::{Cause, FileRole, read_model_file, read_text_file};
 use acas_intruder::write_meetings;
 use acas_manoeuvre::Manoeuvre;
 use acas_outside::{Folder, Sink};
@@ -31,7 +31,8 @@ pub fn manoeuvre<F: Folder, O: Sink>(
     ensures output { O.faults out.old ≤ O.faults out.new }
 {
     let found = read_model_file(alloc, model, folder)?;
-    let said = read_boxes_file(alloc, &found.model, may, boxes, folder)?;
+    let text = read_text_file(alloc, FileRole::Boxes, boxes, folder)?;
+    let said = read_fitting_boxes(alloc, &found.model, may, &text)?;
     match write_meetings(alloc, &found.model, &said, may, out) {
         Ok(counts) => Ok(counts.reported),
         Err(PrintFault::Sink) => Err(Cause::Output),
