@@ -51,19 +51,6 @@ pub struct Status {
     pub cause: Cause,
 }
 
-impl Status {
-    /// The end of a run by a cause, with the code that goes with it.
-    pub fn of(cause: Cause) -> Status
-        ensures cause { result.cause ≡ cause }
-        ensures code { result.code ≡ code_of cause }
-    {
-        Status {
-            code: cause.code(),
-            cause,
-        }
-    }
-}
-
 impl From<AllocError> for Cause {
     ghost use Rattle.std.specs.Prelude.{◌≡◌};
     ghost use Rattle.acas_command.specs.declared.status.Cause.TheVariants.{Memory};
