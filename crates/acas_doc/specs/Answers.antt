@@ -19,6 +19,11 @@ abbrev pub Answers : {X Y : Type 0} → (X → Y) → Result X DocError → Resu
 Answers view (Ok x) rules = rules ≡ Ok (view x)
 Answers view (Err e) rules = Fails e rules
 
+-- a getter's fault, as a fault of a text: the fault of a key carried over, or what says that memory ran out
+abbrev pub text_fault : {E : Type 0} → (DocFault → E) → E → DocError → E
+text_fault carried memory (errors.Fault f) = carried f
+text_fault carried memory errors.Memory = memory
+
 -- the call gave what the rules give, seen by view
 abbrev pub Sees : {X Y E : Type 0} → (X → Y) → Result X E → Result Y E → Type 0
 Sees view (Ok x) rules = rules ≡ Ok (view x)

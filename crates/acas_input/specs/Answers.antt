@@ -1,15 +1,8 @@
 -- What a reader of an input answers.
 use Rattle.std.specs.Prelude.{Result}
 use Rattle.acas_doc.specs.Answers.{GivesUnless}
-use Rattle.acas_doc.specs.declared.fault.DocError.{DocError}
-use Rattle.acas_doc.specs.declared.fault.DocError.TheVariants as errors
 use Rattle.acas_input.specs.declared.fault.InputFault.{InputFault}
-use Rattle.acas_input.specs.declared.fault.InputFault.TheVariants.{Doc, Memory}
-
--- the fault of a key, as a fault of the input
-abbrev pub input_fault : DocError → InputFault
-input_fault (errors.Fault f) = Doc f
-input_fault errors.Memory = Memory
+use Rattle.acas_input.specs.declared.fault.InputFault.TheVariants.{Memory}
 
 -- the reader answered what the rules give, seen by view, unless memory ran out
 abbrev pub Gives : {X Y : Type 0} → (X → Y) → Result X InputFault → Result Y InputFault → Type 0

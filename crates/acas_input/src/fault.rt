@@ -1,7 +1,7 @@
 //! The first rule that an input's text fails.
 ghost use Rattle.std.specs.Prelude.{◌≡◌};
-ghost use Rattle.acas_input.specs.declared.fault.InputFault.TheVariants.{Memory};
-ghost use Rattle.acas_input.specs.Answers.{input_fault};
+ghost use Rattle.acas_doc.specs.Answers.{text_fault};
+ghost use Rattle.acas_input.specs.declared.fault.InputFault.TheVariants.{Doc, Memory};
 
 use acas_doc::{DocError, DocFault};
 use std::alloc::{AllocError, AllocFailed};
@@ -41,7 +41,7 @@ impl<T: Drop> From<AllocFailed<T>> for InputFault {
 }
 
 impl From<DocError> for InputFault {
-    ghost from_gives = { λ d e. e ≡ input_fault d };
+    ghost from_gives = { λ d e. e ≡ text_fault Doc Memory d };
 
     fn from(error: DocError) -> InputFault {
         match error {

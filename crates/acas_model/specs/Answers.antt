@@ -1,15 +1,8 @@
 -- What a reader of a model answers.
 use Rattle.std.specs.Prelude.{Result}
 use Rattle.acas_doc.specs.Answers.{GivesUnless}
-use Rattle.acas_doc.specs.declared.fault.DocError.{DocError}
-use Rattle.acas_doc.specs.declared.fault.DocError.TheVariants as errors
 use Rattle.acas_model.specs.declared.fault.ModelFault.{ModelFault}
-use Rattle.acas_model.specs.declared.fault.ModelFault.TheVariants.{Doc, Memory}
-
--- the fault of a key, as a fault of the model
-abbrev pub model_fault : DocError → ModelFault
-model_fault (errors.Fault f) = Doc f
-model_fault errors.Memory = Memory
+use Rattle.acas_model.specs.declared.fault.ModelFault.TheVariants.{Memory}
 
 -- the reader answered what the rules give, seen by view, unless memory ran out
 abbrev pub Gives : {X Y : Type 0} → (X → Y) → Result X ModelFault → Result Y ModelFault → Type 0

@@ -1,7 +1,7 @@
 //! The first rule that a model's text fails.
 ghost use Rattle.std.specs.Prelude.{◌≡◌};
-ghost use Rattle.acas_model.specs.declared.fault.ModelFault.TheVariants.{Memory};
-ghost use Rattle.acas_model.specs.Answers.{model_fault};
+ghost use Rattle.acas_doc.specs.Answers.{text_fault};
+ghost use Rattle.acas_model.specs.declared.fault.ModelFault.TheVariants.{Doc, Memory};
 
 use acas_doc::{DocError, DocFault};
 use acas_grid::AxisFault;
@@ -67,7 +67,7 @@ impl<T: Drop> From<AllocFailed<T>> for ModelFault {
 }
 
 impl From<DocError> for ModelFault {
-    ghost from_gives = { λ d e. e ≡ model_fault d };
+    ghost from_gives = { λ d e. e ≡ text_fault Doc Memory d };
 
     fn from(error: DocError) -> ModelFault {
         match error {
