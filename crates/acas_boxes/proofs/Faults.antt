@@ -1,9 +1,10 @@
 -- The faults that the rules of boxes give.
-use Rattle.std.proofs.Common.{◌≡◌, ◌≢◌, ℕ, List, [], ◌∷◌, length, codes, ℤ, pos, ◌+ℤ◌, ◌*ℤ◌, int_le, Bool, true, false, cond, Result, Ok, Err, IfErr, subst}
+use Rattle.std.proofs.Common.{◌≡◌, ◌≢◌, ℕ, List, [], length, codes, ℤ, pos, ◌+ℤ◌, ◌*ℤ◌, int_le, Bool, true, false, cond, Result, Ok, Err, IfErr, subst}
 use Rattle.toml.specs.Data.{Data, Members}
 use Rattle.acas_units.specs.declared.limits.TheConstants.{LEAST_BOXES, GREATEST_BOXES, LEAST_BOX_RANGE, GREATEST_BOX_RANGE, LEAST_CLOSING, GREATEST_CLOSING, LEAST_ALTITUDE, GREATEST_ALTITUDE, LEAST_RATE, GREATEST_RATE, WINDOW_SECONDS}
 use Rattle.acas_spec.specs.Model.{ModelData}
 use Rattle.acas_doc.specs.declared.fault.DocFault.{DocFault}
+use Rattle.acas_doc.specs.Document.{document_of}
 use Rattle.acas_doc.specs.Keys.{list_at, table_item, whole_item}
 use Rattle.acas_doc.specs.Known.{only_known}
 use Rattle.acas_doc.specs.Paths.{item_path, key_path}
@@ -13,7 +14,7 @@ use Rattle.acas_rulings.specs.Boxes.{AuditedBox}
 use Rattle.acas_input.specs.declared.fault.InputFault.{InputFault}
 use Rattle.acas_input.specs.declared.fault.InputFault.TheVariants.{NotToml, Doc, UnknownName, Window, Rate, Memory}
 use Rattle.acas_input.specs.Answers.{Gives}
-use Rattle.acas_input.specs.Document.{document_of, in_doc, version_of}
+use Rattle.acas_input.specs.Document.{in_doc, version_of}
 use Rattle.acas_input.specs.Named.{advisory_at}
 use Rattle.acas_input.proofs.Faults.{AnyFaultIs, advisory_faults, after_faults, all_faults, document_faults, in_doc_faults, next_faults, version_faults}
 use Rattle.acas_boxes.specs.declared.spans.TheConstants.{SPAN_ENDS}
@@ -74,7 +75,7 @@ in_faults m doc =
 
 boxes_faults : (m : ModelData) (bytes : List ℕ) → AnyFaultIsOfBoxes (boxes_of m bytes)
 unfolding boxes_of
-boxes_faults m bytes = next_faults IsOfBoxes (document_of bytes) (boxes_in m) (document_faults IsOfBoxes tt bytes) (in_faults m)
+boxes_faults m bytes = next_faults IsOfBoxes (document_of NotToml bytes) (boxes_in m) (document_faults IsOfBoxes tt bytes) (in_faults m)
 
 -- a fault that the rules give is one that boxes can have, and want of memory is one too
 pub fault_is_of_boxes : (m : ModelData) (bytes : List ℕ) (f : InputFault) → (f ≢ Memory → boxes_of m bytes ≡ Err f) → IsOfBoxes f

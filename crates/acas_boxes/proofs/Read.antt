@@ -7,6 +7,7 @@ use Rattle.acas_units.specs.declared.limits.TheConstants.{LEAST_BOXES, GREATEST_
 use Rattle.acas_spec.specs.Model.{ModelData}
 use Rattle.acas_spec.specs.Limits.{IsModel}
 use Rattle.acas_spec.proofs.Each.{bind_ok, same_ok}
+use Rattle.acas_doc.specs.Document.{document_of}
 use Rattle.acas_doc.specs.Keys.{list_at, table_item, whole_item}
 use Rattle.acas_doc.specs.Known.{only_known}
 use Rattle.acas_doc.specs.Paths.{item_path, key_path}
@@ -19,8 +20,8 @@ use Rattle.acas_model.proofs.ReadNumbers.{passed_ok, step_ok}
 use Rattle.acas_flight.specs.State.{Interval}
 use Rattle.acas_rulings.specs.Boxes.{AuditedBox, IsBoxOf, box_at, no_box}
 use Rattle.acas_input.specs.declared.fault.InputFault.{InputFault}
-use Rattle.acas_input.specs.declared.fault.InputFault.TheVariants.{Window}
-use Rattle.acas_input.specs.Document.{document_of, in_doc, version_of}
+use Rattle.acas_input.specs.declared.fault.InputFault.TheVariants.{NotToml, Window}
+use Rattle.acas_input.specs.Document.{in_doc, version_of}
 use Rattle.acas_input.specs.Named.{advisory_at}
 use Rattle.acas_input.proofs.Bytes.{document_ok}
 use Rattle.acas_input.proofs.Keys.{advisory_ok, version_ok}
@@ -209,7 +210,7 @@ tables_say m doc ds boxes there read = record {
 pub said : (m : ModelData) (bytes : List ℕ) (boxes : List AuditedBox) → IsModel m → boxes_of m bytes ≡ Ok boxes → IsBoxesText m bytes boxes
 unfolding boxes_of boxes_in
 said m bytes boxes valid e =
-    let d = bind_ok (document_of bytes) (boxes_in m) boxes e in
+    let d = bind_ok (document_of NotToml bytes) (boxes_in m) boxes e in
     let k = step_ok (in_doc (only_known [] (codes "version box") d.0)) _ boxes d.2 in
     let v = passed_ok (version_of d.0) _ boxes k.1 in
     let l = bind_ok (in_doc (list_at d.0 [] (codes "box") LEAST_BOXES GREATEST_BOXES)) _ boxes v.2 in

@@ -1,5 +1,5 @@
 -- Boxes whose intruder's rates are within what it may do.
-use Rattle.std.specs.Prelude.{◌≡◌, ℕ, ◌<◌, nat_le, not, ◌&&◌, Bool, List, length, unsigned_abs, position, Option, Some, None, Result, Ok, Err}
+use Rattle.std.specs.Prelude.{ℕ, ◌<◌, nat_le, not, ◌&&◌, Bool, List, length, unsigned_abs, position, Option, Some, None, Result, Ok, Err}
 use Rattle.acas_spec.specs.Model.{ModelData}
 use Rattle.acas_spec.specs.Steps.{◌>>=◌, ◌>>◌}
 use Rattle.acas_flight.specs.State.{Interval}

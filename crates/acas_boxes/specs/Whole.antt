@@ -4,12 +4,13 @@ use Rattle.toml.specs.Data.{Data, Members}
 use Rattle.acas_units.specs.declared.limits.TheConstants.{LEAST_BOXES, GREATEST_BOXES}
 use Rattle.acas_spec.specs.Model.{ModelData}
 use Rattle.acas_spec.specs.Steps.{◌>>=◌, ◌>>◌, each}
+use Rattle.acas_doc.specs.Document.{document_of}
 use Rattle.acas_doc.specs.Keys.{list_at}
 use Rattle.acas_doc.specs.Known.{only_known}
 use Rattle.acas_rulings.specs.Boxes.{AuditedBox}
 use Rattle.acas_input.specs.declared.fault.InputFault.{InputFault}
 use Rattle.acas_input.specs.declared.fault.InputFault.TheVariants.{NotToml, Doc, UnknownName, Window, Rate, Memory}
-use Rattle.acas_input.specs.Document.{document_of, in_doc, version_of}
+use Rattle.acas_input.specs.Document.{in_doc, version_of}
 use Rattle.acas_boxes.specs.OneBox.{box_item}
 
 -- each item of the list is a box
@@ -27,7 +28,7 @@ boxes_in m doc = do
 -- the boxes that a text says, beside a model
 unfoldable pub boxes_of : ModelData → List ℕ → Result (List AuditedBox) InputFault
 boxes_of m bytes = do
-  doc ← document_of bytes
+  doc ← document_of NotToml bytes
   boxes_in m doc
 
 -- a fault that boxes can have beside a model: their intruder's rates are no rule of it

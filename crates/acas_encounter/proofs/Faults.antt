@@ -1,19 +1,16 @@
 -- The faults that the rules of an encounter give.
-use Rattle.std.proofs.Common.{◌≡◌, ◌≢◌, ℕ, List, [], ◌∷◌, ◌++◌, length, codes, ℤ, pos, Option, Some, None, Result, Ok, Err, IfErr, refl, subst}
+use Rattle.std.proofs.Common.{◌≡◌, ◌≢◌, ℕ, List, [], length, codes, ℤ, pos, Result, Ok, Err, IfErr, refl, subst}
 use Rattle.toml.specs.Data.{Members}
 use Rattle.acas_units.specs.declared.limits.TheConstants.{LEAST_CLOSING, GREATEST_CLOSING, LEAST_ALTITUDE, GREATEST_ALTITUDE, LEAST_RATE, GREATEST_RATE, LEAST_SECONDS, GREATEST_SECONDS}
 use Rattle.acas_spec.specs.Model.{ModelData}
-use Rattle.acas_spec.specs.Steps.{◌>>=◌, ◌>>◌, each}
 use Rattle.acas_doc.specs.declared.fault.DocFault.{DocFault}
-use Rattle.acas_doc.specs.Document.{document_in}
-use Rattle.acas_doc.specs.Values.{or_fault}
-use Rattle.acas_doc.specs.Keys.{list_at, text_at, whole_at}
+use Rattle.acas_doc.specs.Document.{document_of}
+use Rattle.acas_doc.specs.Keys.{list_at, whole_at}
 use Rattle.acas_doc.specs.Known.{only_known}
-use Rattle.acas_input.specs.declared.document.TheConstants.{INPUT_VERSION}
 use Rattle.acas_input.specs.declared.fault.InputFault.{InputFault}
 use Rattle.acas_input.specs.declared.fault.InputFault.TheVariants.{NotToml, Doc, UnknownName, Window, Rate, Memory}
 use Rattle.acas_input.specs.Answers.{Gives}
-use Rattle.acas_input.specs.Document.{document_of, in_doc, version_of}
+use Rattle.acas_input.specs.Document.{in_doc, version_of}
 use Rattle.acas_input.specs.Named.{advisory_at}
 use Rattle.acas_input.proofs.Faults.{AnyFaultIs, advisory_faults, after_faults, all_faults, document_faults, in_doc_faults, next_faults, version_faults}
 use Rattle.acas_encounter.specs.declared.limits.TheConstants.{LEAST_START_RANGE, GREATEST_START_RANGE}
@@ -59,7 +56,7 @@ in_faults m doc =
 
 encounter_faults : (m : ModelData) (bytes : List ℕ) → AnyFaultIsOfEncounter (encounter_of m bytes)
 unfolding encounter_of
-encounter_faults m bytes = next_faults IsOfEncounter (document_of bytes) (encounter_in m) (document_faults IsOfEncounter tt bytes) (in_faults m)
+encounter_faults m bytes = next_faults IsOfEncounter (document_of NotToml bytes) (encounter_in m) (document_faults IsOfEncounter tt bytes) (in_faults m)
 
 -- a fault that the rules give is one that an encounter can have, and want of memory is one too
 pub fault_is_of_encounter : (m : ModelData) (bytes : List ℕ) (f : InputFault) → (f ≢ Memory → encounter_of m bytes ≡ Err f) → IsOfEncounter f

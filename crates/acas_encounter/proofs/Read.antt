@@ -9,6 +9,7 @@ use Rattle.acas_spec.specs.Axis.{IsBetween, IsWithin}
 use Rattle.acas_spec.specs.Model.{ModelData}
 use Rattle.acas_spec.specs.Limits.{IsModel}
 use Rattle.acas_spec.proofs.Each.{bind_ok, same_ok}
+use Rattle.acas_doc.specs.Document.{document_of}
 use Rattle.acas_doc.specs.Keys.{list_at}
 use Rattle.acas_doc.specs.Known.{only_known}
 use Rattle.acas_doc.specs.Paths.{key_path}
@@ -19,7 +20,8 @@ use Rattle.acas_model.proofs.Places.{each_places, same_lists}
 use Rattle.acas_model.proofs.ReadNumbers.{passed_ok, step_ok}
 use Rattle.acas_input.specs.declared.document.TheConstants.{INPUT_VERSION}
 use Rattle.acas_input.specs.declared.fault.InputFault.{InputFault}
-use Rattle.acas_input.specs.Document.{document_of, in_doc, version_of}
+use Rattle.acas_input.specs.declared.fault.InputFault.TheVariants.{NotToml}
+use Rattle.acas_input.specs.Document.{in_doc, version_of}
 use Rattle.acas_input.specs.Named.{advisory_at}
 use Rattle.acas_input.proofs.Bytes.{document_ok}
 use Rattle.acas_input.proofs.Keys.{advisory_ok, version_ok}
@@ -172,7 +174,7 @@ in_ok m doc e is =
 pub said : (m : ModelData) (bytes : List ℕ) (e : EncounterData) → IsModel m → encounter_of m bytes ≡ Ok e → IsEncounterText m bytes e
 unfolding encounter_of
 said m bytes e valid is =
-    let d = bind_ok (document_of bytes) (encounter_in m) e is in
+    let d = bind_ok (document_of NotToml bytes) (encounter_in m) e is in
     let doc = document_ok bytes d.0 d.1 in
     let read = in_ok m d.0 e d.2 in
     record {

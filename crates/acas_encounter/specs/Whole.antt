@@ -5,10 +5,11 @@ use Rattle.toml.specs.Data.{Members}
 use Rattle.acas_units.specs.declared.limits.TheConstants.{LEAST_SECONDS, GREATEST_SECONDS}
 use Rattle.acas_spec.specs.Model.{ModelData}
 use Rattle.acas_spec.specs.Steps.{◌>>=◌, ◌>>◌}
+use Rattle.acas_doc.specs.Document.{document_of}
 use Rattle.acas_doc.specs.Known.{only_known}
 use Rattle.acas_input.specs.declared.fault.InputFault.{InputFault}
 use Rattle.acas_input.specs.declared.fault.InputFault.TheVariants.{NotToml, Doc, UnknownName, Window, Rate, Memory}
-use Rattle.acas_input.specs.Document.{document_of, in_doc, version_of}
+use Rattle.acas_input.specs.Document.{in_doc, version_of}
 use Rattle.acas_encounter.specs.Encounter.{EncounterData}
 use Rattle.acas_encounter.specs.Start.{start_of}
 use Rattle.acas_encounter.specs.Accelerations.{accelerations_at}
@@ -26,7 +27,7 @@ encounter_in m doc = do
 -- the encounter that a text says, beside a model
 unfoldable pub encounter_of : ModelData → List ℕ → Result EncounterData InputFault
 encounter_of m bytes = do
-  doc ← document_of bytes
+  doc ← document_of NotToml bytes
   encounter_in m doc
 
 -- a fault that an encounter can have: its advisory has place 0, and it has no window, and no greatest rate

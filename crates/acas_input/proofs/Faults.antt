@@ -1,16 +1,16 @@
 -- The faults that rules in order give.
-use Rattle.std.proofs.Common.{◌≡◌, ℕ, List, [], ◌∷◌, ◌++◌, codes, Option, Some, None, Result, Ok, Err}
+use Rattle.std.proofs.Common.{ℕ, List, [], ◌∷◌, ◌++◌, codes, Option, Some, None, Result, Ok, Err}
 use Rattle.toml.specs.Data.{Members}
 use Rattle.acas_spec.specs.Model.{ModelData}
 use Rattle.acas_spec.specs.Steps.{◌>>=◌, ◌>>◌, each}
 use Rattle.acas_doc.specs.declared.fault.DocFault.{DocFault}
-use Rattle.acas_doc.specs.Document.{document_in}
+use Rattle.acas_doc.specs.Document.{document_in, document_of}
 use Rattle.acas_doc.specs.Values.{or_fault}
 use Rattle.acas_doc.specs.Keys.{text_at, whole_at}
 use Rattle.acas_input.specs.declared.document.TheConstants.{INPUT_VERSION}
 use Rattle.acas_input.specs.declared.fault.InputFault.{InputFault}
 use Rattle.acas_input.specs.declared.fault.InputFault.TheVariants.{NotToml, Doc, UnknownName}
-use Rattle.acas_input.specs.Document.{document_of, in_doc, version_of}
+use Rattle.acas_input.specs.Document.{in_doc, version_of}
 use Rattle.acas_input.specs.Named.{advisory_at, named, or_unknown}
 
 -- the fault, if there is one, is such
@@ -43,7 +43,7 @@ or_not_toml_faults : (Is : InputFault → Type 0) → Is NotToml → (o : Option
 or_not_toml_faults Is not_toml None = not_toml
 or_not_toml_faults Is not_toml (Some ms) = tt
 
-pub document_faults : (Is : InputFault → Type 0) → Is NotToml → (bytes : List ℕ) → AnyFaultIs Is (document_of bytes)
+pub document_faults : (Is : InputFault → Type 0) → Is NotToml → (bytes : List ℕ) → AnyFaultIs Is (document_of NotToml bytes)
 unfolding document_of
 document_faults Is not_toml bytes = or_not_toml_faults Is not_toml (document_in bytes)
 

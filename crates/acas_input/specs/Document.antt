@@ -1,22 +1,16 @@
--- The document of a text, and its version.
-use Rattle.std.specs.Prelude.{ℕ, List, [], codes, ℤ, Result}
+-- The version of a document, and the faults of its keys.
+use Rattle.std.specs.Prelude.{[], codes, ℤ, Result}
 use Rattle.toml.specs.Data.{Members}
 use Rattle.acas_spec.specs.Steps.{fault_as}
 use Rattle.acas_doc.specs.declared.fault.DocFault.{DocFault}
-use Rattle.acas_doc.specs.Document.{document_in}
-use Rattle.acas_doc.specs.Values.{or_fault}
 use Rattle.acas_doc.specs.Keys.{whole_at}
 use Rattle.acas_input.specs.declared.document.TheConstants.{INPUT_VERSION}
 use Rattle.acas_input.specs.declared.fault.InputFault.{InputFault}
-use Rattle.acas_input.specs.declared.fault.InputFault.TheVariants.{NotToml, Doc}
+use Rattle.acas_input.specs.declared.fault.InputFault.TheVariants.{Doc}
 
 -- a fault of a key is a fault of the input
 abbrev pub in_doc : {A : Type 0} → Result A DocFault → Result A InputFault
 in_doc r = fault_as Doc r
-
--- the bytes are a text in UTF-8, and the text is a TOML document
-unfoldable pub document_of : List ℕ → Result Members InputFault
-document_of bytes = or_fault NotToml (document_in bytes)
 
 -- the version, of which there is one
 unfoldable pub version_of : Members → Result ℤ InputFault

@@ -1,5 +1,7 @@
 //! The document of an input's bytes, and its version.
 ghost use Rattle.toml.specs.View.{table_view};
+ghost use Rattle.acas_doc.specs.Document.{document_of};
+ghost use Rattle.acas_input.specs.declared.fault.InputFault.TheVariants.{NotToml};
 ghost use Rattle.acas_input.specs.Answers.{Gives};
 ghost use Rattle.acas_input.specs.Document as rules;
 
@@ -12,9 +14,9 @@ use toml::Table;
 pub const INPUT_VERSION: i64 = 1;
 
 /// The document of some bytes: a text in UTF-8 that is a TOML document.
-#[tactic(auto, unfolding(crate::specs::Document::document_of))]
+#[tactic(auto, unfolding(acas_doc::specs::Document::document_of))]
 pub fn document_of(alloc: Global, bytes: &[u8]) -> Result<Table, InputFault>
-    ensures { Gives table_view result (rules.document_of bytes.now) }
+    ensures { Gives table_view result (document_of NotToml bytes.now) }
 {
     match document_in(alloc, bytes)? {
         Some(document) => Ok(document),

@@ -9,8 +9,9 @@ use Rattle.acas_spec.specs.declared.parts.SigmaPoint.{SigmaPoint}
 use Rattle.acas_spec.proofs.Each.{bind_ok, same_ok}
 use Rattle.acas_model.specs.declared.axes.Axes.{Axes}
 use Rattle.acas_base.specs.declared.numbers.Numbers.{Numbers}
+use Rattle.acas_doc.specs.Document.{document_of}
 use Rattle.acas_model.specs.declared.fault.ModelFault.{ModelFault}
-use Rattle.acas_model.specs.Document.{document_of}
+use Rattle.acas_model.specs.declared.fault.ModelFault.TheVariants.{NotToml}
 use Rattle.acas_model.specs.Axes.{axes_of}
 use Rattle.acas_model.specs.Numbers.{pilot_keys, numbers_of}
 use Rattle.acas_model.specs.Choices.{Advised, advised_of}
@@ -138,7 +139,7 @@ document_says doc version horizon axes numbers advised sigmas keys edition secon
 pub said : (bytes : List ℕ) (m : ModelData) → model_of bytes ≡ Ok m → IsModelText bytes m
 unfolding model_of model_in
 said bytes m e =
-    let d = bind_ok (document_of bytes) model_in m e in
+    let d = bind_ok (document_of NotToml bytes) model_in m e in
     let doc = d.0 in
     let is_doc = document_ok bytes doc d.1 in
     let k = step_ok (top_keys doc) _ m d.2 in

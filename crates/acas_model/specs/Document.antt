@@ -1,22 +1,16 @@
--- The document of a text, and the whole numbers at its keys.
+-- The whole numbers and the tables at the keys of a document.
 use Rattle.std.specs.Prelude.{ℕ, List, [], pos, unsigned_abs, Result, Ok}
 use Rattle.toml.specs.Data.{Members}
 use Rattle.acas_spec.specs.Steps.{◌>>=◌, ◌>>◌, fault_as}
 use Rattle.acas_doc.specs.declared.fault.DocFault.{DocFault}
-use Rattle.acas_doc.specs.Document.{document_in}
-use Rattle.acas_doc.specs.Values.{or_fault}
 use Rattle.acas_doc.specs.Keys.{table_at, whole_at}
 use Rattle.acas_doc.specs.Known.{only_known}
 use Rattle.acas_model.specs.declared.fault.ModelFault.{ModelFault}
-use Rattle.acas_model.specs.declared.fault.ModelFault.TheVariants.{NotToml, Doc}
+use Rattle.acas_model.specs.declared.fault.ModelFault.TheVariants.{Doc}
 
 -- a fault of a key is a fault of the model
 abbrev pub in_doc : {A : Type 0} → Result A DocFault → Result A ModelFault
 in_doc r = fault_as Doc r
-
--- the bytes are a text in UTF-8, and the text is a TOML document
-unfoldable pub document_of : List ℕ → Result Members ModelFault
-document_of bytes = or_fault NotToml (document_in bytes)
 
 -- a whole number at a key that may not be below 0
 unfoldable pub number_at : Members → List ℕ → List ℕ → ℕ → ℕ → Result ℕ ModelFault

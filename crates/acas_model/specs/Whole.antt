@@ -6,11 +6,12 @@ use Rattle.acas_units.specs.declared.limits.TheConstants.{LEAST_MODEL_VERSION, G
 use Rattle.acas_spec.specs.Steps.{◌>>=◌, ◌>>◌}
 use Rattle.acas_spec.specs.Model.{GridData, ModelData, entries}
 use Rattle.acas_base.specs.View.{model_with}
+use Rattle.acas_doc.specs.Document.{document_of}
 use Rattle.acas_doc.specs.Known.{only_known}
 use Rattle.acas_model.specs.declared.axes.Axes.{Axes}
 use Rattle.acas_model.specs.declared.fault.ModelFault.{ModelFault}
-use Rattle.acas_model.specs.declared.fault.ModelFault.TheVariants.{Window, TooManyEntries}
-use Rattle.acas_model.specs.Document.{in_doc, document_of, number_at}
+use Rattle.acas_model.specs.declared.fault.ModelFault.TheVariants.{NotToml, Window, TooManyEntries}
+use Rattle.acas_model.specs.Document.{in_doc, number_at}
 use Rattle.acas_model.specs.Axes.{axes_of}
 use Rattle.acas_model.specs.Numbers.{numbers_of}
 use Rattle.acas_model.specs.Choices.{Advised, advised_of}
@@ -68,5 +69,5 @@ model_in doc = do
 -- the model that a text says
 unfoldable pub model_of : List ℕ → Result ModelData ModelFault
 model_of bytes = do
-  doc ← document_of bytes
+  doc ← document_of NotToml bytes
   model_in doc

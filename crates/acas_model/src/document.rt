@@ -1,6 +1,8 @@
 //! The document of a text, and the whole numbers at its keys.
 ghost use Rattle.std.specs.Prelude.{◌≡◌, ◌≤◌, ◌≤ℤ◌, pos, unsigned_abs, IfOk};
 ghost use Rattle.toml.specs.View.{table_view};
+ghost use Rattle.acas_doc.specs.Document.{document_of};
+ghost use Rattle.acas_model.specs.declared.fault.ModelFault.TheVariants.{NotToml};
 ghost use Rattle.acas_model.specs.Answers.{Gives};
 ghost use Rattle.acas_model.specs.Document.{number_at};
 ghost use Rattle.acas_model.specs.View.{seen_table};
@@ -12,9 +14,9 @@ use std::alloc::Global;
 use toml::Table;
 
 /// The document of some bytes.
-#[tactic(auto, unfolding(crate::specs::Document::document_of))]
+#[tactic(auto, unfolding(acas_doc::specs::Document::document_of))]
 pub(crate) fn document_of(alloc: Global, bytes: &[u8]) -> Result<Table, ModelFault>
-    ensures { Gives table_view result (rules.document_of bytes.now) }
+    ensures { Gives table_view result (document_of NotToml bytes.now) }
 {
     match document_in(alloc, bytes)? {
         Some(document) => Ok(document),

@@ -1,4 +1,4 @@
-use Rattle.std.proofs.Common.{◌≡◌, false, length, sym, ap, ◌∙◌, arith}
+use Rattle.std.proofs.Common.{◌≡◌, false, sym, ap, ◌∙◌, arith}
 use Rattle.acas_manoeuvre.specs.View.{may_of}
 use Rattle.acas_rulings.specs.Boxes.{AuditedBox, box_at}
 use Rattle.acas_boxes.specs.Rates.{are_within}
