@@ -1,5 +1,5 @@
 //! The layers of a table.
-ghost use Rattle.std.specs.Prelude.{◌≡◌, ◌+◌, ◌<◌, ◌≤◌, ◌++◌, length, vec_capacity, vec_len, IfOk};
+ghost use Rattle.std.specs.Prelude.{◌≡◌, ◌+◌, ◌*◌, ◌<◌, ◌≤◌, ◌++◌, length, slice_range, vec_capacity, vec_len, IfOk};
 ghost use Rattle.acas_spec.specs.Model.{entries};
 ghost use Rattle.acas_layers.specs.Layers.{GainsLayer, advice_of, all_layers, no_layers, pairs_of};
 
@@ -87,8 +87,7 @@ impl Layers {
         ensures value { result.now ≡ pairs_of self.now n }
         ensures count { length result.now ≡ self.now.states }
     {
-        let first = n as usize * self.states;
-        &self.pairs.as_slice()[first..first + self.states]
+        part_of(self.pairs.as_slice(), n, self.states)
     }
 
     /// The advices with n seconds to go, of which there are fewer than layers, state by state: the number of an
@@ -98,8 +97,7 @@ impl Layers {
         ensures value { result.now ≡ advice_of self.now n }
         ensures count { length result.now ≡ self.now.states }
     {
-        let first = n as usize * self.states;
-        &self.advice.as_slice()[first..first + self.states]
+        part_of(self.advice.as_slice(), n, self.states)
     }
 }
 
@@ -111,4 +109,13 @@ fn append<T: Copy>(list: &mut Vec<T>, more: &[T])
 {
     let appended = list.extend_from_slice(more);
     prove!(appended.is_ok());
+}
+
+// The part of a list that belongs to the layer with n seconds to go, by how many states each layer has.
+fn part_of<T>(list: &[T], n: u32, states: usize) -> &[T]
+    requires { n * states + states ≤ length list.now }
+    ensures { result.now ≡ slice_range list.now (n * states) (n * states + states) }
+{
+    let first = n as usize * states;
+    &list[first..first + states]
 }
