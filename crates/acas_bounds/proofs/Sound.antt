@@ -30,7 +30,7 @@ neither_fails true high a b h = cc
 neither_fails false true a b h = cc
 neither_fails false false a b h = (refl, refl)
 
-values_stand : (upper needed lower allowed : ℤ) → values_fault upper needed lower allowed ≡ None → (needed ≤ℤ upper) × (lower ≤ℤ allowed)
+pub values_stand : (upper needed lower allowed : ℤ) → values_fault upper needed lower allowed ≡ None → (needed ≤ℤ upper) × (lower ≤ℤ allowed)
 values_stand upper needed lower allowed h =
     let tests = neither_fails (int_lt upper needed) (int_lt allowed lower) _ _ h in
     (le-of_lt upper needed tests.0, le-of_lt allowed lower tests.1)
@@ -39,7 +39,7 @@ pub values_pass : (upper needed lower allowed : ℤ) → needed ≤ℤ upper →
 values_pass upper needed lower allowed h k = rw (lt-false upper needed h, lt-false allowed lower k) refl
 
 -- what a choice between a fault and the rest leaves
-passes : (allowed : Bool) (rest : Option BoundFault) (a : BoundFault) → cond allowed rest (Some a) ≡ None → (allowed ≡ true) × (rest ≡ None)
+pub passes : (allowed : Bool) (rest : Option BoundFault) (a : BoundFault) → cond allowed rest (Some a) ≡ None → (allowed ≡ true) × (rest ≡ None)
 passes true rest a h = (refl, h)
 passes false rest a h = cc
 

@@ -1,5 +1,5 @@
 //! The check of one entry.
-ghost use Rattle.std.specs.Prelude.{◌≡◌, ◌↔◌, ◌<◌, ◌^◌, ◌+ℤ◌, ℕ, None, IsTrue, OnOk, length};
+ghost use Rattle.std.specs.Prelude.{◌≡◌, ◌<◌, ◌+ℤ◌, OnOk, length};
 ghost use Rattle.acas_spec.specs.Model.{choices_at, states, vertices};
 ghost use Rattle.acas_spec.specs.Table.{Table};
 ghost use Rattle.acas_grid.specs.States as numbers;
@@ -8,19 +8,15 @@ ghost use Rattle.acas_process.specs.Compiled.{least};
 ghost use Rattle.acas_process.specs.Cost.{MayChoose};
 ghost use Rattle.acas_means.specs.Choices.{value_by_mean};
 ghost use Rattle.acas_means.specs.Entries.{IsEntryOf};
-ghost use Rattle.acas_means.specs.Layer.{AreWithin, value_at};
+ghost use Rattle.acas_means.specs.Layer.{value_at};
 ghost use Rattle.acas_means.specs.Means.{AreMeansOf};
 ghost use Rattle.acas_means.specs.declared.layer.Side.TheVariants.{Upper, Lower};
 ghost use Rattle.acas_bounds.specs.Checks.{OfBelow, AnswersFault};
-ghost use Rattle.acas_bounds.specs.Leasts.{AreLeasts};
 ghost use Rattle.acas_bounds.specs.Means.{AreOfLayer, HasMeans, answer_of, choice_fault, ending_fault, fault_by_means, lower_below, upper_below};
-ghost use Rattle.acas_bounds.specs.Planes.{IsPlane};
 ghost use Rattle.acas_bounds.specs.Sound.{bound_fault, values_fault};
 
 use crate::below::{Below, means_under};
 use crate::choices::{cost_if_allowed, least_lower};
-use crate::near::passes;
-use crate::plane::Plane;
 use acas_base::Model;
 use acas_means::{VertexMeans, terminal, with_cost};
 use acas_spec::BoundFault;
@@ -188,31 +184,4 @@ pub fn check_at_vertex(
 {
     let _ = model.grid();
     check(model, n, present, vertex, entry, Below::AtVertex(means))
-}
-
-/// Whether the entry at a vertex under the present advisory of a plane, with a second to go, is sound. It is quickly answered: the means
-/// of the layer below are no farther from 0 than 2^62, and the least lower values of the choices are given, as `fill_leasts` writes them
-/// for the plane or for one with the same choices.
-pub fn is_sound_at(
-    model: &Model,
-    plane: &Plane,
-    vertex: u32,
-    entry: &Entry,
-    means: &[Pair],
-    leasts: &[i64],
-) -> bool
-    requires plane { IsPlane model.now plane.now }
-    requires vertex { vertex < vertices model.now.grid }
-    requires means { length means.now ≡ states model.now.grid }
-    requires narrow { AreWithin (2 ^ 62) Upper means.now }
-    requires leasts { AreLeasts model.now means.now plane.now.present leasts.now }
-
-    // Whatever table the entry and the means below it are of, it has no fault there, or one.
-    ensures value { let x = numbers.vertex_at model.now.grid vertex in
-        (t : Table) (n : ℕ) → 0 < n → IsEntryOf t n plane.now.present x entry.now
-        → OfBelow (λ k. AreMeansOf model.now t k means.now) n
-        → (IsTrue result ↔ (bound_fault model.now t n plane.now.present x ≡ None)) }
-    ensures allowed { IsTrue result → MayChoose model.now plane.now.present entry.now.advice }
-{
-    passes(model, plane, vertex, entry, means, leasts)
 }

@@ -11,7 +11,8 @@ mod near;
 mod plane;
 
 pub use acas_spec::BoundFault;
-pub use check::{check_at, check_at_vertex, is_sound_at};
+pub use check::{check_at, check_at_vertex};
 pub use laws::{faults_are_first, sound_entries_have_no_fault};
 pub use leasts::{fill_leasts, have_same_choices};
+pub use near::is_sound_at;
 pub use plane::Plane;

@@ -1,14 +1,20 @@
 //! Whether an entry is sound, in 64 bits: where no mean is far from 0, and the least lower values of the choices are found.
-ghost use Rattle.std.specs.Prelude.{◌≡◌, ◌↔◌, ◌<◌, ◌≤◌, ◌^◌, ◌≤ℤ◌, length, None, IsTrue, unsigned_abs};
+ghost use Rattle.std.specs.Prelude.{◌≡◌, ◌↔◌, ◌<◌, ◌≤◌, ◌^◌, ◌≤ℤ◌, ℕ, pos, get_or, length, None, IsTrue, unsigned_abs};
 ghost use Rattle.acas_spec.specs.Model.{states, vertices};
+ghost use Rattle.acas_spec.specs.Table.{Table};
 ghost use Rattle.acas_grid.specs.Grid.{state_number};
 ghost use Rattle.acas_grid.specs.States as numbers;
+ghost use Rattle.acas_process.specs.Cost.{MayChoose};
 ghost use Rattle.acas_means.specs.Choices.{value_by_mean};
+ghost use Rattle.acas_means.specs.Entries.{IsEntryOf};
 ghost use Rattle.acas_means.specs.Layer.{AreWithin, layer_values};
+ghost use Rattle.acas_means.specs.Means.{AreMeansOf};
 ghost use Rattle.acas_means.specs.declared.layer.Side.TheVariants.{Upper};
+ghost use Rattle.acas_bounds.specs.Checks.{OfBelow};
 ghost use Rattle.acas_bounds.specs.Leasts.{AreLeasts};
-ghost use Rattle.acas_bounds.specs.Means.{IsUpperMet, choice_fault, formed_lower, formed_upper};
+ghost use Rattle.acas_bounds.specs.Means.{IsUpperMet, formed_upper};
 ghost use Rattle.acas_bounds.specs.Planes.{IsPlane, IsPlaneChoice};
+ghost use Rattle.acas_bounds.specs.Sound.{bound_fault};
 
 use crate::leasts::plus_cost;
 use crate::plane::{Plane, PlaneChoice};
@@ -74,8 +80,18 @@ fn is_upper_met(model: &Model, plane: &Plane, vertex: u32, entry: &Entry, means:
     }
 }
 
-/// Whether an entry with a second to go has no fault by the means of the layer below and the least lower values of the choices by them.
-pub(crate) fn passes(
+// Whether the lower value of an entry is at most the least lower value of the choices at a vertex.
+fn is_lower_met(vertex: u32, entry: &Entry, leasts: &[i64]) -> bool
+    requires { vertex < length leasts.now }
+    ensures { IsTrue result ↔ (entry.now.pair.lower ≤ℤ get_or leasts.now vertex (pos 0)) }
+{
+    entry.pair.lower <= leasts[vertex as usize]
+}
+
+/// Whether the entry at a vertex under the present advisory of a plane, with a second to go, is sound. It is quickly answered: the means
+/// of the layer below are no farther from 0 than 2^62, and the least lower values of the choices are given, as `fill_leasts` writes them
+/// for the plane or for one with the same choices.
+pub fn is_sound_at(
     model: &Model,
     plane: &Plane,
     vertex: u32,
@@ -88,10 +104,13 @@ pub(crate) fn passes(
     requires means { length means.now ≡ states model.now.grid }
     requires narrow { AreWithin (2 ^ 62) Upper means.now }
     requires leasts { AreLeasts model.now means.now plane.now.present leasts.now }
-    ensures { let x = numbers.vertex_at model.now.grid vertex in
-        let upper = formed_upper model.now means.now x in
-        let lower = formed_lower model.now means.now x in
-        IsTrue result ↔ (choice_fault model.now upper lower plane.now.present entry.now ≡ None) }
+
+    // Whatever table the entry and the means below it are of, it has no fault there, or one.
+    ensures value { let x = numbers.vertex_at model.now.grid vertex in
+        (t : Table) (n : ℕ) → 0 < n → IsEntryOf t n plane.now.present x entry.now
+        → OfBelow (λ k. AreMeansOf model.now t k means.now) n
+        → (IsTrue result ↔ (bound_fault model.now t n plane.now.present x ≡ None)) }
+    ensures allowed { IsTrue result → MayChoose model.now plane.now.present entry.now.advice }
 {
-    is_upper_met(model, plane, vertex, entry, means) && entry.pair.lower <= leasts[vertex as usize]
+    is_upper_met(model, plane, vertex, entry, means) && is_lower_met(vertex, entry, leasts)
 }
