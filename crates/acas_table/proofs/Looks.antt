@@ -16,7 +16,6 @@ use Rattle.acas_table_text.specs.declared.fault.TableFault.TheVariants.{Advice}
 use Rattle.acas_table_text.proofs.Nones.{first_one}
 use Rattle.acas_table.specs.declared.source.Source.{Source}
 use Rattle.acas_table.specs.Source.{Blames, Checks, Finds, IsAt, IsAtFile, IsOfFormat, StandsAt}
-use Rattle.acas_table.specs.Standing.{behind_fault}
 use Rattle.acas_table.proofs.Passed.{blames_too}
 
 -- two words for one fault
@@ -143,17 +142,60 @@ entry_in f s bytes i ended format is =
     ap (λ (o : Option ℕ). first (ended_fault s bytes o ∷ bytes_fault s bytes i ∷ [])) is
     ∙ ap (λ (g : Format). first (ended_fault s bytes (ended_group g s i) ∷ bytes_fault s bytes i ∷ [])) (sym format)
 
+-- the fault of the digest of a group, or else of the entry behind it
+abbrev behind_fault : TableShape → ℕ → ℕ → List ℕ → Option TableFault
+behind_fault s k i bytes = first (digest_fault s bytes k ∷ bytes_fault s bytes i ∷ [])
+
 behind_file : {X : Type 0} (P : X → List ℕ → Type 0) (file : Option (List ℕ)) (f : Format) (s : TableShape) (i k : ℕ) (new : Source) (result : Result X TableFault) → Some k ≡ ended_group f s i → IsOfFormat f file
     → Checks (behind_fault s k i) P file new result → Checks (λ bytes. entry_fault s bytes i) P file new result
 behind_file P None f s i k new result is format checks = checks_none P (behind_fault s k i) (λ bytes. entry_fault s bytes i) new result checks
 behind_file P (Some bytes) f s i k new result is format checks =
     checks_same P (behind_fault s k i) (λ b. entry_fault s b i) bytes new result (entry_in f s bytes i (Some k) format is) checks
 
-pub behind_given : {X : Type 0} (P : X → List ℕ → Type 0) (holds : Option Files) (name : List ℕ) (f : Format) (s : TableShape) (i k : ℕ) (old new : Source) (result : Result X TableFault) → Some k ≡ ended_group f s i
-    → Given holds name (λ file. IsAtFile old file → IsOfFormat f file → Checks (behind_fault s k i) P file new result)
-    → Given holds name (λ file. IsAtFile old file → IsOfFormat f file → Checks (λ bytes. entry_fault s bytes i) P file new result)
-behind_given P None name f s i k old new result is checks = tt
-behind_given P (Some files) name f s i k old new result is checks = λ at format. behind_file P (get files name) f s i k new result is format (checks at format)
+-- where the digest fails, nothing more is looked at
+digest_stops : {X Y : Type 0} (P : X → List ℕ → Type 0) (Q : Y → List ℕ → Type 0) (file : Option (List ℕ)) (s : TableShape) (i k : ℕ) (new : Source) (fault : TableFault)
+    → Checks (λ bytes. digest_fault s bytes k) P file new (Err fault) → Checks (behind_fault s k i) Q file new (Err fault)
+digest_stops P Q None s i k new fault checks = checks
+digest_stops P Q (Some bytes) s i k new fault checks =
+    blames_too (digest_fault s bytes k) (behind_fault s k i bytes) fault
+    (λ found. ap (λ (o : Option TableFault). first (o ∷ bytes_fault s bytes i ∷ [])) found)
+    checks
+
+pub stopped_given : {X Y : Type 0} (P : X → List ℕ → Type 0) (Q : Y → List ℕ → Type 0) (holds : Option Files) (name : List ℕ) (f : Format) (s : TableShape) (i k : ℕ) (old new : Source) (fault : TableFault) (result : Result Y TableFault)
+    → result ≡ Err fault → Some k ≡ ended_group f s i
+    → Given holds name (λ file. IsAtFile old file → IsOfFormat f file → Checks (λ bytes. digest_fault s bytes k) P file new (Err fault))
+    → Given holds name (λ file. IsAtFile old file → IsOfFormat f file → Checks (λ bytes. entry_fault s bytes i) Q file new result)
+stopped_given P Q None name f s i k old new fault result is ended checks = tt
+stopped_given {Y = Y} P Q (Some files) name f s i k old new fault result is ended checks = λ at format.
+    subst (λ (r : Result Y TableFault). Checks (λ bytes. entry_fault s bytes i) Q (get files name) new r) (sym is)
+    (behind_file Q (get files name) f s i k new (Err fault) ended format (digest_stops P Q (get files name) s i k new fault (checks at format)))
+
+-- where it does not, the entry behind it is
+digest_passes : {X Y : Type 0} (x : X) (P : X → List ℕ → Type 0) (Q : Y → List ℕ → Type 0) (file : Option (List ℕ)) (s : TableShape) (i k : ℕ) (mid new : Source) (result : Result Y TableFault)
+    → Checks (λ bytes. digest_fault s bytes k) P file mid (Ok x) → (IsAtFile mid file → Checks (λ bytes. bytes_fault s bytes i) Q file new result) → Checks (behind_fault s k i) Q file new result
+digest_passes x P Q None s i k mid new result digest rest = absurd digest
+digest_passes x P Q (Some bytes) s i k mid new result digest rest =
+    checks_same Q (λ b. bytes_fault s b i) (behind_fault s k i) bytes new result
+    (sym (ap (λ (o : Option TableFault). first (o ∷ bytes_fault s bytes i ∷ [])) digest.0 ∙ first_one (bytes_fault s bytes i)))
+    (rest digest.2)
+
+pub passed_given : {X Y : Type 0} (x : X) (P : X → List ℕ → Type 0) (Q : Y → List ℕ → Type 0) (holds later : Option Files) (name : List ℕ) (f : Format) (s : TableShape) (i k : ℕ) (old mid new : Source) (result : Result Y TableFault)
+    → later ≡ holds → Some k ≡ ended_group f s i
+    → Given holds name (λ file. IsAtFile old file → IsOfFormat f file → Checks (λ bytes. digest_fault s bytes k) P file mid (Ok x))
+    → Given later name (λ file. IsAtFile mid file → IsOfFormat f file → Checks (λ bytes. bytes_fault s bytes i) Q file new result)
+    → Given holds name (λ file. IsAtFile old file → IsOfFormat f file → Checks (λ bytes. entry_fault s bytes i) Q file new result)
+passed_given x P Q None later name f s i k old mid new result same ended digest rest = tt
+passed_given x P Q (Some files) later name f s i k old mid new result same ended digest rest = λ at format.
+    let here = subst (λ (h : Option Files). Given h name (λ file. IsAtFile mid file → IsOfFormat f file → Checks (λ bytes. bytes_fault s bytes i) Q file new result)) same rest in
+    behind_file Q (get files name) f s i k new result ended format (digest_passes x P Q (get files name) s i k mid new result (digest at format) (λ there. here there format))
+
+-- what is read of the bytes, of the same source and the same files
+pub moved_given : {X : Type 0} (P : X → List ℕ → Type 0) (holds later : Option Files) (name : List ℕ) (f : Format) (s : TableShape) (i : ℕ) (old mid new : Source) (result : Result X TableFault) → later ≡ holds → mid ≡ old
+    → Given later name (λ file. IsAtFile mid file → IsOfFormat f file → Checks (λ bytes. bytes_fault s bytes i) P file new result)
+    → Given holds name (λ file. IsAtFile old file → IsOfFormat f file → Checks (λ bytes. bytes_fault s bytes i) P file new result)
+moved_given P holds later name f s i old mid new result same stands checks =
+    subst (λ (h : Option Files). Given h name (λ file. IsAtFile old file → IsOfFormat f file → Checks (λ bytes. bytes_fault s bytes i) P file new result)) same
+    (subst (λ (source : Source). Given later name (λ file. IsAtFile source file → IsOfFormat f file → Checks (λ bytes. bytes_fault s bytes i) P file new result)) stands checks)
 
 pub alone_file : {X : Type 0} (P : X → List ℕ → Type 0) (file : Option (List ℕ)) (f : Format) (s : TableShape) (i : ℕ) (new : Source) (result : Result X TableFault) → None ≡ ended_group f s i → IsOfFormat f file
     → Checks (λ bytes. bytes_fault s bytes i) P file new result → Checks (λ bytes. entry_fault s bytes i) P file new result

@@ -1,12 +1,12 @@
 //! The fields behind a table's header.
-ghost use Rattle.std.specs.Prelude.{◌≡◌, ◌≤◌, ◌<◌, ◌+◌, ◌*◌, ◌/◌, ◌==◌, nat_lt, if◌then◌else◌, ⊤, IsTrue, OnOk};
+ghost use Rattle.std.specs.Prelude.{◌≡◌, ◌≤◌, ◌<◌, ◌+◌, ◌/◌, ◌==◌, nat_lt, if◌then◌else◌, ⊤, IsTrue, OnOk};
 ghost use Rattle.acas_outside.specs.Files.{Given};
-ghost use Rattle.acas_table_text.specs.Shape.{IsShape, entry_count};
+ghost use Rattle.acas_table_text.specs.Shape.{IsShape};
 ghost use Rattle.acas_table_text.specs.Format.{digest_start, ended_group, entry_start, group_size, hashed_from, last_group, length_of};
 ghost use Rattle.acas_table_text.specs.Text.{entry_at};
 ghost use Rattle.acas_table_text.specs.Faults.{bytes_fault, digest_fault, digest_field, entry_fault, tail_fault};
 ghost use Rattle.acas_table.specs.Source.{IsAtFile, Checks, Finds, IsOfFormat, ReadsTable, StandsAt, Steps, bytes_taken};
-ghost use Rattle.acas_table.specs.Standing.{behind_fault, reading_mark, reading_start};
+ghost use Rattle.acas_table.specs.Standing.{IsEntryNumber, reading_mark, reading_start};
 
 use crate::source::Source;
 use acas_outside::Folder;
@@ -14,6 +14,7 @@ use acas_table_text::{Field, Format, TableFault, TableShape};
 use acas_units::Entry;
 
 /// Reads the digest of the group that ends before an entry, where one does, and the entry, by its number.
+#[tactic(auto, using(crate::proofs::Standing::behind_ended, crate::proofs::Standing::start_behind))]
 pub fn read_entry<F: Folder>(
     source: &mut Source,
     format: Format,
@@ -24,8 +25,7 @@ pub fn read_entry<F: Folder>(
     name: &str,
 ) -> Result<Entry, TableFault>
     requires served { IsTrue (F.serves folder.old name.now) }
-    requires limited { IsShape shape.now }
-    requires index { index < entry_count shape.now }
+    requires entry { IsEntryNumber shape.now index }
     requires ended { ended ≡ ended_group format shape.now index }
     requires stands { StandsAt format shape.now source.old (reading_start format shape.now index ended) }
     requires mark { source.old.mark ≡ reading_mark format shape.now index ended }
@@ -38,38 +38,9 @@ pub fn read_entry<F: Folder>(
         (source.new.mark ≡ hashed_from format shape.now (index / group_size format shape.now)) }
     ensures reads { ReadsTable F.Folder folder.old folder.new name.now source.old source.new result }
 {
-    match ended {
-        Some(group) => read_behind(source, format, shape, group, index, folder, name),
-        None => read_bytes(source, format, shape, index, folder, name),
+    if let Some(group) = ended {
+        check_digest(source, format, shape, group, folder, name)?;
     }
-}
-
-// Reads the digest of a group, and the first entry behind it.
-#[tactic(auto, using(crate::proofs::Standing::start_behind))]
-fn read_behind<F: Folder>(
-    source: &mut Source,
-    format: Format,
-    shape: &TableShape,
-    group: u32,
-    index: u32,
-    folder: &mut F,
-    name: &str,
-) -> Result<Entry, TableFault>
-    requires served { IsTrue (F.serves folder.old name.now) }
-    requires limited { IsShape shape.now }
-    requires index { index < entry_count shape.now }
-    requires behind { index ≡ (group + 1) * group_size format shape.now }
-    requires stands { StandsAt format shape.now source.old (digest_start format shape.now group) }
-    requires mark { source.old.mark ≡ hashed_from format shape.now group }
-    ensures given { Given (F.holds folder.old) name.now (λ file.
-        IsAtFile source.old file → IsOfFormat format file →
-        Checks (behind_fault shape.now group index) (λ entry bytes. entry ≡ entry_at shape.now bytes index)
-        file source.new result) }
-    ensures place { OnOk result (source.new.place ≡ entry_start format shape.now index + 17) }
-    ensures mark { OnOk result (source.new.mark ≡ digest_start format shape.now group) }
-    ensures reads { ReadsTable F.Folder folder.old folder.new name.now source.old source.new result }
-{
-    check_digest(source, format, shape, group, folder, name)?;
     read_bytes(source, format, shape, index, folder, name)
 }
 
@@ -83,8 +54,7 @@ fn read_bytes<F: Folder>(
     name: &str,
 ) -> Result<Entry, TableFault>
     requires served { IsTrue (F.serves folder.old name.now) }
-    requires limited { IsShape shape.now }
-    requires index { index < entry_count shape.now }
+    requires entry { IsEntryNumber shape.now index }
     requires stands { StandsAt format shape.now source.old (entry_start format shape.now index) }
     ensures given { Given (F.holds folder.old) name.now (λ file.
         IsAtFile source.old file → IsOfFormat format file →
