@@ -8,6 +8,7 @@ use Rattle.acas_spec.specs.Model.{ModelData}
 use Rattle.acas_spec.specs.Limits.{IsModel}
 use Rattle.acas_doc.specs.Known.{only_known}
 use Rattle.acas_doc.specs.Paths.{item_path, key_path}
+use Rattle.acas_doc.proofs.Documents.{document_of-read}
 use Rattle.acas_doc.proofs.Holds.{list_at_passes, table_item_passes, true-int_le, whole_item_passes}
 use Rattle.acas_doc.proofs.LeastUnknown.{only_known_passes}
 use Rattle.acas_model.specs.Text.{HasOnly}
@@ -15,7 +16,7 @@ use Rattle.acas_model.proofs.Places.{each_from}
 use Rattle.acas_flight.specs.State.{Interval}
 use Rattle.acas_rulings.specs.Boxes.{AuditedBox, IsBoxOf, box_at, no_box}
 use Rattle.acas_input.specs.Document.{in_doc}
-use Rattle.acas_input.proofs.Bytes.{document_read}
+use Rattle.acas_input.specs.declared.fault.InputFault.TheVariants.{NotToml}
 use Rattle.acas_input.proofs.Keys.{advisory_passes, version_passes}
 use Rattle.acas_boxes.specs.declared.spans.TheConstants.{SPAN_ENDS}
 use Rattle.acas_boxes.specs.Spans.{altitudes_at, closings_at, ranges_at, rates_at, span_at}
@@ -105,7 +106,7 @@ understood m bytes boxes valid is =
     let ts = is.tables.tables in
     let long : length (map table ts) ≡ length boxes = length-map ts table ∙ is.tables.long in
     rw (
-      document_read bytes is.doc is.text is.toml,
+      document_of-read NotToml bytes is.doc (record { text = is.text; toml = is.toml }),
       only_passes [] (codes "version box") is.doc is.keys,
       version_passes is.doc is.version,
       list_at_passes is.doc [] (codes "box") LEAST_BOXES GREATEST_BOXES (map table ts) is.tables.there (omega (arith, long, is.some)) (omega (arith, long, is.few)),

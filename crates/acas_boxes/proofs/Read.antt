@@ -8,6 +8,7 @@ use Rattle.acas_spec.specs.Model.{ModelData}
 use Rattle.acas_spec.specs.Limits.{IsModel}
 use Rattle.acas_spec.proofs.Each.{bind_ok, same_ok}
 use Rattle.acas_doc.specs.Document.{document_of}
+use Rattle.acas_doc.proofs.Documents.{document_of-found}
 use Rattle.acas_doc.specs.Keys.{list_at, table_item, whole_item}
 use Rattle.acas_doc.specs.Known.{only_known}
 use Rattle.acas_doc.specs.Paths.{item_path, key_path}
@@ -23,7 +24,6 @@ use Rattle.acas_input.specs.declared.fault.InputFault.{InputFault}
 use Rattle.acas_input.specs.declared.fault.InputFault.TheVariants.{NotToml, Window}
 use Rattle.acas_input.specs.Document.{in_doc, version_of}
 use Rattle.acas_input.specs.Named.{advisory_at}
-use Rattle.acas_input.proofs.Bytes.{document_ok}
 use Rattle.acas_input.proofs.Keys.{advisory_ok, version_ok}
 use Rattle.acas_boxes.specs.declared.spans.TheConstants.{SPAN_ENDS}
 use Rattle.acas_boxes.specs.Spans.{altitudes_at, closings_at, in_ticks, interval, ranges_at, rates_at, span_at}
@@ -214,7 +214,7 @@ said m bytes boxes valid e =
     let k = step_ok (in_doc (only_known [] (codes "version box") d.0)) _ boxes d.2 in
     let v = passed_ok (version_of d.0) _ boxes k.1 in
     let l = bind_ok (in_doc (list_at d.0 [] (codes "box") LEAST_BOXES GREATEST_BOXES)) _ boxes v.2 in
-    let doc = document_ok bytes d.0 d.1 in
+    let doc = document_of-found NotToml bytes d.0 d.1 in
     let list = list_at_ok d.0 [] (codes "box") LEAST_BOXES GREATEST_BOXES l.0 (fault_as_ok _ _ l.0 l.1) in
     let read = items_ok m l.0 boxes valid l.2 in
     record {

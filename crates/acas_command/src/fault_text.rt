@@ -1,5 +1,5 @@
 //! What is printed of a model's fault and of an input's.
-ghost use Rattle.std.specs.Prelude.{◌≡◌, ◌+◌, ◌≤◌, ◌++◌, [], length, codes};
+ghost use Rattle.std.specs.Prelude.{◌≡◌, ◌+◌, ◌≤◌, ◌++◌, [], length};
 ghost use Rattle.std.specs.Fmt.{decimal, signed_decimal};
 ghost use Rattle.acas_command.specs.FaultText.{axis_text, axis_word, kind_text, name_text, range_text};
 ghost use Rattle.acas_command.specs.LineParts.{fault_tail, input_tail, line_tail};

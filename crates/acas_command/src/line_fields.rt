@@ -24,7 +24,7 @@ pub fn put_count(line: &mut Line, value: u64)
 }
 
 /// Appends a number.
-pub fn put_number(line: &mut Line, value: i64)
+pub(crate) fn put_number(line: &mut Line, value: i64)
     requires { length line.old + 20 ≤ LINE_BYTES }
     ensures value { line.new ≡ line.old ++ signed_decimal value }
     ensures room { length line.new ≤ length line.old + 20 }

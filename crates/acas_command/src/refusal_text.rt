@@ -1,7 +1,6 @@
 //! What is printed of a table's refusal.
 ghost use Rattle.std.specs.Prelude.{[], ◌≡◌, ◌++◌, ◌+◌, ◌≤◌, length};
 ghost use Rattle.hex.specs.Hex.{encode_lower};
-ghost use Rattle.std.specs.Fmt.{decimal};
 ghost use Rattle.acas_units.specs.Printed.{millionths_text};
 ghost use Rattle.acas_command.specs.RefusalText.{bound_text, byte_text, digest_text, form_text, layer_digest_text, model_text, refusal_text, shape_text, state_text};
 

@@ -1,11 +1,12 @@
 -- Bytes as a document.
-use Rattle.std.proofs.Common.{◌≡◌, ℕ, List, Option, Some, None, IsUtf8, inl, inr, refl, ◌∙◌}
+use Rattle.std.proofs.Common.{◌≡◌, ℕ, List, Option, Some, None, Ok, IsUtf8, inl, inr, refl, ◌∙◌}
 use Rattle.std.specs.Str.{is_utf8}
 use Rattle.std.proofs.lemmas.Str.{is_utf8-from_IsUtf8, IsUtf8-from_is_utf8}
 use Rattle.std.proofs.lemmas.Bool.{cases_Bool}
 use Rattle.toml.specs.Data.{Members}
 use Rattle.toml.specs.Parse.{parse_document}
-use Rattle.acas_doc.specs.Document.{document_in}
+use Rattle.acas_doc.specs.Document.{document_in, document_of}
+use Rattle.acas_doc.proofs.Holds.{or_fault_ok}
 
 -- a text in UTF-8 is what it is parsed as
 pub document_of_text : (bytes : List ℕ) → IsUtf8 bytes → document_in bytes ≡ parse_document bytes
@@ -38,3 +39,13 @@ document_found bytes doc e =
   where
     none_is_no_document : (doc : Members) → ◌≡◌ {A = Option Members} None (Some doc) → ⊥
     none_is_no_document doc e = cc
+
+-- ---- or a fault
+
+pub document_of-read : {E : Type 0} (not_toml : E) (bytes : List ℕ) (doc : Members) → IsDocument bytes doc → document_of not_toml bytes ≡ Ok doc
+unfolding document_of
+document_of-read not_toml bytes doc is = rw (document_read bytes doc is) refl
+
+pub document_of-found : {E : Type 0} (not_toml : E) (bytes : List ℕ) (doc : Members) → document_of not_toml bytes ≡ Ok doc → IsDocument bytes doc
+unfolding document_of
+document_of-found not_toml bytes doc e = document_found bytes doc (or_fault_ok not_toml (document_in bytes) doc e)

@@ -9,11 +9,12 @@ use Rattle.acas_spec.specs.Axis.{IsBetween, IsWithin}
 use Rattle.acas_spec.specs.Model.{ModelData}
 use Rattle.acas_spec.specs.Limits.{IsModel}
 use Rattle.acas_doc.specs.Paths.{key_path}
+use Rattle.acas_doc.proofs.Documents.{document_of-read}
 use Rattle.acas_doc.proofs.Holds.{list_at_passes, whole_at_passes, whole_item_passes}
 use Rattle.acas_doc.proofs.LeastUnknown.{only_known_passes}
 use Rattle.acas_model.specs.Text.{HoldsList, HoldsWhole}
 use Rattle.acas_model.proofs.Places.{each_from}
-use Rattle.acas_input.proofs.Bytes.{document_read}
+use Rattle.acas_input.specs.declared.fault.InputFault.TheVariants.{NotToml}
 use Rattle.acas_input.proofs.Keys.{advisory_passes, version_passes}
 use Rattle.acas_encounter.specs.declared.limits.TheConstants.{LEAST_START_RANGE, GREATEST_START_RANGE, LEAST_ACCELERATION, GREATEST_ACCELERATION}
 use Rattle.acas_encounter.specs.declared.start.Start.{Start}
@@ -75,7 +76,7 @@ pub understood : (m : ModelData) (bytes : List ℕ) (e : EncounterData) → IsMo
 unfolding encounter_of encounter_in
 understood m bytes e valid is =
     rw (
-      document_read bytes is.doc is.text is.toml,
+      document_of-read NotToml bytes is.doc (record { text = is.text; toml = is.toml }),
       (only_known_passes [] _ is.doc).1 is.keys.none,
       version_passes is.doc is.version,
       start_passes m is.doc e.start valid is.start is.within.start (omega (arith, is.known.advisory, valid.advisory_count)),

@@ -10,6 +10,7 @@ use Rattle.acas_spec.specs.Model.{ModelData}
 use Rattle.acas_spec.specs.Limits.{IsModel}
 use Rattle.acas_spec.proofs.Each.{bind_ok, same_ok}
 use Rattle.acas_doc.specs.Document.{document_of}
+use Rattle.acas_doc.proofs.Documents.{document_of-found}
 use Rattle.acas_doc.specs.Keys.{list_at}
 use Rattle.acas_doc.specs.Known.{only_known}
 use Rattle.acas_doc.specs.Paths.{key_path}
@@ -23,7 +24,6 @@ use Rattle.acas_input.specs.declared.fault.InputFault.{InputFault}
 use Rattle.acas_input.specs.declared.fault.InputFault.TheVariants.{NotToml}
 use Rattle.acas_input.specs.Document.{in_doc, version_of}
 use Rattle.acas_input.specs.Named.{advisory_at}
-use Rattle.acas_input.proofs.Bytes.{document_ok}
 use Rattle.acas_input.proofs.Keys.{advisory_ok, version_ok}
 use Rattle.acas_encounter.specs.declared.limits.TheConstants.{LEAST_START_RANGE, GREATEST_START_RANGE, LEAST_ACCELERATION, GREATEST_ACCELERATION}
 use Rattle.acas_encounter.specs.declared.start.Start.{Start}
@@ -175,7 +175,7 @@ pub said : (m : ModelData) (bytes : List ℕ) (e : EncounterData) → IsModel m 
 unfolding encounter_of
 said m bytes e valid is =
     let d = bind_ok (document_of NotToml bytes) (encounter_in m) e is in
-    let doc = document_ok bytes d.0 d.1 in
+    let doc = document_of-found NotToml bytes d.0 d.1 in
     let read = in_ok m d.0 e d.2 in
     record {
       text = doc.text;

@@ -10,6 +10,7 @@ use Rattle.acas_spec.proofs.Each.{bind_ok, same_ok}
 use Rattle.acas_model.specs.declared.axes.Axes.{Axes}
 use Rattle.acas_base.specs.declared.numbers.Numbers.{Numbers}
 use Rattle.acas_doc.specs.Document.{document_of}
+use Rattle.acas_doc.proofs.Documents.{document_of-found}
 use Rattle.acas_model.specs.declared.fault.ModelFault.{ModelFault}
 use Rattle.acas_model.specs.declared.fault.ModelFault.TheVariants.{NotToml}
 use Rattle.acas_model.specs.Axes.{axes_of}
@@ -19,7 +20,6 @@ use Rattle.acas_model.specs.Noise.{sigmas_of, weights}
 use Rattle.acas_base.specs.View.{model_with}
 use Rattle.acas_model.specs.Whole.{top_keys, version_of, horizon_of, window, few_entries, grid_from, model_in, model_of}
 use Rattle.acas_model.specs.Text.{HasOnly, HoldsWhole, HoldsList, HoldsTable, HoldsTables, IsGridText, IsPuckText, IsClosingText, IsPilotText, IsCostText, IsAdvisoryText, IsSigmaText, IsDocumentText, IsModelText}
-use Rattle.acas_model.proofs.Bytes.{document_ok}
 use Rattle.acas_model.proofs.Places.{same_lists}
 use Rattle.acas_model.proofs.ReadNumbers.{step_ok, only_ok, IsNumber, number_ok, IsTable, IsReadNumbers, numbers_ok}
 use Rattle.acas_model.proofs.ReadAxes.{IsReadAxes, axes_ok}
@@ -141,7 +141,7 @@ unfolding model_of model_in
 said bytes m e =
     let d = bind_ok (document_of NotToml bytes) model_in m e in
     let doc = d.0 in
-    let is_doc = document_ok bytes doc d.1 in
+    let is_doc = document_of-found NotToml bytes doc d.1 in
     let k = step_ok (top_keys doc) _ m d.2 in
     let v = bind_ok (version_of doc) _ m k.1 in
     let h = bind_ok (horizon_of doc) _ m v.2 in

@@ -5,11 +5,12 @@ use Rattle.toml.specs.Data.{Members}
 use Rattle.acas_units.specs.declared.limits.TheConstants.{LEAST_MODEL_VERSION, GREATEST_MODEL_VERSION, LEAST_HORIZON, GREATEST_HORIZON, GREATEST_TOTAL_WEIGHT, GREATEST_ENTRIES}
 use Rattle.acas_spec.specs.Model.{ModelData, GridData, entries, weight_of}
 use Rattle.acas_spec.specs.Limits.{IsModel}
+use Rattle.acas_doc.proofs.Documents.{document_of-read}
+use Rattle.acas_model.specs.declared.fault.ModelFault.TheVariants.{NotToml}
 use Rattle.acas_model.specs.Noise.{weights}
 use Rattle.acas_base.specs.View.{model_with}
 use Rattle.acas_model.specs.Whole.{top_keys, version_of, horizon_of, window, few_entries, grid_from, model_in, model_of}
 use Rattle.acas_model.specs.Text.{IsDocumentText, IsModelText}
-use Rattle.acas_model.proofs.Bytes.{document_read}
 use Rattle.acas_model.proofs.PassNumbers.{only_passes, number_passes, axes_in, axes_pass, numbers_in, numbers_pass}
 use Rattle.acas_model.proofs.PassLists.{advised_in, advised_passes, sigmas_pass}
 
@@ -51,7 +52,7 @@ understood bytes m says =
     let built : model_with (grid_from m.grid.horizon (axes_in m) (advised_in m)) (numbers_in m) m.advisories m.choices m.sigmas ≡ m =
     ap (λ g. model_with g (numbers_in m) m.advisories m.choices m.sigmas) grid in
     rw (
-      document_read bytes doc says.text says.toml,
+      document_of-read NotToml bytes doc (record { text = says.text; toml = says.toml }),
       keys_pass doc m says.keys,
       version_passes doc m says.keys,
       horizon_passes doc m says.keys valid,

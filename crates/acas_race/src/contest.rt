@@ -1,5 +1,5 @@
 //! A curve against an intruder that goes to a rate of its own.
-ghost use Rattle.acas_race.specs.Runs.{GoesUp};
+ghost use Rattle.acas_race.specs.Intruder.{GoesUp};
 
 use acas_areas::Chase;
 

@@ -1,8 +1,7 @@
 -- What the answers of `regions` are worth.
-use Rattle.std.proofs.Common.{◌≡◌, ℕ, ◌≤◌, List, [], length, Some, sym, ap, subst, ◌∙◌}
+use Rattle.std.proofs.Common.{◌≡◌, ℕ, List, [], sym, ap, subst, ◌∙◌}
 use Rattle.std.specs.Prelude.{IfSome}
 use Rattle.std.specs.FinMap.{get}
-use Rattle.acas_units.specs.declared.limits.TheConstants.{TEXT_BYTES}
 use Rattle.acas_spec.specs.Model.{ModelData}
 use Rattle.acas_outside.specs.Files.{Files}
 use Rattle.acas_outside.specs.Outside.{Outside}

@@ -8,7 +8,7 @@ use Rattle.acas_step_narrow.specs.declared.wide_sums.TheConstants.{WIDE_SIZE}
 use Rattle.acas_step_stencils.specs.Stencils.{AreUsable}
 use Rattle.acas_step_columns.specs.declared.columns.Source.{Source}
 use Rattle.acas_step_columns.specs.declared.columns.Source.TheVariants.{Twin, Sums, Wide, Layer}
-use Rattle.acas_step_columns.specs.declared.over.MeansOver.{MeansOver}
+use Rattle.acas_step_columns.specs.declared.means_over.MeansOver.{MeansOver}
 
 -- stencils are those of a model, with a second to go, a layer below has its reach, and there are the column and the advisory
 pub record HasColumn (over : MeansOver) (j a : ℕ) : Type 0 where

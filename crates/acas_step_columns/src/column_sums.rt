@@ -15,7 +15,7 @@ ghost use Rattle.acas_step_stencils.specs.Stencils.{HaveStencil, IsRise, point_f
 ghost use Rattle.acas_means.specs.declared.layer.Side.TheVariants.{Upper, Lower};
 ghost use Rattle.acas_units.specs.declared.pair.Pair.{Pair};
 
-use crate::over::MeansOver;
+use crate::means_over::MeansOver;
 use acas_means::first_state;
 use acas_step::{Cell, sigma_count};
 use acas_step_narrow::{

@@ -7,7 +7,7 @@ ghost use Rattle.acas_means.specs.Layer.{AreWithin, pair_at, value_of};
 ghost use Rattle.acas_means.specs.declared.layer.Side.{Side};
 
 use crate::column_sums::fill_sums;
-use crate::over::MeansOver;
+use crate::means_over::MeansOver;
 use crate::wide_means::wide_means;
 use acas_frac::{Down, Up};
 use acas_means::{ColumnMeans, Side, VertexMeans, vertex_in_column};

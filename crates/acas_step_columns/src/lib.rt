@@ -3,7 +3,7 @@
 
 mod column_sums;
 mod columns;
-mod over;
+mod means_over;
 mod stencil_means;
 mod wide_means;
 

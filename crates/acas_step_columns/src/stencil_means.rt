@@ -2,7 +2,7 @@
 ghost use Rattle.acas_step_stencils.specs.Stencils.{AreStencilsOf};
 
 use crate::columns::{fill_advisory, source_of};
-use crate::over::MeansOver;
+use crate::means_over::MeansOver;
 use acas_base::Model;
 use acas_means::{ColumnMeans, LayerMeans, Reach, advisory_count};
 use acas_step::{changes_from, own_rate_at};

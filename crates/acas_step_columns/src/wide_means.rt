@@ -8,7 +8,7 @@ ghost use Rattle.acas_step_narrow.specs.Narrow.{AreRaisedSums, IsRaisedPoint};
 ghost use Rattle.acas_step_narrow.specs.WideSums.{as_raised};
 ghost use Rattle.acas_step_stencils.specs.Stencils.{point_from};
 
-use crate::over::MeansOver;
+use crate::means_over::MeansOver;
 use acas_means::{column_count, first_state};
 use acas_step::sigma_count;
 use acas_step_narrow::{

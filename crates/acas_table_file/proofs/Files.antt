@@ -16,7 +16,6 @@ use Rattle.acas_table_text.specs.declared.refusal.TableRefusal.{TableRefusal}
 use Rattle.acas_accept.specs.Answers.{HasLayers}
 use Rattle.acas_accept.specs.Refusals.{first_refusal}
 use Rattle.acas_accept.proofs.Tables.{accepted_has_none, given_is_accepted}
-use Rattle.acas_accept.specs.Accepted.{IsAcceptedTable}
 use Rattle.acas_accept.specs.GivenTable.{given_table}
 use Rattle.acas_command.specs.Called.{MayPrint}
 use Rattle.acas_command.specs.Calls.{with_model}

@@ -38,7 +38,7 @@ pub struct TableWriter {
 }
 
 impl TableWriter {
-    ghost use Rattle.std.specs.Prelude.{◌≡◌, ◌⊎◌, ◌≤◌, ◌<◌, ◌+◌, ◌++◌, ◌∷◌, [], List, IfOk, OnOk, OnErr, IsErr, IsSome, IsTrue, length, is_ok, if◌then◌else◌, Some};
+    ghost use Rattle.std.specs.Prelude.{◌≡◌, ◌⊎◌, ◌≤◌, ◌<◌, ◌+◌, [], List, IfOk, OnOk, OnErr, IsErr, IsSome, IsTrue, length, is_ok, if◌then◌else◌, Some};
     ghost use Rattle.std.specs.Option.{option_map};
     ghost use Rattle.acas_units.specs.declared.pair.Entry.{Entry as TableEntry};
     ghost use Rattle.acas_outside.specs.Files.{Given, Grows, GrowsPart, Stores, StoresPart};

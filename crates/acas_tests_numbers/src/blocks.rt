@@ -1,5 +1,5 @@
 //! What stands in a block, and blocks that are let go in each state.
-ghost use Rattle.std.specs.Prelude.{◌≡◌, ◌≤◌, ◌<◌};
+ghost use Rattle.std.specs.Prelude.{◌≡◌, ◌<◌};
 
 use acas_plane::{PlaneBlock, Turned};
 use acas_units::Pair;
@@ -113,18 +113,20 @@ fn found(missing: u32, sum: i64, last: i64, turned: u64) -> Seen {
     }
 }
 
-#[test]
-fn blocks_are_let_go_in_each_state(rt: HostRuntime) -> Result<(), Fail> {
-    // Nothing is written; every second place; all; all, and turned; that, and every second place of the next plane.
-    let stages = [
+// Nothing is written; every second place; all; all, and turned; that, and every second place of the next plane.
+fn stages() -> [Stage; 5] {
+    [
         at_stage(0, false, 0),
         at_stage(2, false, 0),
         at_stage(1, false, 0),
         at_stage(1, true, 0),
         at_stage(1, true, 2),
-    ];
-    // The states of a block, and what is seen of it at each stage.
-    let rows = [
+    ]
+}
+
+// The states of a block, and what is seen of it at each stage.
+fn rows() -> [(u32, [Seen; 5]); 3] {
+    [
         (
             1,
             [
@@ -155,9 +157,13 @@ fn blocks_are_let_go_in_each_state(rt: HostRuntime) -> Result<(), Fail> {
                 found(2_000_000, 8_000_002_000_000, 4_000_000, 4_000_000),
             ],
         ),
-    ];
-    for (states, wanted) in rows {
-        for (stage, want) in stages.into_iter().zip(wanted) {
+    ]
+}
+
+#[test]
+fn blocks_are_let_go_in_each_state(rt: HostRuntime) -> Result<(), Fail> {
+    for (states, wanted) in rows() {
+        for (stage, want) in stages().into_iter().zip(wanted) {
             assert!(rt;
                 seen_at(rt.alloc(), states, stage) == Some(want),
                 "{states} {stage:?}"

@@ -9,13 +9,6 @@ use Rattle.acas_table_lines.proofs.SweptLines.{lines_added, lines_cut, out_added
 use Rattle.acas_table_lines.proofs.TableLines.{values_text-behind_nothing}
 use Rattle.acas_table_lines.proofs.swept_lines.print_table.Goals as goal
 
--- all that waits is written out behind what was printed
-flushed : (old mid new : Option (List ℕ)) (w v a : List ℕ) → Appends mid new v → Prints old mid w v a → Appends old new (w ++ a)
-flushed old mid new w v a out printed = prints_all old mid new w v a printed out
-
-flushed_in_part : (old mid new : Option (List ℕ)) (w v a : List ℕ) → AppendsPart mid new v → Prints old mid w v a → AppendsPart old new (w ++ a)
-flushed_in_part old mid new w v a part printed = part_of_waiting old mid new w v a printed part
-
 emits_then : {S A B : Type 0} (o : SinkMeanings S) (a b c : S) → Emits o b c A → (B → A) → Emits o a b ⊥ → Emits o a c B
 emits_then o a b c second still first = record { faults = omega (arith, first.faults, second.faults); fault = λ failed. omega (arith, first.faults, second.fault (still failed)) }
 
@@ -34,7 +27,7 @@ returns-in_err-flush-in-Ok-clause-err g c =
     let m = c.args.model.now in
     let whole = values_text-behind_nothing m c.args.pen.now.buffer c.requires.empty in
     on_err_always _ (subst (AppendsPart _ _) whole
-    (flushed_in_part _ _ _ _ _ _ c.in_err-flush-in-Ok.ensures.err (lines_added g.O.Sink m _ (m.grid.horizon + 1) c.sweep_to.new.rows _ _ refl c.in-Ok.ensures.hands.ok (search rules) (search rules))))
+    (part_of_waiting _ _ _ _ _ _ (lines_added g.O.Sink m _ (m.grid.horizon + 1) c.sweep_to.new.rows _ _ refl c.in-Ok.ensures.hands.ok (search rules) (search rules))) c.in_err-flush-in-Ok.ensures.err)
 
 pub returns-in_err-flush-in-Ok-clause-frame : goal.returns-in_err-flush-in-Ok-clause-frame
 returns-in_err-flush-in-Ok-clause-frame g c =
@@ -46,7 +39,7 @@ returns-in_ok-flush-in-Ok-clause-ok g c =
     let m = c.args.model.now in
     let whole = values_text-behind_nothing m c.args.pen.now.buffer c.requires.empty in
     subst (Appends _ _) whole
-    (flushed _ _ _ _ _ _ c.in_ok-flush-in-Ok.ensures.ok (lines_added g.O.Sink m _ (m.grid.horizon + 1) c.sweep_to.new.rows _ _ refl c.in-Ok.ensures.hands.ok (search rules) (search rules)))
+    (prints_all _ _ _ _ _ _ (lines_added g.O.Sink m _ (m.grid.horizon + 1) c.sweep_to.new.rows _ _ refl c.in-Ok.ensures.hands.ok (search rules) (search rules)) c.in_ok-flush-in-Ok.ensures.ok)
 
 pub returns-in_ok-flush-in-Ok-clause-frame : goal.returns-in_ok-flush-in-Ok-clause-frame
 returns-in_ok-flush-in-Ok-clause-frame g c =
