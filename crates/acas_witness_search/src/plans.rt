@@ -3,7 +3,7 @@ ghost use Rattle.std.specs.Prelude.{◌≡◌, ◌*◌, ◌<◌, ◌≤◌, pos,
 ghost use Rattle.acas_frac.specs.Fraction.{whole_of};
 ghost use Rattle.acas_flight.specs.Curves.{low_hold, low_pull};
 ghost use Rattle.acas_passes.specs.Passes.{falling, rising};
-ghost use Rattle.acas_passes.specs.Search.{aim_pass, altitude_pass, hold_pass, intruder_pass, low_flight, own_pass, pull_pass, time_pass, unit};
+ghost use Rattle.acas_passes.specs.Search.{after_altitude, aim_pass, altitude_pass, hold_pass, intruder_pass, low_flight, own_pass, pull_pass, time_pass, unit};
 ghost use Rattle.acas_areas.specs.Limits.{IsHold, IsPull, IsRate, IsWhole};
 ghost use Rattle.acas_witness_plans.specs.Plans.{CanBeFlown, IsPlanOf, IsWholePlan};
 ghost use Rattle.acas_witness_search.specs.Surveys.{IsHighPlan, IsPointOf, asked_in, search_of};
@@ -177,20 +177,32 @@ impl Survey {
         }
     }
 
+    // The flight at which the pass over the altitude ends.
+    fn after_altitude(&self) -> Plan
+        ensures point { IsPlanOf (unit (search_of self.now)) (after_altitude (search_of self.now)) result }
+        ensures time { result.time ≡ self.now.high }
+        ensures flown { CanBeFlown result }
+        ensures whole { IsWholePlan result }
+    {
+        Plan {
+            time: self.high,
+            altitude: self.area.h.least,
+            ..self.low_plan()
+        }
+    }
+
     /// The flight of that number of the pass over the intruder's rate.
     pub(crate) fn at_intruder(&self, number: u32) -> Plan
         ensures point { IsPointOf self.now intruder_pass number result }
         ensures flown { CanBeFlown result }
     {
         Plan {
-            time: self.high,
-            altitude: self.area.h.least,
             intruder: rate_at(falling_place(
                 rate_steps(self.area.v1.greatest),
                 rate_steps(self.area.v1.least),
                 number,
             )),
-            ..self.low_plan()
+            ..self.after_altitude()
         }
     }
 
@@ -200,11 +212,9 @@ impl Survey {
         ensures flown { CanBeFlown result }
     {
         Plan {
-            time: self.high,
-            altitude: self.area.h.least,
             intruder: whole_rate(self.area.v1.least),
             aim: rate_at(rising_place(rate_steps(self.lo), rate_steps(self.hi), number)),
-            ..self.low_plan()
+            ..self.after_altitude()
         }
     }
 
@@ -215,8 +225,6 @@ impl Survey {
     {
         let last = self.high_pull(rate_steps(self.area.v0.least));
         Plan {
-            time: self.high,
-            altitude: self.area.h.least,
             intruder: whole_rate(self.area.v1.least),
             aim: whole_rate(self.hi),
             pull: pull_at(place(
@@ -224,7 +232,7 @@ impl Survey {
                 PULL_STEPS * last,
                 u64::from(number),
             )),
-            ..self.low_plan()
+            ..self.after_altitude()
         }
     }
 

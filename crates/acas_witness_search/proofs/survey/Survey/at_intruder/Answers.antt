@@ -5,20 +5,20 @@ use Rattle.acas_units.specs.declared.limits.TheConstants.{GREATEST_RATE}
 use Rattle.std.proofs.lemmas.Int.{ints}
 use Rattle.acas_passes.specs.Search.{grain}
 use Rattle.acas_witness_search.specs.Surveys.{search_of}
-use Rattle.acas_witness_plans.proofs.Overs.{high_over, falling_over, falling_size}
+use Rattle.acas_witness_plans.proofs.Overs.{falling_over, falling_size}
 use Rattle.acas_witness_search.proofs.survey.Survey.at_intruder.Goals as goal
 
 pub returns-clause-point : goal.returns-clause-point
 returns-clause-point c =
     let s = c.args.self.now in
     record {
-      time = high_over (search_of s) s.high_end.least;
-      altitude = omega (arith, ints, s.area.fits.altitude.least);
-      own = c.low_plan.ensures.point.own;
+      time = c.after_altitude.ensures.point.time;
+      altitude = omega (arith, ints, c.after_altitude.ensures.flown.altitude, c.after_altitude.ensures.point.altitude);
+      own = c.after_altitude.ensures.point.own;
       intruder = falling_over s.area.v1.greatest s.area.v1.least (grain (search_of s)) c.args.number c.rate_at.result _ c.falling_place.result _ _ c.rate_at.ensures.value (omega (arith, ints)) c.falling_place.ensures (omega (arith, ints, c.rate_steps.ensures.value, s.area.fits.intruder.greatest)) (omega (arith, ints, c.rate_steps-2.ensures.value, s.area.fits.intruder.least));
-      aim = c.low_plan.ensures.point.aim;
-      pull = c.low_plan.ensures.point.pull;
-      hold = c.low_plan.ensures.point.hold;
+      aim = c.after_altitude.ensures.point.aim;
+      pull = c.after_altitude.ensures.point.pull;
+      hold = c.after_altitude.ensures.point.hold;
     }
 
 pub rate_at-requires : goal.rate_at-requires
