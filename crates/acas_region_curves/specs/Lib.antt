@@ -1,2 +1,3 @@
 pub mod Scaling
 pub mod Ratios
+pub mod Parts

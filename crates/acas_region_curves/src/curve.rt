@@ -4,6 +4,7 @@ ghost use Rattle.acas_frac.specs.Fraction.{Fraction};
 ghost use Rattle.acas_flight.specs.Curves.{held};
 ghost use Rattle.acas_flight.specs.Values.{IsApproach, IsHeld, all_lost, less_or_more};
 ghost use Rattle.acas_areas.specs.Limits.{IsCurve, IsHeldCurve, IsHold, IsPull, IsRate, IsTime};
+ghost use Rattle.acas_region_curves.specs.Parts.{AreParts};
 ghost use Rattle.acas_region_curves.specs.Ratios.{IsRatio};
 ghost use Rattle.acas_region_curves.specs.Scaling.{IsScaling};
 ghost use Rattle.acas_areas.specs.Sizes.{gain_size, rate_size, way_size};
@@ -28,10 +29,7 @@ pub fn rate_parts(rate: &Frac) -> (i64, u64)
 /// A pull's parts.
 pub fn pull_parts(pull: &Frac) -> (u64, u64)
     requires { IsPull pull.now }
-    ensures num { Fraction.num pull.now ≡ pos result.0 }
-    ensures den { Fraction.den pull.now ≡ result.1 }
-    ensures num_size { result.0 ≤ GREATEST_LIMIT * PULL_PARTS }
-    ensures den_size { result.1 ≤ PULL_PARTS }
+    ensures parts { AreParts GREATEST_LIMIT PULL_PARTS pull.now result.0 result.1 }
     ensures some { 0 < result.0 }
 {
     (pull.num() as u64, pull.den() as u64)
@@ -40,10 +38,7 @@ pub fn pull_parts(pull: &Frac) -> (u64, u64)
 // A hold's parts.
 fn hold_parts(hold: &Frac) -> (u64, u64)
     requires { IsHold hold.now }
-    ensures num { Fraction.num hold.now ≡ pos result.0 }
-    ensures den { Fraction.den hold.now ≡ result.1 }
-    ensures num_size { result.0 ≤ GREATEST_DELAY * HOLD_PARTS }
-    ensures den_size { result.1 ≤ HOLD_PARTS }
+    ensures { AreParts GREATEST_DELAY HOLD_PARTS hold.now result.0 result.1 }
 {
     (hold.num() as u64, hold.den() as u64)
 }
@@ -51,11 +46,7 @@ fn hold_parts(hold: &Frac) -> (u64, u64)
 /// A time's parts.
 pub fn time_parts(time: &Frac) -> (u64, u64)
     requires { IsTime time.now }
-    ensures num { Fraction.num time.now ≡ pos result.0 }
-    ensures den { Fraction.den time.now ≡ result.1 }
-    ensures num_size { result.0 ≤ WINDOW_SECONDS * TIME_PARTS }
-    ensures den_size { result.1 ≤ TIME_PARTS }
-    ensures some { 0 < result.1 }
+    ensures { AreParts WINDOW_SECONDS TIME_PARTS time.now result.0 result.1 }
 {
     (time.num() as u64, time.den() as u64)
 }

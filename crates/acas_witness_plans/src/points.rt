@@ -4,6 +4,7 @@ ghost use Rattle.acas_frac.specs.Fraction.{Fraction, IsFrac};
 ghost use Rattle.acas_flight.specs.Values.{IsOver};
 ghost use Rattle.acas_passes.specs.Passes.{toward};
 ghost use Rattle.acas_areas.specs.Limits.{IsEnd, IsHold, IsPull, IsRate, IsTime};
+ghost use Rattle.acas_region_curves.specs.Parts.{AreParts};
 ghost use Rattle.acas_witness_plans.specs.Plans.{time_toward};
 
 use acas_frac::Frac;
@@ -78,12 +79,7 @@ pub fn place(from: u64, to: u64, number: u64) -> u64
 /// The parts of a window's time.
 pub fn end_parts(time: &Frac) -> (u64, u64)
     requires { IsEnd time.now }
-    ensures num { Fraction.num time.now ≡ pos result.0 }
-    ensures den { Fraction.den time.now ≡ result.1 }
-    ensures num_size { result.0 ≤ WINDOW_SECONDS * GREATEST_CLOSING }
-    ensures den_size { result.1 ≤ GREATEST_CLOSING }
-    ensures some { 0 < result.1 }
-    ensures most { result.0 ≤ WINDOW_SECONDS * result.1 }
+    ensures { AreParts WINDOW_SECONDS GREATEST_CLOSING time.now result.0 result.1 }
 {
     (time.num() as u64, time.den() as u64)
 }

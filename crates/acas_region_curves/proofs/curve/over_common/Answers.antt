@@ -25,5 +25,5 @@ returns c =
     from_parts c.args.v.now c.args.aim.now c.args.pull.now c.args.hold.now c.args.t.now _ _ _ _ _ _ _ _ _ _
     (to_z w64 (of_z w64 c.start_of.result)) (to_z w64 (of_z w64 c.start_of-2.result)) c.den_of.result c.requires
     c.rate_parts-start.ensures.num c.rate_parts-start.ensures.den c.rate_parts-end.ensures.num c.rate_parts-end.ensures.den
-    c.pull_parts-force.ensures.num c.pull_parts-force.ensures.den c.hold_parts-kept.ensures.num c.hold_parts-kept.ensures.den
+    c.pull_parts-force.ensures.parts.num c.pull_parts-force.ensures.parts.den c.hold_parts-kept.ensures.num c.hold_parts-kept.ensures.den
     c.time_parts-time.ensures.num c.time_parts-time.ensures.den (s ∙ start) (a ∙ aim) c.den_of.ensures

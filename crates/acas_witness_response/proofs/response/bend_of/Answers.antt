@@ -13,8 +13,8 @@ pub returns-clause-bend : goal.returns-clause-bend
 returns-clause-bend c =
     let v : to_z w64 (of_z w64 c.rate_parts-v.result.0) ≡ c.rate_parts-v.result.0 = omega (arith, ints, c.rate_parts-v.ensures.num_size) in
     let k : to_z w64 (of_z w64 c.rate_parts-k.result.0) ≡ c.rate_parts-k.result.0 = omega (arith, ints, c.rate_parts-k.ensures.num_size) in
-    let s : c.way_of.result * c.pull_parts-b.result.1 ≤ 1280000 * 2048 = mul-le-mul c.way_of.ensures.size c.pull_parts-b.ensures.den_size in
+    let s : c.way_of.result * c.pull_parts-b.result.1 ≤ 1280000 * 2048 = mul-le-mul c.way_of.ensures.size c.pull_parts-b.ensures.parts.den_size in
     let w : to_z w64 (c.way_of.result * c.pull_parts-b.result.1) ≡ pos (c.way_of.result * c.pull_parts-b.result.1) = omega (arith, ints, s) in
     bend_from c.args.rate.now c.args.aim.now c.args.pull.now c.ratio.result c.rate_parts-v.result.0 c.rate_parts-k.result.0 c.rate_parts-v.result.1 c.rate_parts-k.result.1 c.pull_parts-b.result.0 c.pull_parts-b.result.1 c.way_of.result
-    c.rate_parts-v.ensures.num c.rate_parts-v.ensures.den c.rate_parts-k.ensures.num c.rate_parts-k.ensures.den c.pull_parts-b.ensures.num c.pull_parts-b.ensures.den
+    c.rate_parts-v.ensures.num c.rate_parts-v.ensures.den c.rate_parts-k.ensures.num c.rate_parts-k.ensures.den c.pull_parts-b.ensures.parts.num c.pull_parts-b.ensures.parts.den
     (rw (v, k) at c.way_of.ensures.value) (rw w at c.ratio.ensures.value)

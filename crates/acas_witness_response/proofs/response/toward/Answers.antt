@@ -11,4 +11,4 @@ returns-then-is_at_most c = λ q v k b p ov ok op.
 pub returns-else-is_at_most : goal.returns-else-is_at_most
 returns-else-is_at_most c = λ q v k b p ov ok op.
     down_over q v k b c.args.rate.now c.args.aim.now c.args.pull.now c.ratio.result (mul-pos p p) c.requires.rate.some c.requires.aim.some c.requires.pull.some ov ok op (sym c.is_at_most.ensures ∙ c.if-is_at_most.false)
-    (opposite_from c.ratio.result c.args.pull.now _ _ c.ratio.ensures.value (sym c.pull_parts-num.ensures.den) (omega (arith, ints, c.pull_parts-num.ensures.num, c.pull_parts-num.ensures.num_size)))
+    (opposite_from c.ratio.result c.args.pull.now _ _ c.ratio.ensures.value (sym c.pull_parts-num.ensures.parts.den) (omega (arith, ints, c.pull_parts-num.ensures.parts.num, c.pull_parts-num.ensures.parts.num_size)))
