@@ -1,5 +1,5 @@
 //! What an advisory of a model asks of a pilot, and the lowest and highest climbs under it.
-ghost use Rattle.std.specs.Prelude.{◌≡◌, ◌<◌, ◌≤◌, pos, ◌*ℤ◌, unsigned_abs, int_lt};
+ghost use Rattle.std.specs.Prelude.{◌≡◌, ◌<◌, ◌≤◌, pos, ◌*ℤ◌, unsigned_abs, int_lt, if◌then◌else◌};
 ghost use Rattle.acas_frac.specs.Fraction.{Fraction, whole_of};
 ghost use Rattle.acas_flight.specs.Response.{demand_of};
 ghost use Rattle.acas_flight.specs.Values.{IsHeld, IsHighestClimb, IsLowestClimb};
@@ -46,6 +46,20 @@ fn toward(v: &Frac, aim: i64, pull: u64, hold: u64, t: &Frac) -> Frac
     )
 }
 
+// The climb toward an aim, with the pull and after the delay where the start rate is past it, and else with the limit and at once.
+fn climb_to(asked: &Asked, aim: i64, is_past: bool, v: &Frac, t: &Frac) -> Frac
+    requires aim { unsigned_abs aim ≤ unsigned_abs GREATEST_RATE }
+    requires start { IsStart v.now t.now }
+    ensures { let a = asked.now in let pull = if is_past then a.pull else a.limit in let hold = if is_past then a.delay else 0 in
+        IsHeld v.now (whole_of aim) (whole_of (pos pull)) (whole_of (pos hold)) t.now result }
+{
+    if is_past {
+        toward(v, aim, asked.pull, asked.delay, t)
+    } else {
+        toward(v, aim, asked.limit, 0, t)
+    }
+}
+
 // Whether a rate is under a whole number.
 fn is_under(rate: &Frac, bound: i64) -> bool
     requires rate { IsRate rate.now }
@@ -71,11 +85,7 @@ fn lowest_of(asked: &Asked, v: &Frac, t: &Frac) -> Frac
     requires { IsStart v.now t.now }
     ensures { IsLowestClimb (demand_in asked.now) v.now t.now result }
 {
-    if is_under(v, asked.lo) {
-        toward(v, asked.lo, asked.pull, asked.delay, t)
-    } else {
-        toward(v, asked.lo, asked.limit, 0, t)
-    }
+    climb_to(asked, asked.lo, is_under(v, asked.lo), v, t)
 }
 
 // The greatest climb under it.
@@ -83,11 +93,7 @@ fn highest_of(asked: &Asked, v: &Frac, t: &Frac) -> Frac
     requires { IsStart v.now t.now }
     ensures { IsHighestClimb (demand_in asked.now) v.now t.now result }
 {
-    if is_over(v, asked.hi) {
-        toward(v, asked.hi, asked.pull, asked.delay, t)
-    } else {
-        toward(v, asked.hi, asked.limit, 0, t)
-    }
+    climb_to(asked, asked.hi, is_over(v, asked.hi), v, t)
 }
 
 /// The least climb in the time t, in ticks, of a flight from the rate v that meets the advisory: toward lo, with the pull and after

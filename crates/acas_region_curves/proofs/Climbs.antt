@@ -1,5 +1,5 @@
 -- The lowest and the highest climb by the curve of the side that the start rate is on.
-use Rattle.std.proofs.Common.{◌≡◌, ℕ, ◌*◌, ◌<◌, ⊎_elim, refl, sym, ap, ◌∙◌, arith, Bool, true, false, cond, [], ◌∷◌, ℤ, pos, ◌*ℤ◌, ◌≤ℤ◌, ◌<ℤ◌, int_lt, mul-pos}
+use Rattle.std.proofs.Common.{◌≡◌, ℕ, ◌*◌, ◌<◌, ⊎_elim, refl, sym, ap, ◌∙◌, arith, Bool, cond, [], ◌∷◌, ℤ, pos, ◌*ℤ◌, ◌≤ℤ◌, ◌<ℤ◌, int_lt, mul-pos}
 use Rattle.std.proofs.lemmas.Int.{ints}
 use Rattle.acas_frac.proofs.SignedProducts.{mul-lt_ℤ, lt-from_mul_ℤ}
 use Rattle.acas_frac.proofs.IntRing.{at, num, ◌⊗◌, ring}
@@ -49,7 +49,7 @@ rate_test' q vn k v p s e =
 
 -- the pull and the hold of a border, in numbers over q
 module _ (a : Demand) (v t y : Fraction) (s : 0 < v.den) where
-  low_border : (b : Bool) → int_lt v.num (a.lo *ℤ pos v.den) ≡ b → IsHeld v (whole_of a.lo) (whole_of (pos (cond b a.pull a.limit))) (whole_of (pos (cond b a.delay 0))) t y → IsLowestClimb a v t y
+  pub low_border : (b : Bool) → int_lt v.num (a.lo *ℤ pos v.den) ≡ b → IsHeld v (whole_of a.lo) (whole_of (pos (cond b a.pull a.limit))) (whole_of (pos (cond b a.delay 0))) t y → IsLowestClimb a v t y
   low_border b e h = record { over = λ q vn tn p iv it. at_q q vn tn p iv it }
     where
       at_q : (q : ℕ) (vn : ℤ) (tn : ℕ) → 0 < q → IsOver (q * q) vn v → IsOver q (pos tn) t →
@@ -59,7 +59,7 @@ module _ (a : Demand) (v t y : Fraction) (s : 0 < v.den) where
           let one = h.over q vn (a.lo *ℤ pos (q * q)) (cond b a.pull a.limit * q) (cond b a.delay 0 * q) tn p iv (whole_over (q * q) a.lo) (whole_over q (pos (cond b a.pull a.limit))) (whole_over q (pos (cond b a.delay 0))) it in
           rw test (rw (← cond_times b a.pull a.limit q, ← cond_none b a.delay q) at one)
 
-  high_border : (b : Bool) → int_lt (a.hi *ℤ pos v.den) v.num ≡ b → IsHeld v (whole_of a.hi) (whole_of (pos (cond b a.pull a.limit))) (whole_of (pos (cond b a.delay 0))) t y → IsHighestClimb a v t y
+  pub high_border : (b : Bool) → int_lt (a.hi *ℤ pos v.den) v.num ≡ b → IsHeld v (whole_of a.hi) (whole_of (pos (cond b a.pull a.limit))) (whole_of (pos (cond b a.delay 0))) t y → IsHighestClimb a v t y
   high_border b e h = record { over = λ q vn tn p iv it. at_q q vn tn p iv it }
     where
       at_q : (q : ℕ) (vn : ℤ) (tn : ℕ) → 0 < q → IsOver (q * q) vn v → IsOver q (pos tn) t →
@@ -68,15 +68,3 @@ module _ (a : Demand) (v t y : Fraction) (s : 0 < v.den) where
           let test : int_lt (a.hi *ℤ pos (q * q)) vn ≡ b = rate_test' q vn a.hi v p s iv ∙ e in
           let one = h.over q vn (a.hi *ℤ pos (q * q)) (cond b a.pull a.limit * q) (cond b a.delay 0 * q) tn p iv (whole_over (q * q) a.hi) (whole_over q (pos (cond b a.pull a.limit))) (whole_over q (pos (cond b a.delay 0))) it in
           rw test (rw (← cond_times b a.pull a.limit q, ← cond_none b a.delay q) at one)
-
-  pub low_under : int_lt v.num (a.lo *ℤ pos v.den) ≡ true → IsHeld v (whole_of a.lo) (whole_of (pos a.pull)) (whole_of (pos a.delay)) t y → IsLowestClimb a v t y
-  low_under e h = low_border true e h
-
-  pub low_from : int_lt v.num (a.lo *ℤ pos v.den) ≡ false → IsHeld v (whole_of a.lo) (whole_of (pos a.limit)) (whole_of (pos 0)) t y → IsLowestClimb a v t y
-  low_from e h = low_border false e h
-
-  pub high_over : int_lt (a.hi *ℤ pos v.den) v.num ≡ true → IsHeld v (whole_of a.hi) (whole_of (pos a.pull)) (whole_of (pos a.delay)) t y → IsHighestClimb a v t y
-  high_over e h = high_border true e h
-
-  pub high_from : int_lt (a.hi *ℤ pos v.den) v.num ≡ false → IsHeld v (whole_of a.hi) (whole_of (pos a.limit)) (whole_of (pos 0)) t y → IsHighestClimb a v t y
-  high_from e h = high_border false e h
