@@ -57,14 +57,13 @@ impl Field {
                     TableFault::Version { found },
                 )
             }
-            Field::Model(digest) => {
-                let kept = digest_of(found);
-                let found = *digest;
-                fault_unless(
-                    kept.as_slice() == digest.as_slice(),
-                    TableFault::OtherModel { kept, found },
-                )
-            }
+            Field::Model(digest) => fault_unless(
+                found == digest.as_slice(),
+                TableFault::OtherModel {
+                    kept: digest_of(found),
+                    found: *digest,
+                },
+            ),
             Field::Number { place, expected } => {
                 let kept = LittleEndian::read_u32(found);
                 let (place, expected) = (*place, *expected);
@@ -77,26 +76,21 @@ impl Field {
                     },
                 )
             }
-            Field::Digest(computed) => {
-                let kept = digest_of(found);
-                let computed = *computed;
-                fault_unless(
-                    kept.as_slice() == computed.as_slice(),
-                    TableFault::Digest { kept, computed },
-                )
-            }
-            Field::LayerDigest { layer, computed } => {
-                let kept = digest_of(found);
-                let (layer, computed) = (*layer, *computed);
-                fault_unless(
-                    kept.as_slice() == computed.as_slice(),
-                    TableFault::LayerDigest {
-                        layer,
-                        kept,
-                        computed,
-                    },
-                )
-            }
+            Field::Digest(computed) => fault_unless(
+                found == computed.as_slice(),
+                TableFault::Digest {
+                    kept: digest_of(found),
+                    computed: *computed,
+                },
+            ),
+            Field::LayerDigest { layer, computed } => fault_unless(
+                found == computed.as_slice(),
+                TableFault::LayerDigest {
+                    layer: *layer,
+                    kept: digest_of(found),
+                    computed: *computed,
+                },
+            ),
         }
     }
 }
