@@ -2,7 +2,6 @@
 #![tactic(auto)]
 
 mod encoding;
-mod parts;
 mod pieces;
 mod writer;
 

@@ -3,6 +3,7 @@ ghost use Rattle.std.specs.Prelude.{◌≡◌, length, IfOk};
 
 use crate::encoding::encode_entries;
 use acas_outside::{Failed, Folder, write_piece};
+use acas_table_text::Format;
 use acas_units::{GREATEST_ENTRIES, Pair};
 use sha2::{Digest, Sha256};
 use std::alloc::{AllocError, Global};
@@ -27,6 +28,7 @@ impl Pieces {
     ghost use Rattle.acas_outside.specs.Files.{Given, Grows, GrowsPart};
     ghost use Rattle.acas_outside.specs.Frame.{OnlyWrites};
     ghost use Rattle.acas_table_writer.specs.Pieces.{Appends, Holds};
+    ghost use Rattle.acas_table_text.specs.Growth.{ending, layer_bytes, next_base};
     ghost use Rattle.acas_table_text.specs.Text.{layer_text, layer_of};
 
     /// Room for pieces that follow these bytes.
@@ -51,8 +53,8 @@ impl Pieces {
         write_piece(folder, name, bytes)
     }
 
-    /// Appends the digest of what was appended. From then on only the digest counts as appended.
-    pub fn digest<F: Folder>(&mut self, folder: &mut F, name: &str) -> Result<(), Failed>
+    // Appends the digest of what was appended. From then on only the digest counts as appended.
+    fn digest<F: Folder>(&mut self, folder: &mut F, name: &str) -> Result<(), Failed>
         requires served { IsTrue (F.serves folder.old name.now) }
         requires held { Given (F.holds folder.old) name.now (λ file. IsSome file) }
         ensures hashed { (m : List ℕ) → Holds self.old m → OnOk result (Holds self.new (sha256 m)) }
@@ -66,9 +68,10 @@ impl Pieces {
         self.bytes(&digest, folder, name)
     }
 
-    /// Appends the entries of a layer.
+    /// Appends a layer, and in version 2 its digest.
     pub fn layer<F: Folder>(
         &mut self,
+        format: Format,
         pairs: &[Pair],
         advice: &[u8],
         folder: &mut F,
@@ -78,8 +81,15 @@ impl Pieces {
         requires held { Given (F.holds folder.old) name.now (λ file. IsSome file) }
         requires long { length advice.now ≡ length pairs.now }
         requires bound { length pairs.now ≤ GREATEST_ENTRIES }
-        ensures { let text = layer_text (layer_of pairs.now advice.now) in
-            Appends F.Folder folder.old folder.new name.now text self.old self.new result }
+        ensures ok { (m : List ℕ) → Holds self.old m → OnOk result
+            (Grows (F.holds folder.old) (F.holds folder.new) name.now
+            (layer_bytes format m (layer_of pairs.now advice.now))) }
+        ensures err { (m : List ℕ) → Holds self.old m → OnErr result
+            (GrowsPart (F.holds folder.old) (F.holds folder.new) name.now
+            (layer_bytes format m (layer_of pairs.now advice.now))) }
+        ensures hashed { (m : List ℕ) → Holds self.old m →
+            OnOk result (Holds self.new (next_base format m (layer_of pairs.now advice.now))) }
+        ensures frame { OnlyWrites F.Folder folder.old folder.new (IsErr result) }
     {
         let mut at = 0;
         while at < pairs.len() {
@@ -88,7 +98,31 @@ impl Pieces {
             self.front(17 * count, folder, name)?;
             at += count;
         }
-        Ok(())
+        match format {
+            Format::Whole => Ok(()),
+            Format::Layered => self.digest(folder, name),
+        }
+    }
+
+    /// Appends what follows the layers: in version 1 the digest of all that was appended.
+    pub fn ending<F: Folder>(
+        &mut self,
+        format: Format,
+        folder: &mut F,
+        name: &str,
+    ) -> Result<(), Failed>
+        requires served { IsTrue (F.serves folder.old name.now) }
+        requires held { Given (F.holds folder.old) name.now (λ file. IsSome file) }
+        ensures ok { (m : List ℕ) → Holds self.old m →
+            OnOk result (Grows (F.holds folder.old) (F.holds folder.new) name.now (ending format m)) }
+        ensures err { (m : List ℕ) → Holds self.old m →
+            OnErr result (GrowsPart (F.holds folder.old) (F.holds folder.new) name.now (ending format m)) }
+        ensures frame { OnlyWrites F.Folder folder.old folder.new (IsErr result) }
+    {
+        match format {
+            Format::Whole => self.digest(folder, name),
+            Format::Layered => Ok(()),
+        }
     }
 
     // Puts the entries of so many states at the front of the buffer.

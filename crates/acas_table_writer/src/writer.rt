@@ -3,7 +3,6 @@ ghost use Rattle.std.specs.Prelude.{◌≤◌, ◌+◌};
 ghost use Rattle.acas_table_text.specs.Shape.{IsShape};
 
 use crate::encoding::header_bytes;
-use crate::parts::{append_ending, append_layer};
 use crate::pieces::Pieces;
 use acas_base::Model;
 use acas_outside::{Failed, Folder, store_file};
@@ -142,7 +141,7 @@ impl TableWriter {
             else record old { phase = Phase.Failed }) }
     {
         self.phase = Phase::Failed;
-        append_layer(&mut self.pieces, self.format, pairs, advice, folder, name)?;
+        self.pieces.layer(self.format, pairs, advice, folder, name)?;
         self.phase = Phase::Started;
         self.given += 1;
         Ok(())
@@ -167,7 +166,7 @@ impl TableWriter {
         ensures frame { OnlyWrites F.Folder folder.old folder.new (IsErr result) }
     {
         self.phase = Phase::Failed;
-        append_ending(&mut self.pieces, self.format, folder, name)?;
+        self.pieces.ending(self.format, folder, name)?;
         self.phase = Phase::Finished;
         Ok(self.format.length(&self.shape))
     }

@@ -1,14 +1,20 @@
-use Rattle.std.proofs.Common.{◌≡◌, ◌+◌, ◌-◌, ◌*◌, ◌≤◌, ◌++◌, List, ℕ, length, take, drop, arith, sym, ◌∙◌, ap, subst, append_assoc}
-use Rattle.std.proofs.lemmas.List.{append-nil, length-drop, length-take-le}
+use Rattle.std.proofs.Common.{◌≡◌, ◌+◌, ◌-◌, ◌*◌, ◌≤◌, [], ◌++◌, List, ℕ, length, take, drop, arith, refl, sym, ◌∙◌, ap, subst, append_assoc}
+use Rattle.std.proofs.lemmas.List.{append-nil, length-drop, length-take-le, take_all}
 use Rattle.std.proofs.lemmas.Grind.{common_steps}
+use Rattle.std.proofs.lemmas.Result.{on_ok_weaker, on_err_weaker}
+use Rattle.sha2.specs.Sha256.{sha256}
+use Rattle.acas_units.specs.declared.pair.Entry.{Entry}
 use Rattle.acas_units.specs.declared.pair.Pair.{Pair}
 use Rattle.acas_outside.specs.Files.{Grows, GrowsPart}
 use Rattle.acas_outside.proofs.Grown.{grows_none, held_grown}
 use Rattle.acas_outside.proofs.Appended.{on_err_always}
 use Rattle.acas_table_writer.specs.Pieces.{Holds}
+use Rattle.acas_table_text.specs.Growth.{layer_bytes}
 use Rattle.acas_table_text.specs.Text.{layer_text, layer_of}
+use Rattle.acas_table_text.specs.declared.format.Format.{Format}
+use Rattle.acas_table_text.specs.declared.format.Format.TheVariants.{Layered, Whole}
 use Rattle.acas_table_text.proofs.Layers.{text_piece, text_split}
-use Rattle.acas_table_writer.proofs.Growing.{grows_then, part_then}
+use Rattle.acas_table_writer.proofs.Growing.{grows_as, grows_then, part_then}
 use Rattle.acas_table_writer.proofs.pieces.Pieces.layer.Goals as goal
 
 pub loop-at-init : goal.loop-at-init
@@ -28,23 +34,36 @@ piece_text ps vs bytes at n within text =
     let long : length (take (at + n - at) (drop at ps)) ≡ n = length-take-le (at + n - at) (drop at ps) (omega (arith, length-drop at ps, within)) ∙ omega arith in
     ap (λ (k : ℕ). take (17 * k) bytes) (sym long) ∙ text
 
-pub returns-in_err-front : goal.returns-in_err-front
-returns-in_err-front g c =
+-- what is a part of a text is one of a longer text
+longer : (a b c rest text whole : List ℕ) → a ++ b ++ c ≡ text → text ++ rest ≡ whole → a ++ b ++ (c ++ rest) ≡ whole
+longer a b c rest text whole is begins = sym (append_assoc (a ++ b) c rest) ∙ ap (λ (l : List ℕ). l ++ rest) is ∙ begins
+
+-- the bytes of a layer begin with its entries
+abbrev layer_rest : Format → List ℕ → List Entry → List ℕ
+layer_rest Whole m layer = []
+layer_rest Layered m layer = sha256 (m ++ layer_text layer)
+
+begins_so : (f : Format) (m : List ℕ) (layer : List Entry) → layer_text layer ++ layer_rest f m layer ≡ layer_bytes f m layer
+begins_so Whole m layer = append-nil (layer_text layer)
+begins_so Layered m layer = refl
+
+pub returns-in_err-front-clause-err : goal.returns-in_err-front-clause-err
+returns-in_err-front-clause-err g c = λ m holds.
     let at = c.loop-at.at in
     let n = c.min-count.result in
     let ps = c.args.pairs.now in
     let vs = c.args.advice.now in
+    let layer = layer_of ps vs in
     let within : c.loop-at.at + c.min-count.result ≤ length c.args.pairs.now = grind (arith, common_steps) in
     let text = piece_text ps vs c.encode.new.self.buffer.items at n within c.encode.ensures.text in
-    record {
-      hashed = grind (arith, common_steps);
-      ok = grind (arith, common_steps);
-      err =
-          on_err_always _
-          (part_then _ _ _ c.args.name.now _ _ (layer_text (layer_of (drop (at + n) ps) (drop (at + n) vs))) _ (text_split ps vs at n c.requires.long within)
-          c.loop-at.invariant.grown (subst (λ (l : List ℕ). GrowsPart (g.F.Folder.holds c.loop-at.folder) (g.F.Folder.holds c.front.new.folder) c.args.name.now l) text c.in_err-front.ensures.err));
-      frame = grind (arith, common_steps);
-    }
+    let behind : List ℕ = layer_text (layer_of (drop (at + n) ps) (drop (at + n) vs)) in
+    let rest : List ℕ = layer_rest c.args.format m layer in
+    let so_far : List ℕ = layer_text (layer_of (take at ps) (take at vs)) in
+    let piece : List ℕ = layer_text (layer_of (take (at + n - at) (drop at ps)) (take (at + n - at) (drop at vs))) in
+    on_err_always _
+    (part_then _ _ _ c.args.name.now so_far piece (behind ++ rest) _
+    (longer so_far piece behind rest _ _ (text_split ps vs at n c.requires.long within) (begins_so c.args.format m layer))
+    c.loop-at.invariant.grown (subst (λ (l : List ℕ). GrowsPart (g.F.Folder.holds c.loop-at.folder) (g.F.Folder.holds c.front.new.folder) c.args.name.now l) text c.in_err-front.ensures.err))
 
 pub loop-at-preserved : goal.loop-at-preserved
 loop-at-preserved g c =
@@ -66,3 +85,35 @@ loop-at-preserved g c =
           (c.in_ok-front.ensures.hashed (m ++ so_far) (c.encode.ensures.hashed (m ++ so_far) (c.loop-at.invariant.hashed m holds)));
       frame = grind arith;
     }
+
+-- ---- behind the entries
+
+-- all of them
+text_taken : (ps : List Pair) (vs : List ℕ) (at : ℕ) → length ps ≤ at → length vs ≡ length ps → layer_text (layer_of (take at ps) (take at vs)) ≡ layer_text (layer_of ps vs)
+text_taken ps vs at past long =
+    ap (λ (qs : List Pair). layer_text (layer_of qs (take at vs))) (take_all at ps past) ∙ ap (λ (bs : List ℕ). layer_text (layer_of ps bs)) (take_all at vs (omega (arith, long, past)))
+
+pub digest-requires-clause-held : goal.digest-requires-clause-held
+digest-requires-clause-held g c = c.loop-at.invariant.held
+
+pub returns-in-Layered-clause-ok : goal.returns-in-Layered-clause-ok
+returns-in-Layered-clause-ok g c = λ m holds.
+    let layer = layer_of c.args.pairs.now c.args.advice.now in
+    let whole = ap (λ (f : Format). layer_bytes f m layer) c.in-Layered.is in
+    let past : length c.args.pairs.now ≤ c.loop-at.at = grind (arith, common_steps) in
+    let all = text_taken c.args.pairs.now c.args.advice.now c.loop-at.at past c.requires.long in
+    on_ok_weaker c.digest.result
+    (λ grown. grows_then _ _ _ c.args.name.now (layer_text layer) (sha256 (m ++ layer_text layer)) _ whole
+    (grows_as _ _ c.args.name.now _ _ (sym all) c.loop-at.invariant.grown) grown)
+    (c.digest.ensures.ok (m ++ layer_text layer) (subst (λ (l : List ℕ). Holds c.loop-at.self (m ++ l)) all (c.loop-at.invariant.hashed m holds)))
+
+pub returns-in-Layered-clause-err : goal.returns-in-Layered-clause-err
+returns-in-Layered-clause-err g c = λ m holds.
+    let layer = layer_of c.args.pairs.now c.args.advice.now in
+    let whole = ap (λ (f : Format). layer_bytes f m layer) c.in-Layered.is in
+    let past : length c.args.pairs.now ≤ c.loop-at.at = grind (arith, common_steps) in
+    let all = text_taken c.args.pairs.now c.args.advice.now c.loop-at.at past c.requires.long in
+    on_err_weaker c.digest.result
+    (λ part. part_then _ _ _ c.args.name.now (layer_text layer) (sha256 (m ++ layer_text layer)) [] _ (append-nil _ ∙ sym whole)
+    (grows_as _ _ c.args.name.now _ _ (sym all) c.loop-at.invariant.grown) part)
+    (c.digest.ensures.err (m ++ layer_text layer) (subst (λ (l : List ℕ). Holds c.loop-at.self (m ++ l)) all (c.loop-at.invariant.hashed m holds)))

@@ -4,8 +4,8 @@ use Rattle.acas_table_writer.proofs.writer.TableWriter.layer.Goals as goal
 
 pub returns-clause-appends : goal.returns-clause-appends
 returns-clause-appends g c = record {
-  ok = λ layers written. c.in_ok-append_layer.ensures.ok _ written.hashed;
+  ok = λ layers written. c.in_ok-layer.ensures.ok _ written.hashed;
   err = λ layers written. tt;
-  written = λ layers written. writes_layer c.args.self.now _ layers _ written refl refl refl (c.in_ok-append_layer.ensures.hashed _ written.hashed);
+  written = λ layers written. writes_layer c.args.self.now _ layers _ written refl refl refl (c.in_ok-layer.ensures.hashed _ written.hashed);
   frame = grind arith;
 }

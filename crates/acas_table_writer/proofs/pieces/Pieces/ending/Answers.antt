@@ -3,7 +3,7 @@ use Rattle.acas_outside.proofs.Grown.{grows_none}
 use Rattle.acas_table_text.specs.Growth.{ending}
 use Rattle.acas_table_text.specs.declared.format.Format.{Format}
 use Rattle.acas_table_writer.proofs.Growing.{grows_as}
-use Rattle.acas_table_writer.proofs.parts.append_ending.Goals as goal
+use Rattle.acas_table_writer.proofs.pieces.Pieces.ending.Goals as goal
 
 pub returns-in-Layered-clause-ok : goal.returns-in-Layered-clause-ok
 returns-in-Layered-clause-ok g c = λ m holds.
