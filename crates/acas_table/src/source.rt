@@ -90,6 +90,7 @@ impl Source {
     }
 
     // Reads more bytes behind those at hand.
+    #[inline(never)]
     fn more<F: Folder>(&mut self, folder: &mut F, name: &str) -> Result<(), TableFault>
         requires served { IsTrue (F.serves folder.old name.now) }
         requires room { self.old.to < length self.old.buffer.items }
@@ -121,7 +122,7 @@ impl Source {
         }
     }
 
-    // Sees that so many bytes are at hand.
+    // Sees that so many bytes are at hand. Where they are not, it reads on, by calls that are made once for many fields.
     #[inline(always)]
     fn fill<F: Folder>(
         &mut self,
@@ -138,23 +139,6 @@ impl Source {
         if self.to - self.from >= wanted {
             return Ok(());
         }
-        self.refill(folder, name, wanted)
-    }
-
-    // Reads on until so many bytes are at hand. It is called once for many fields.
-    #[inline(never)]
-    fn refill<F: Folder>(
-        &mut self,
-        folder: &mut F,
-        name: &str,
-        wanted: usize,
-    ) -> Result<(), TableFault>
-        requires served { IsTrue (F.serves folder.old name.now) }
-        requires short { self.old.to - self.old.from < wanted }
-        requires small { wanted ≤ 64 }
-        requires limit { self.old.place + wanted ≤ self.old.limit }
-        ensures { Fills F.Folder folder.old folder.new name.now self.old self.new wanted result }
-    {
         self.hash();
         self.shift();
         while self.to < wanted {
@@ -164,6 +148,7 @@ impl Source {
     }
 
     // Moves the bytes at hand to the front.
+    #[inline(never)]
     fn shift(&mut self)
         requires { self.old.hashed ≡ self.old.from }
         ensures at { (file : Option (List ℕ)) → IsAtFile self.old file → IsAtFile self.new file }
@@ -179,6 +164,7 @@ impl Source {
     }
 
     // Lets the digest take in all that was read.
+    #[inline(never)]
     fn hash(&mut self)
         ensures at { (file : Option (List ℕ)) → IsAtFile self.old file → IsAtFile self.new file }
         ensures hashed { self.new.hashed ≡ self.new.from }
