@@ -1,5 +1,5 @@
 -- A table that is accepted or refused, from its header to its end.
-use Rattle.std.proofs.Common.{◌≡◌, ◌∙◌, ℕ, ◌+◌, ◌≤◌, List, Option, None, Some, Result, Ok, Err, sym, subst, arith}
+use Rattle.std.proofs.Common.{◌≡◌, ◌∙◌, ℕ, ◌+◌, ◌≤◌, List, Option, None, Some, Result, Ok, Err, refl, sym, subst, arith}
 use Rattle.std.specs.Prelude.{IfOk, IfSome}
 use Rattle.std.specs.FinMap.{get}
 use Rattle.acas_spec.specs.Limits.{IsModel}
@@ -7,17 +7,22 @@ use Rattle.acas_spec.specs.Model.{ModelData, entries}
 use Rattle.acas_base.specs.Advices.{AdvicesData}
 use Rattle.acas_layers.specs.Layers.{LayersData}
 use Rattle.acas_outside.specs.Bytes.{IsBytes}
+use Rattle.acas_outside.specs.Counts.{raised}
 use Rattle.acas_outside.specs.Files.{Files, Given}
-use Rattle.acas_table.specs.Reader.{Told, reader_state}
+use Rattle.acas_outside.specs.declared.folder.Folder.{Ghosts as FolderMeanings}
+use Rattle.acas_table.specs.Reader.{Starts, TakesAtMost, Told, reader_state}
+use Rattle.acas_table.specs.declared.reader.TableReader.{TableReader}
 use Rattle.acas_table_text.specs.Shape.{shape_of}
 use Rattle.acas_table_text_laws.proofs.FieldFaults.{advice_small}
 use Rattle.acas_table_text.specs.Format.{expected_length, format_of, length_of}
 use Rattle.acas_table_text.specs.declared.format.Format.{Format}
+use Rattle.acas_table_text.specs.declared.format.Format.TheVariants.{Layered, Whole}
+use Rattle.acas_table_text.specs.declared.shape.TableShape.{TableShape}
 use Rattle.acas_table_text_laws.proofs.Twice.{each_entry_none}
 use Rattle.acas_table_text_laws.proofs.Texts.{text_given_small}
 use Rattle.acas_table.proofs.Told.{told_both, told_map}
 use Rattle.acas_accept.specs.Answers.{AreAllowed, AreWhole, Gives, HasAdvices, HasLayers}
-use Rattle.acas_accept.specs.Checking.{Begins, HasAccepted, HasNoRefusal, IsAnswer}
+use Rattle.acas_accept.specs.Checking.{HasAccepted, HasNoRefusal, IsAnswer}
 use Rattle.acas_accept.specs.Keeping.{AreAdvicesBelow, AreAllowedBelow, AreLayersBelow}
 use Rattle.acas_accept.specs.declared.check.TableCheck.{TableCheck}
 use Rattle.acas_accept.specs.declared.refusal.AcceptFault.{AcceptFault}
@@ -33,6 +38,11 @@ text_is_bytes m digest bytes v small whole =
 
 -- ---- what is answered of a file whose header was read
 
+-- the check begins with the reader that has read it
+pub begins_with : (m : ModelData) (digest : List ℕ) (holds : Option Files) (name : List ℕ) (r : TableReader) (t : TableCheck) → t.reader ≡ r
+    → Given holds name (λ file. Starts digest (shape_of m.grid) file (Ok r)) → Given holds name (λ file. Starts digest (shape_of m.grid) file (Ok t.reader))
+begins_with m digest holds name r t same starts = subst (λ (s : TableReader). Given holds name (λ file. Starts digest (shape_of m.grid) file (Ok s))) (sym same) starts
+
 module _ {X : Type 0} (IsOf : List ℕ → X → Type 0) (m : ModelData) (digest : List ℕ) where
   fault_given : (bytes : List ℕ) (fault : AcceptFault) → IsAnswer m digest bytes fault → Gives IsOf m digest (Some bytes) (Err fault)
   fault_given bytes (Refused refusal) answer = answer
@@ -40,25 +50,25 @@ module _ {X : Type 0} (IsOf : List ℕ → X → Type 0) (m : ModelData) (digest
   fault_given bytes Failed answer = tt
   fault_given bytes Memory answer = tt
 
-  reads_file : (file : Option (List ℕ)) (t : TableCheck) (result : Result X AcceptFault) → Begins m digest file (Ok t)
+  reads_file : (file : Option (List ℕ)) (t : TableCheck) (result : Result X AcceptFault) → Starts digest (shape_of m.grid) file (Ok t.reader)
       → IfSome file (λ bytes. HasAccepted m digest t 0 bytes → Gives IsOf m digest (Some bytes) result) → Gives IsOf m digest file result
   reads_file None t result begins reads = absurd begins
-  reads_file (Some bytes) t result begins reads = reads begins
+  reads_file (Some bytes) t result begins reads = reads (record { stands = begins; none = refl })
 
-  reads_given : (holds : Option Files) (name : List ℕ) (t : TableCheck) (result : Result X AcceptFault) → Given holds name (λ file. Begins m digest file (Ok t))
+  reads_given : (holds : Option Files) (name : List ℕ) (t : TableCheck) (result : Result X AcceptFault) → Given holds name (λ file. Starts digest (shape_of m.grid) file (Ok t.reader))
       → Told holds name (λ bytes. HasAccepted m digest t 0 bytes → Gives IsOf m digest (Some bytes) result) → Given holds name (λ file. Gives IsOf m digest file result)
   reads_given None name t result begins reads = tt
   reads_given (Some files) name t result begins reads = reads_file (get files name) t result begins reads
 
   -- a fault in the entries
-  pub fault_in_layers : (holds : Option Files) (name : List ℕ) (t : TableCheck) (fault : AcceptFault) → Given holds name (λ file. Begins m digest file (Ok t))
+  pub fault_in_layers : (holds : Option Files) (name : List ℕ) (t : TableCheck) (fault : AcceptFault) → Given holds name (λ file. Starts digest (shape_of m.grid) file (Ok t.reader))
       → Told holds name (λ bytes. HasAccepted m digest t 0 bytes → IsAnswer m digest bytes fault) → Given holds name (λ file. Gives IsOf m digest file (Err fault))
   fault_in_layers holds name t fault begins answers =
       reads_given holds name t (Err fault) begins
       (told_map holds name (λ bytes. HasAccepted m digest t 0 bytes → IsAnswer m digest bytes fault) _ (λ bytes answer accepted. fault_given bytes fault (answer accepted)) answers)
 
   -- a fault behind them
-  pub fault_at_end : (holds : Option Files) (name : List ℕ) (t all : TableCheck) (given : X) (fault : AcceptFault) → Given holds name (λ file. Begins m digest file (Ok t))
+  pub fault_at_end : (holds : Option Files) (name : List ℕ) (t all : TableCheck) (given : X) (fault : AcceptFault) → Given holds name (λ file. Starts digest (shape_of m.grid) file (Ok t.reader))
       → Told holds name (λ bytes. HasAccepted m digest t 0 bytes → HasAccepted m digest all (entries m.grid) bytes × IsOf bytes given)
       → Told holds name (λ bytes. HasAccepted m digest all (entries m.grid) bytes → IsAnswer m digest bytes fault) → Given holds name (λ file. Gives IsOf m digest file (Err fault))
   fault_at_end holds name t all given fault begins reads answers =
@@ -69,7 +79,7 @@ module _ {X : Type 0} (IsOf : List ℕ → X → Type 0) (m : ModelData) (digest
       (told_both holds name _ _ reads answers))
 
   -- no fault
-  pub whole_given : (holds : Option Files) (name : List ℕ) (t all : TableCheck) (given : X) → IsModel m → IsBytes digest → Given holds name (λ file. Begins m digest file (Ok t))
+  pub whole_given : (holds : Option Files) (name : List ℕ) (t all : TableCheck) (given : X) → IsModel m → IsBytes digest → Given holds name (λ file. Starts digest (shape_of m.grid) file (Ok t.reader))
       → Told holds name (λ bytes. HasAccepted m digest t 0 bytes → HasAccepted m digest all (entries m.grid) bytes × IsOf bytes given)
       → Told holds name (λ bytes. HasAccepted m digest all (entries m.grid) bytes → HasNoRefusal m digest bytes) → Given holds name (λ file. Gives IsOf m digest file (Ok given))
   whole_given holds name t all given v small begins reads ends =
@@ -85,13 +95,25 @@ module _ {X : Type 0} (IsOf : List ℕ → X → Type 0) (m : ModelData) (digest
 
 -- what holds of the length in the format that was read holds of the length that the bytes are to have
 pub file_expected : (P : ℕ → Type 0) (m : ModelData) (digest : List ℕ) (holds : Option Files) (name : List ℕ) (t : TableCheck) (format : Format) → format ≡ (reader_state t.reader).format
-    → Given holds name (λ file. Begins m digest file (Ok t)) → P (length_of format (shape_of m.grid)) → Told holds name (λ bytes. P (expected_length (shape_of m.grid) bytes))
+    → Given holds name (λ file. Starts digest (shape_of m.grid) file (Ok t.reader)) → P (length_of format (shape_of m.grid)) → Told holds name (λ bytes. P (expected_length (shape_of m.grid) bytes))
 file_expected P m digest None name t format same begins long = tt
 file_expected P m digest (Some files) name t format same begins long = of_file (get files name) begins
   where
-    of_file : (file : Option (List ℕ)) → Begins m digest file (Ok t) → IfSome file (λ bytes. P (expected_length (shape_of m.grid) bytes))
+    of_file : (file : Option (List ℕ)) → Starts digest (shape_of m.grid) file (Ok t.reader) → IfSome file (λ bytes. P (expected_length (shape_of m.grid) bytes))
     of_file None begins = tt
-    of_file (Some bytes) begins = subst (λ (f : Format). P (length_of f (shape_of m.grid))) (same ∙ sym begins.stands.format) long
+    of_file (Some bytes) begins = subst (λ (f : Format). P (length_of f (shape_of m.grid))) (same ∙ sym begins.format) long
+
+length_most : (f : Format) (s : TableShape) → length_of f s ≤ length_of Layered s
+length_most Whole s = omega arith
+length_most Layered s = omega arith
+
+-- what is at most read of a table in the format that was read
+pub at_most_read : {F : Type 0} (d : FolderMeanings F) (old new : F) (name : List ℕ) (m : ModelData) (digest : List ℕ) (t : TableCheck) (format : Format) → format ≡ (reader_state t.reader).format
+    → Given (d.holds old) name (λ file. Starts digest (shape_of m.grid) file (Ok t.reader)) → d.taken new ≤ raised (d.taken old) (length_of format (shape_of m.grid) + 1) → TakesAtMost d old new name (shape_of m.grid)
+at_most_read d old new name m digest t format same begins most = record {
+  most_taken = omega (arith, most, length_most format (shape_of m.grid));
+  most_of_file = file_expected (λ n. d.taken new ≤ raised (d.taken old) (n + 1)) m digest (d.holds old) name t format same begins most;
+}
 
 -- ---- what is given
 

@@ -10,7 +10,8 @@ use Rattle.acas_table_text.specs.declared.shape.TableShape.{TableShape}
 use Rattle.acas_table.specs.declared.reader.TableReader.{TableReader}
 use Rattle.acas_table_text.specs.declared.fault.TableFault.{TableFault}
 use Rattle.acas_table_text.specs.declared.fault.TableFault.TheVariants.{Magic, Version, OtherModel, Shape, Length, Advice, Digest, LayerDigest, Failed, Absent, Memory}
-use Rattle.acas_accept.specs.Checking.{Begins, IsAnswer}
+use Rattle.acas_accept.specs.Answers.{Gives}
+use Rattle.acas_accept.specs.Checking.{IsAnswer}
 use Rattle.acas_accept.specs.Faults.{answered}
 use Rattle.acas_accept.specs.Refusals.{entry_refusal, first_refusal}
 use Rattle.acas_accept.specs.declared.refusal.AcceptFault.{AcceptFault}
@@ -19,38 +20,38 @@ use Rattle.acas_accept.proofs.Firsts.{at_end, form_refusal, in_entry, in_header}
 
 -- ---- in the header
 
-start_file : (m : ModelData) (digest : List ℕ) (file : Option (List ℕ)) (fault : TableFault) → Starts digest (shape_of m.grid) file (Err fault) → Begins m digest file (Err (answered fault))
-start_file m digest None Magic starts = absurd starts
-start_file m digest None (Version a) starts = absurd starts
-start_file m digest None (OtherModel a b) starts = absurd starts
-start_file m digest None (Shape a b d) starts = absurd starts
-start_file m digest None (Length a b) starts = absurd starts
-start_file m digest None (Advice a b d) starts = absurd starts
-start_file m digest None (Digest a b) starts = absurd starts
-start_file m digest None (LayerDigest a b d) starts = absurd starts
-start_file m digest None Failed starts = tt
-start_file m digest None Absent starts = starts
-start_file m digest None Memory starts = tt
-start_file m digest (Some bytes) Magic starts = in_header m digest bytes _ starts.0
-start_file m digest (Some bytes) (Version a) starts = in_header m digest bytes _ starts.0
-start_file m digest (Some bytes) (OtherModel a b) starts = in_header m digest bytes _ starts.0
-start_file m digest (Some bytes) (Shape a b d) starts = in_header m digest bytes _ starts.0
-start_file m digest (Some bytes) (Length a b) starts = in_header m digest bytes _ starts.0
-start_file m digest (Some bytes) (Advice a b d) starts = in_header m digest bytes _ starts.0
-start_file m digest (Some bytes) (Digest a b) starts = in_header m digest bytes _ starts.0
-start_file m digest (Some bytes) (LayerDigest a b d) starts = in_header m digest bytes _ starts.0
-start_file m digest (Some bytes) Failed starts = tt
-start_file m digest (Some bytes) Absent starts = starts
-start_file m digest (Some bytes) Memory starts = tt
+module _ {X : Type 0} (IsOf : List ℕ → X → Type 0) (m : ModelData) (digest : List ℕ) where
+  start_file : (file : Option (List ℕ)) (fault : TableFault) → Starts digest (shape_of m.grid) file (Err fault) → Gives IsOf m digest file (Err (answered fault))
+  start_file None Magic starts = absurd starts
+  start_file None (Version a) starts = absurd starts
+  start_file None (OtherModel a b) starts = absurd starts
+  start_file None (Shape a b d) starts = absurd starts
+  start_file None (Length a b) starts = absurd starts
+  start_file None (Advice a b d) starts = absurd starts
+  start_file None (Digest a b) starts = absurd starts
+  start_file None (LayerDigest a b d) starts = absurd starts
+  start_file None Failed starts = tt
+  start_file None Absent starts = starts
+  start_file None Memory starts = tt
+  start_file (Some bytes) Magic starts = in_header m digest bytes _ starts.0
+  start_file (Some bytes) (Version a) starts = in_header m digest bytes _ starts.0
+  start_file (Some bytes) (OtherModel a b) starts = in_header m digest bytes _ starts.0
+  start_file (Some bytes) (Shape a b d) starts = in_header m digest bytes _ starts.0
+  start_file (Some bytes) (Length a b) starts = in_header m digest bytes _ starts.0
+  start_file (Some bytes) (Advice a b d) starts = in_header m digest bytes _ starts.0
+  start_file (Some bytes) (Digest a b) starts = in_header m digest bytes _ starts.0
+  start_file (Some bytes) (LayerDigest a b d) starts = in_header m digest bytes _ starts.0
+  start_file (Some bytes) Failed starts = tt
+  start_file (Some bytes) Absent starts = starts
+  start_file (Some bytes) Memory starts = tt
 
-start_given : (holds : Option Files) (name : List ℕ) (m : ModelData) (digest : List ℕ) (fault : TableFault) → Given holds name (λ file. Starts digest (shape_of m.grid) file (Err fault)) → Given holds name (λ file. Begins m digest file (Err (answered fault)))
-start_given None name m digest fault starts = tt
-start_given (Some files) name m digest fault starts = start_file m digest (get files name) fault starts
+  start_given : (holds : Option Files) (name : List ℕ) (fault : TableFault) → Given holds name (λ file. Starts digest (shape_of m.grid) file (Err fault)) → Given holds name (λ file. Gives IsOf m digest file (Err (answered fault)))
+  start_given None name fault starts = tt
+  start_given (Some files) name fault starts = start_file (get files name) fault starts
 
-pub start_answered : (holds : Option Files) (name : List ℕ) (m : ModelData) (digest : List ℕ) (fault : TableFault) (answer : AcceptFault) → answer ≡ answered fault
-    → Given holds name (λ file. Starts digest (shape_of m.grid) file (Err fault)) → Given holds name (λ file. Begins m digest file (Err answer))
-start_answered holds name m digest fault answer is starts =
-    subst (λ (a : AcceptFault). Given holds name (λ file. Begins m digest file (Err a))) (sym is) (start_given holds name m digest fault starts)
+  pub start_answered : (holds : Option Files) (name : List ℕ) (fault : TableFault) (answer : AcceptFault) → answer ≡ answered fault
+      → Given holds name (λ file. Starts digest (shape_of m.grid) file (Err fault)) → Given holds name (λ file. Gives IsOf m digest file (Err answer))
+  start_answered holds name fault answer is starts = subst (λ (a : AcceptFault). Given holds name (λ file. Gives IsOf m digest file (Err a))) (sym is) (start_given holds name fault starts)
 
 -- ---- in an entry
 

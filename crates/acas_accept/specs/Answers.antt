@@ -1,14 +1,20 @@
 -- What reading and checking a whole table answers.
-use Rattle.std.specs.Prelude.{◌≡◌, ℕ, ◌+◌, ◌<◌, ◌≤◌, List, Option, Some, None, Result, Ok, Err, ⊤}
+use Rattle.std.specs.Prelude.{◌≡◌, ℕ, ◌+◌, ◌<◌, ◌≤◌, List, Option, Some, None, Result, Ok, Err, OnOk, ⊤}
 use Rattle.acas_spec.specs.Model.{ModelData, states}
 use Rattle.acas_base.specs.Advices.{AdvicesData, advice_at}
 use Rattle.acas_layers.specs.Layers.{LayersData, advice_of, pairs_of}
 use Rattle.acas_outside.specs.Bytes.{IsBytes}
+use Rattle.acas_outside.specs.Counts.{raised}
+use Rattle.acas_outside.specs.declared.folder.Folder.{Ghosts as FolderMeanings}
 use Rattle.acas_process.specs.Cost.{MayChoose}
 use Rattle.acas_grid.specs.States.{state_present}
+use Rattle.acas_table.specs.Reader.{TakesAtMost, Told}
+use Rattle.acas_table_text.specs.Format.{expected_length, length_of}
 use Rattle.acas_table_text.specs.Shape.{shape_of}
 use Rattle.acas_table_text.specs.Tables.{layer_at}
 use Rattle.acas_table_text.specs.Text.{entry_at, layer_of}
+use Rattle.acas_table_text.specs.declared.format.Format.{Format}
+use Rattle.acas_table_text.specs.declared.shape.TableShape.{TableShape}
 use Rattle.acas_accept.specs.GivenTable.{entry_place}
 use Rattle.acas_accept.specs.Keeping.{StandFor}
 use Rattle.acas_accept.specs.Refusals.{first_refusal}
@@ -46,6 +52,15 @@ Gives IsOf m digest (Some bytes) (Err (Refused refusal)) = first_refusal m diges
 Gives IsOf m digest file (Err Absent) = file ≡ None
 Gives IsOf m digest file (Err Failed) = ⊤
 Gives IsOf m digest file (Err Memory) = ⊤
+
+-- an accepted table is read once: just as many bytes as it has in one of the versions, and where the file is told, in that
+-- which it names; of no file is more read than one byte more than a table has
+pub record ReadsOnce {F X : Type 0} (d : FolderMeanings F) (old new : F) (name : List ℕ) (s : TableShape)
+    (result : Result X AcceptFault) : Type 0 where
+  pub all_taken : OnOk result ((f : Format) × (d.taken new ≡ raised (d.taken old) (length_of f s)))
+  pub all_of_file : OnOk result (Told (d.holds old) name (λ bytes.
+      d.taken new ≡ raised (d.taken old) (expected_length s bytes)))
+  pub at_most : TakesAtMost d old new name s
 
 -- given are the advices
 abbrev pub Accepts : ModelData → List ℕ → Option (List ℕ) → Result AdvicesData AcceptFault → Type 0

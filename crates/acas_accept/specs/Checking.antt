@@ -1,5 +1,5 @@
 -- A table in check, of which some entries were read and accepted.
-use Rattle.std.specs.Prelude.{◌≡◌, ℕ, ◌*◌, ◌<◌, ◌≤◌, List, length, false, Option, Some, None, Result, Ok, Err, ⊤}
+use Rattle.std.specs.Prelude.{◌≡◌, ℕ, ◌*◌, ◌<◌, ◌≤◌, List, length, false, Some, None, ⊤}
 use Rattle.acas_spec.specs.Limits.{IsModel}
 use Rattle.acas_spec.specs.Model.{GridData, ModelData, states, vertices}
 use Rattle.acas_grid.specs.Grid.{state_number}
@@ -72,13 +72,3 @@ IsAnswer m digest bytes (Refused refusal) = first_refusal m digest bytes ≡ Som
 IsAnswer m digest bytes Absent = ⊥
 IsAnswer m digest bytes Failed = ⊤
 IsAnswer m digest bytes Memory = ⊤
-
--- what is answered at a file whose header was read
-abbrev pub Begins : ModelData → List ℕ → Option (List ℕ) → Result TableCheck AcceptFault → Type 0
-Begins m digest None (Ok t) = ⊥
-Begins m digest (Some bytes) (Ok t) = HasAccepted m digest t 0 bytes
-Begins m digest None (Err (Refused refusal)) = ⊥
-Begins m digest (Some bytes) (Err (Refused refusal)) = first_refusal m digest bytes ≡ Some refusal
-Begins m digest file (Err Absent) = file ≡ None
-Begins m digest file (Err Failed) = ⊤
-Begins m digest file (Err Memory) = ⊤

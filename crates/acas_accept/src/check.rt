@@ -3,27 +3,25 @@ ghost use Rattle.std.specs.Prelude.{◌≡◌, ◌≤◌, ◌<◌, ◌+◌, ◌-
 ghost use Rattle.acas_spec.specs.Model.{ModelData, entries, states, vertices};
 ghost use Rattle.acas_grid.specs.Grid.{state_number};
 ghost use Rattle.acas_outside.specs.Counts.{raised};
-ghost use Rattle.acas_outside.specs.Files.{Given};
 ghost use Rattle.acas_outside.specs.Frame.{OnlyReads};
 ghost use Rattle.acas_table.specs.Reader.{Told, reader_state};
 ghost use Rattle.acas_table_text.specs.Shape.{entry_count, shape_of};
 ghost use Rattle.acas_table.specs.Source.{Takes};
-ghost use Rattle.acas_table_text.specs.Format.{expected_length, length_of};
-ghost use Rattle.acas_table_text.specs.declared.format.Format.TheVariants.{Layered};
+ghost use Rattle.acas_table_text.specs.Format.{length_of};
 ghost use Rattle.acas_bounds.specs.Planes.{IsPlane};
-ghost use Rattle.acas_accept.specs.Checking.{Begins, HasAccepted, HasNoRefusal, IsAnswer, IsAt, IsBeforeLayer, IsCheckOf, IsInLayer};
-ghost use Rattle.acas_accept.specs.Faults.{IsAnswerable, answered};
+ghost use Rattle.acas_accept.specs.Checking.{HasAccepted, HasNoRefusal, IsAnswer, IsAt, IsBeforeLayer, IsCheckOf, IsInLayer};
+ghost use Rattle.acas_accept.specs.Faults.{IsAnswerable};
 ghost use Rattle.acas_accept.specs.Leasts.{AreFound, HaveLeasts};
 ghost use Rattle.acas_accept.specs.Reading.{ReadsOn};
 
 use crate::keeping::KeepsLayers;
 use crate::leasts::Leasts;
-use crate::refusal::AcceptFault;
+use crate::refusal::{AcceptFault, refused};
 use acas_base::Model;
 use acas_bounds::{Plane, check_at, is_sound_at};
 use acas_means::{LayerMeans, fill_means_with};
 use acas_outside::Folder;
-use acas_table::{TableFault, TableReader, TableRefusal};
+use acas_table::{TableReader, TableRefusal};
 use acas_units::{Entry, Pair};
 use std::alloc::{AllocError, Global};
 
@@ -38,54 +36,10 @@ pub struct TableCheck {
     leasts: Leasts,
 }
 
-fn refused(fault: TableFault) -> AcceptFault
-    ensures answered { result ≡ answered fault }
-    ensures kind { IsAnswerable result }
-{
-    match fault {
-        TableFault::Failed => AcceptFault::Failed,
-        TableFault::Absent => AcceptFault::Absent,
-        TableFault::Memory => AcceptFault::Memory,
-        fault => AcceptFault::Refused(TableRefusal::Form(fault)),
-    }
-}
-
 impl TableCheck {
-    /// Reads the header of a table of a model, whose text has this digest.
-    pub fn start<F: Folder>(
-        alloc: Global,
-        model: &Model,
-        digest: &[u8; 32],
-        folder: &mut F,
-        name: &str,
-    ) -> Result<TableCheck, AcceptFault>
-        requires served { IsTrue (F.serves folder.old name.now) }
-        ensures given { Given (F.holds folder.old) name.now (λ file.
-            Begins model.now digest.now file result) }
-        ensures check { IfOk result (λ t. IsCheckOf model.now t 0 0) }
-        ensures taken { IfOk result (λ t.
-            Takes F.Folder folder.old folder.new 0 (reader_state t.reader).taken) }
-        ensures most_taken { let most = length_of Layered (shape_of model.now.grid) + 1 in
-            F.taken folder.new ≤ raised (F.taken folder.old) most }
-        ensures most_of_file { Told (F.holds folder.old) name.now (λ bytes.
-            let most = expected_length (shape_of model.now.grid) bytes + 1 in
-            F.taken folder.new ≤ raised (F.taken folder.old) most) }
-        ensures kind { IfErr result IsAnswerable }
-        ensures frame { OnlyReads F.Folder folder.old folder.new
-            (IsErrOf result AcceptFault.Failed) (IsErrOf result AcceptFault.Absent) }
-    {
-        match TableReader::start(alloc, model, digest, folder, name) {
-            Ok(reader) => match TableCheck::new(alloc, model, reader) {
-                Ok(check) => Ok(check),
-                Err(_) => Err(AcceptFault::Memory),
-            },
-            Err(fault) => Err(refused(fault)),
-        }
-    }
-
-    // The check of a table whose header this reader has read. Besides two layers it takes a byte for each state, and 8 bytes for each
-    // vertex.
-    fn new(alloc: Global, model: &Model, reader: TableReader) -> Result<TableCheck, AllocError>
+    /// The check of a table whose header this reader has read. Besides two layers it takes a byte for each state, and 8 bytes for each
+    /// vertex.
+    pub fn new(alloc: Global, model: &Model, reader: TableReader) -> Result<TableCheck, AllocError>
         requires shape { (reader_state reader).shape ≡ shape_of model.now.grid }
         requires given { (reader_state reader).given ≡ 0 }
         requires no_fault { (reader_state reader).fault ≡ None }

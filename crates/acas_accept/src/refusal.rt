@@ -1,6 +1,8 @@
 //! Why there is no accepted table.
+ghost use Rattle.std.specs.Prelude.{◌≡◌};
+ghost use Rattle.acas_accept.specs.Faults.{IsAnswerable, answered};
 
-use acas_table::TableRefusal;
+use acas_table::{TableFault, TableRefusal};
 use std::alloc::AllocError;
 
 /// Why there is no accepted table.
@@ -24,5 +26,18 @@ impl From<AllocError> for AcceptFault {
 
     fn from(_: AllocError) -> AcceptFault {
         AcceptFault::Memory
+    }
+}
+
+/// What a fault of the reader is answered as: one of the bytes is a refusal.
+pub(crate) fn refused(fault: TableFault) -> AcceptFault
+    ensures answered { result ≡ answered fault }
+    ensures kind { IsAnswerable result }
+{
+    match fault {
+        TableFault::Failed => AcceptFault::Failed,
+        TableFault::Absent => AcceptFault::Absent,
+        TableFault::Memory => AcceptFault::Memory,
+        fault => AcceptFault::Refused(TableRefusal::Form(fault)),
     }
 }

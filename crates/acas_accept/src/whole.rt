@@ -1,24 +1,20 @@
 //! A whole table, read and checked entry by entry.
-ghost use Rattle.std.specs.Prelude.{◌≡◌, ◌≤◌, ◌+◌, IsTrue, IsErrOf, IfErr, IfOk, OnOk};
+ghost use Rattle.std.specs.Prelude.{◌+◌, IsTrue, IsErrOf, IfErr, IfOk};
 ghost use Rattle.acas_base.specs.Advices.{AreAdvicesOf};
-ghost use Rattle.acas_outside.specs.Counts.{raised};
 ghost use Rattle.acas_outside.specs.Files.{Given};
 ghost use Rattle.acas_outside.specs.Frame.{OnlyReads};
 ghost use Rattle.acas_table_text.specs.Shape.{shape_of};
-ghost use Rattle.acas_table_text.specs.Format.{expected_length, length_of};
-ghost use Rattle.acas_table_text.specs.declared.format.Format.{Format as FileFormat};
-ghost use Rattle.acas_table_text.specs.declared.format.Format.TheVariants.{Layered};
-ghost use Rattle.acas_table.specs.Reader.{Told};
-ghost use Rattle.acas_accept.specs.Answers.{Accepts, AcceptsLayers, AreAllowed, AreWhole, Gives};
+ghost use Rattle.acas_accept.specs.Answers.{Accepts, AcceptsLayers, AreAllowed, AreWhole, Gives, ReadsOnce};
 ghost use Rattle.acas_accept.specs.Faults.{IsAnswerable};
 
 use crate::check::TableCheck;
 use crate::keeping::KeepsLayers;
-use crate::refusal::AcceptFault;
+use crate::refusal::{AcceptFault, refused};
 use acas_base::{Advices, Model};
 use acas_layers::Layers;
 use acas_means::LayerMeans;
 use acas_outside::Folder;
+use acas_table::TableReader;
 use std::alloc::Global;
 
 // Reads and checks a whole table, and gives what is kept of its layers.
@@ -33,20 +29,16 @@ fn accept_keeping<M: LayerMeans, K: KeepsLayers, F: Folder>(
     ensures given { let all = model.now.grid.horizon + 1 in Given (F.holds folder.old) name.now (λ file.
         Gives (λ bytes kept. K.is_of kept model.now bytes all) model.now digest.now file result) }
     ensures kept { IfOk result (λ kept. K.was_given kept model.now (model.now.grid.horizon + 1)) }
-    ensures all_taken { let shape = shape_of model.now.grid in OnOk result
-        ((f : FileFormat) × (F.taken folder.new ≡ raised (F.taken folder.old) (length_of f shape))) }
-    ensures all_of_file { let shape = shape_of model.now.grid in
-        OnOk result (Told (F.holds folder.old) name.now (λ bytes.
-        F.taken folder.new ≡ raised (F.taken folder.old) (expected_length shape bytes))) }
-    ensures most_taken { let most = length_of Layered (shape_of model.now.grid) + 1 in
-        F.taken folder.new ≤ raised (F.taken folder.old) most }
-    ensures most_of_file { let shape = shape_of model.now.grid in Told (F.holds folder.old) name.now (λ bytes.
-        F.taken folder.new ≤ raised (F.taken folder.old) (expected_length shape bytes + 1)) }
+    ensures once { ReadsOnce F.Folder folder.old folder.new name.now (shape_of model.now.grid) result }
     ensures kind { IfErr result IsAnswerable }
     ensures frame { OnlyReads F.Folder folder.old folder.new
         (IsErrOf result AcceptFault.Failed) (IsErrOf result AcceptFault.Absent) }
 {
-    let mut check = TableCheck::start(alloc, model, digest, folder, name)?;
+    let reader = match TableReader::start(alloc, model, digest, folder, name) {
+        Ok(reader) => reader,
+        Err(fault) => return Err(refused(fault)),
+    };
+    let mut check = TableCheck::new(alloc, model, reader)?;
     let mut kept = K::make(alloc, model)?;
     let layer_means = M::make(alloc, model)?;
     check.layers(model, &layer_means, &mut kept, folder, name)?;
@@ -72,15 +64,7 @@ pub fn accept<M: LayerMeans, F: Folder>(
     ensures given { Given (F.holds folder.old) name.now (λ file. Accepts model.now digest.now file result) }
     ensures advices { IfOk result (λ advices. AreAdvicesOf model.now advices) }
     ensures allowed { IfOk result (λ advices. AreAllowed model.now advices) }
-    ensures all_taken { let shape = shape_of model.now.grid in OnOk result
-        ((f : FileFormat) × (F.taken folder.new ≡ raised (F.taken folder.old) (length_of f shape))) }
-    ensures all_of_file { let shape = shape_of model.now.grid in
-        OnOk result (Told (F.holds folder.old) name.now (λ bytes.
-        F.taken folder.new ≡ raised (F.taken folder.old) (expected_length shape bytes))) }
-    ensures most_taken { let most = length_of Layered (shape_of model.now.grid) + 1 in
-        F.taken folder.new ≤ raised (F.taken folder.old) most }
-    ensures most_of_file { let shape = shape_of model.now.grid in Told (F.holds folder.old) name.now (λ bytes.
-        F.taken folder.new ≤ raised (F.taken folder.old) (expected_length shape bytes + 1)) }
+    ensures once { ReadsOnce F.Folder folder.old folder.new name.now (shape_of model.now.grid) result }
     // A refusal is one of the bytes, over every folder.
     ensures kind { IfErr result IsAnswerable }
     ensures frame { OnlyReads F.Folder folder.old folder.new
@@ -102,15 +86,7 @@ pub fn accept_layers<M: LayerMeans, F: Folder>(
     ensures given { Given (F.holds folder.old) name.now (λ file.
         AcceptsLayers model.now digest.now file result) }
     ensures whole { IfOk result (λ layers. AreWhole model.now layers) }
-    ensures all_taken { let shape = shape_of model.now.grid in OnOk result
-        ((f : FileFormat) × (F.taken folder.new ≡ raised (F.taken folder.old) (length_of f shape))) }
-    ensures all_of_file { let shape = shape_of model.now.grid in
-        OnOk result (Told (F.holds folder.old) name.now (λ bytes.
-        F.taken folder.new ≡ raised (F.taken folder.old) (expected_length shape bytes))) }
-    ensures most_taken { let most = length_of Layered (shape_of model.now.grid) + 1 in
-        F.taken folder.new ≤ raised (F.taken folder.old) most }
-    ensures most_of_file { let shape = shape_of model.now.grid in Told (F.holds folder.old) name.now (λ bytes.
-        F.taken folder.new ≤ raised (F.taken folder.old) (expected_length shape bytes + 1)) }
+    ensures once { ReadsOnce F.Folder folder.old folder.new name.now (shape_of model.now.grid) result }
     ensures kind { IfErr result IsAnswerable }
     ensures frame { OnlyReads F.Folder folder.old folder.new
         (IsErrOf result AcceptFault.Failed) (IsErrOf result AcceptFault.Absent) }

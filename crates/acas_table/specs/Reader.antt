@@ -1,15 +1,17 @@
 -- A reader that has read the front of a file.
 use Rattle.std.specs.Prelude.{◌≡◌, ℕ, ◌+◌, ◌≤◌, List, Bool, false, Option, Some, None, IfSome, Result, Ok, Err, IsErrOf, ⊤}
+use Rattle.acas_outside.specs.Counts.{raised}
 use Rattle.acas_outside.specs.Files.{Files, Given}
 use Rattle.acas_outside.specs.Frame.{OnlyReads}
 use Rattle.acas_outside.specs.declared.folder.Folder.{Ghosts as FolderMeanings}
 use Rattle.acas_units.specs.declared.pair.Entry.{Entry}
-use Rattle.acas_table_text.specs.Format.{format_of, length_of}
+use Rattle.acas_table_text.specs.Format.{expected_length, format_of, length_of}
 use Rattle.acas_table_text.specs.Text.{entry_at, text_of_layers}
 use Rattle.acas_table_text.specs.Faults.{header_fault, entry_fault, first_below, tail_fault, first_fault}
 use Rattle.acas_table.specs.Source.{IsAt, Takes, bytes_taken}
 use Rattle.acas_table_text.specs.Tables.{layers_at}
 use Rattle.acas_table_text.specs.declared.format.Format.{Format}
+use Rattle.acas_table_text.specs.declared.format.Format.TheVariants.{Layered}
 use Rattle.acas_table_text.specs.declared.shape.TableShape.{TableShape}
 use Rattle.acas_table.specs.declared.reader.TableReader.{TableReader}
 use Rattle.acas_table_text.specs.declared.fault.TableFault.{TableFault}
@@ -57,6 +59,13 @@ pub record HasRead (digest : List ℕ) (r : TableReader) (bytes : List ℕ) : Ty
 -- of the bytes under a name, where they are told and there are some
 abbrev pub Told : Option Files → List ℕ → (List ℕ → Type 0) → Type 0
 Told holds name P = Given holds name (λ file. IfSome file P)
+
+-- of the file under a name is at most one byte more read than a table of a shape has in version 2, and where the file is
+-- told, in the version that it names
+pub record TakesAtMost {F : Type 0} (d : FolderMeanings F) (old new : F) (name : List ℕ) (s : TableShape) : Type 0 where
+  pub most_taken : d.taken new ≤ raised (d.taken old) (length_of Layered s + 1)
+  pub most_of_file : Told (d.holds old) name (λ bytes.
+      d.taken new ≤ raised (d.taken old) (expected_length s bytes + 1))
 
 -- `start`, at the file under the name
 abbrev pub Starts : List ℕ → TableShape → Option (List ℕ) → Result TableReader TableFault → Type 0

@@ -42,15 +42,14 @@ pub struct TableReader {
 
 impl TableReader {
     ghost use Rattle.std.specs.Prelude.{◌≡◌, ◌≤◌, ◌<◌, ◌+◌, List, ℕ, false, is_ok, IsTrue, IsErrOf, Ok, Some, IfOk, IfSome, OnOk, OnErr};
-    ghost use Rattle.acas_outside.specs.Counts.{raised};
     ghost use Rattle.acas_outside.specs.Files.{Given};
     ghost use Rattle.acas_outside.specs.Frame.{OnlyReads};
     ghost use Rattle.acas_table_text.specs.Shape.{entry_count, shape_of};
-    ghost use Rattle.acas_table_text.specs.Format.{expected_length, length_of};
+    ghost use Rattle.acas_table_text.specs.Format.{length_of};
     ghost use Rattle.acas_units.specs.declared.pair.Entry.{Entry as EntryData};
     ghost use Rattle.acas_table.specs.AtHand.{IsNext};
     ghost use Rattle.acas_table.specs.Source.{Takes};
-    ghost use Rattle.acas_table.specs.Reader.{reader_state, IsNew, HasRead, Leaves, Told, Starts, GivesEntry, Finishes};
+    ghost use Rattle.acas_table.specs.Reader.{reader_state, IsNew, HasRead, Leaves, TakesAtMost, Told, Starts, GivesEntry, Finishes};
 
     /// Reads the header of a table for a model, whose text has this digest.
     pub fn start<F: Folder>(
@@ -67,11 +66,7 @@ impl TableReader {
         ensures taken { IfOk result (λ r. Takes F.Folder folder.old folder.new 0 (reader_state r).taken) }
         ensures most { IfOk result (λ r.
             (reader_state r).taken ≤ length_of (reader_state r).format (shape_of model.now.grid) + 1) }
-        ensures most_taken { let most = length_of Format.Layered (shape_of model.now.grid) + 1 in
-            F.taken folder.new ≤ raised (F.taken folder.old) most }
-        ensures most_of_file { Told (F.holds folder.old) name.now (λ bytes.
-            let most = expected_length (shape_of model.now.grid) bytes + 1 in
-            F.taken folder.new ≤ raised (F.taken folder.old) most) }
+        ensures at_most { TakesAtMost F.Folder folder.old folder.new name.now (shape_of model.now.grid) }
         ensures frame { OnlyReads F.Folder folder.old folder.new
             (IsErrOf result TableFault.Failed) (IsErrOf result TableFault.Absent) }
     {
@@ -93,10 +88,7 @@ impl TableReader {
         ensures taken { IfOk result (λ r. Takes F.Folder folder.old folder.new 0 (reader_state r).taken) }
         ensures most { IfOk result (λ r.
             (reader_state r).taken ≤ length_of (reader_state r).format shape + 1) }
-        ensures most_taken { let most = length_of Format.Layered shape + 1 in
-            F.taken folder.new ≤ raised (F.taken folder.old) most }
-        ensures most_of_file { Told (F.holds folder.old) name.now (λ bytes.
-            F.taken folder.new ≤ raised (F.taken folder.old) (expected_length shape bytes + 1)) }
+        ensures at_most { TakesAtMost F.Folder folder.old folder.new name.now shape }
         ensures frame { OnlyReads F.Folder folder.old folder.new
             (IsErrOf result TableFault.Failed) (IsErrOf result TableFault.Absent) }
     {
