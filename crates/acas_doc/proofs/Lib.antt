@@ -3,3 +3,4 @@ pub mod KeyLoop
 pub mod LeastUnknown
 pub mod Holds
 pub mod Documents
+mod WholeItems

@@ -1,7 +1,7 @@
 -- The value at a key of a table, or at a place of a list, or what is wrong with it and where.
-use Rattle.std.specs.Prelude.{ℕ, List, ℤ, Result}
+use Rattle.std.specs.Prelude.{ℕ, List, [], length, ℤ, Result}
 use Rattle.toml.specs.Data.{Data, Members, get_member}
-use Rattle.acas_spec.specs.Steps.{◌>>=◌}
+use Rattle.acas_spec.specs.Steps.{◌>>=◌, each}
 use Rattle.acas_doc.specs.declared.fault.DocKind.{DocKind}
 use Rattle.acas_doc.specs.declared.fault.DocKind.TheVariants.{Missing}
 use Rattle.acas_doc.specs.declared.fault.DocFault.{DocFault}
@@ -41,6 +41,10 @@ table_at ms path key = at_path (key_path path key) (found_table ms key)
 -- an item of the list at a path, with the path of the item at a fault
 unfoldable pub whole_item : List ℕ → ℕ → ℤ → ℤ → Data → Result ℤ DocFault
 whole_item path place least greatest d = at_path (item_path path place) (whole_of least greatest d)
+
+-- each item of the list is a whole number from least to greatest
+unfoldable pub whole_items : List ℕ → ℤ → ℤ → List Data → Result (List ℤ) DocFault
+whole_items path least greatest ds = each (λ before d. whole_item path (length before) least greatest d) [] ds
 
 unfoldable pub text_item : List ℕ → ℕ → Data → Result (List ℕ) DocFault
 text_item path place d = at_path (item_path path place) (text_of d)

@@ -1,9 +1,9 @@
 //! What is wrong with a key.
 ghost use Rattle.std.specs.Prelude.{◌≡◌};
-ghost use Rattle.acas_doc.specs.declared.fault.DocError.TheVariants.{Fault, Memory};
+ghost use Rattle.acas_doc.specs.declared.fault.DocError.TheVariants.{Memory};
 
 use crate::key_text::KeyText;
-use std::alloc::{AllocError, AllocFailed};
+use std::alloc::AllocFailed;
 
 /// What is wrong with a key.
 #[derive(Clone, Copy, Debug, PartialEq, Eq)]
@@ -29,19 +29,11 @@ pub struct DocFault {
     pub kind: DocKind,
 }
 
-/// Why a getter has no value: something is wrong, or there was no memory to say what.
+/// Why a getter has no value: something is wrong, or there was no memory to say what, or to hold the numbers of a list.
 #[derive(Debug, Drop)]
 pub enum DocError {
     Fault(DocFault),
     Memory,
-}
-
-impl From<AllocError> for DocError {
-    ghost from_gives = { λ _ e. e ≡ Memory };
-
-    fn from(_e: AllocError) -> DocError {
-        DocError::Memory
-    }
 }
 
 impl<T: Drop> From<AllocFailed<T>> for DocError {

@@ -25,10 +25,7 @@ fn find_whole(table: &Table, key: &str, least: i64, greatest: i64) -> Result<i64
     ensures value { result ≡ found_whole (table_view table.now) key.now least greatest }
     ensures range { IfOk result (λ z. (least ≤ℤ z) × (z ≤ℤ greatest)) }
 {
-    match find(table, key) {
-        Ok(value) => as_whole(value, least, greatest),
-        Err(kind) => Err(kind),
-    }
+    as_whole(find(table, key)?, least, greatest)
 }
 
 /// The text at a key.
@@ -74,10 +71,7 @@ pub fn whole(
         (whole_at (table_view table.now) path.now key.now least greatest) }
     ensures range { IfOk result (λ z. (least ≤ℤ z) × (z ≤ℤ greatest)) }
 {
-    match find_whole(table, key, least, greatest) {
-        Ok(whole) => Ok(whole),
-        Err(kind) => Err(fault_at(alloc, path, key, kind)),
-    }
+    find_whole(table, key, least, greatest).map_err(|kind| fault_at(alloc, path, key, kind))
 }
 
 /// The text at a key of the table at a path. It refuses a key that is not there and a value of another kind.
@@ -90,10 +84,7 @@ pub fn text<'t>(
 ) -> Result<&'t str, DocError>
     ensures { Answers (λ s. s.now) result (text_at (table_view table.now) path.now key.now) }
 {
-    match find_text(table, key) {
-        Ok(text) => Ok(text),
-        Err(kind) => Err(fault_at(alloc, path, key, kind)),
-    }
+    find_text(table, key).map_err(|kind| fault_at(alloc, path, key, kind))
 }
 
 /// The list at a key of the table at a path, with a length from least to greatest. It refuses a key that is not there, a
@@ -111,10 +102,7 @@ pub fn list<'t>(
         (list_at (table_view table.now) path.now key.now least greatest) }
     ensures range { IfOk result (λ vs. (least ≤ length vs.now) × (length vs.now ≤ greatest)) }
 {
-    match find_list(table, key, least, greatest) {
-        Ok(items) => Ok(items),
-        Err(kind) => Err(fault_at(alloc, path, key, kind)),
-    }
+    find_list(table, key, least, greatest).map_err(|kind| fault_at(alloc, path, key, kind))
 }
 
 /// The table at a key of the table at a path. It refuses a key that is not there and a value of another kind.
@@ -127,8 +115,5 @@ pub fn table<'t>(
 ) -> Result<&'t Table, DocError>
     ensures { Answers (λ t. table_view t.now) result (table_at (table_view table.now) path.now key.now) }
 {
-    match find_table(table, key) {
-        Ok(inner) => Ok(inner),
-        Err(kind) => Err(fault_at(alloc, path, key, kind)),
-    }
+    find_table(table, key).map_err(|kind| fault_at(alloc, path, key, kind))
 }

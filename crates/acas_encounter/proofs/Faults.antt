@@ -12,11 +12,11 @@ use Rattle.acas_input.specs.declared.fault.InputFault.TheVariants.{NotToml, Doc,
 use Rattle.acas_input.specs.Answers.{Gives}
 use Rattle.acas_input.specs.Document.{in_doc, version_of}
 use Rattle.acas_input.specs.Named.{advisory_at}
-use Rattle.acas_input.proofs.Faults.{AnyFaultIs, advisory_faults, after_faults, all_faults, document_faults, in_doc_faults, next_faults, version_faults}
+use Rattle.acas_input.proofs.Faults.{AnyFaultIs, advisory_faults, after_faults, document_faults, in_doc_faults, next_faults, version_faults}
 use Rattle.acas_encounter.specs.declared.limits.TheConstants.{LEAST_START_RANGE, GREATEST_START_RANGE}
 use Rattle.acas_encounter.specs.Encounter.{EncounterData}
 use Rattle.acas_encounter.specs.Start.{number_at, start_of}
-use Rattle.acas_encounter.specs.Accelerations.{acceleration_item, acceleration_items, accelerations_at}
+use Rattle.acas_encounter.specs.Accelerations.{accelerations_at}
 use Rattle.acas_encounter.specs.Whole.{IsOfEncounter, encounter_in, encounter_of}
 
 -- the fault, if there is one, is one that an encounter can have
@@ -41,9 +41,9 @@ start_faults m doc =
     next_faults IsOfEncounter (number_at doc (codes "intruder") LEAST_RATE GREATEST_RATE) _ (number_faults doc _ _ _) (λ intruder. tt))))))
 
 accelerations_faults : (doc : Members) (key : List ℕ) (least greatest : ℕ) → AnyFaultIsOfEncounter (accelerations_at doc key least greatest)
-unfolding accelerations_at acceleration_items acceleration_item
+unfolding accelerations_at
 accelerations_faults doc key least greatest =
-    next_faults IsOfEncounter (in_doc (list_at doc [] key least greatest)) _ (key_faults _) (λ items. all_faults IsOfEncounter _ (λ before d. key_faults _) [] items)
+    next_faults IsOfEncounter (in_doc (list_at doc [] key least greatest)) _ (key_faults _) (λ items. key_faults _)
 
 in_faults : (m : ModelData) (doc : Members) → AnyFaultIsOfEncounter (encounter_in m doc)
 unfolding encounter_in

@@ -1,8 +1,8 @@
 -- A text that says an encounter passes the rules.
-use Rattle.std.proofs.Common.{◌≡◌, ℕ, ◌<◌, ◌≤◌, false, List, [], length, map, take, get_or, codes, ℤ, pos, ◌*ℤ◌, Ok, refl, sym, arith}
+use Rattle.std.proofs.Common.{◌≡◌, ℕ, ◌<◌, ◌≤◌, List, [], length, map, codes, ℤ, pos, ◌*ℤ◌, Ok, refl, arith}
 use Rattle.std.proofs.lemmas.Int.{ints}
-use Rattle.std.proofs.lemmas.List.{get_or-map, length-map}
-use Rattle.toml.specs.Data.{Members, boolean, integer}
+use Rattle.std.proofs.lemmas.List.{length-map}
+use Rattle.toml.specs.Data.{Members, integer}
 use Rattle.acas_units.specs.declared.limits.TheConstants.{LEAST_CLOSING, GREATEST_CLOSING, LEAST_ALTITUDE, GREATEST_ALTITUDE, LEAST_RATE, GREATEST_RATE, LEAST_SECONDS, GREATEST_SECONDS}
 use Rattle.acas_units.specs.declared.ticks.TheConstants.{TICKS_PER_FOOT}
 use Rattle.acas_spec.specs.Axis.{IsBetween, IsWithin}
@@ -10,17 +10,17 @@ use Rattle.acas_spec.specs.Model.{ModelData}
 use Rattle.acas_spec.specs.Limits.{IsModel}
 use Rattle.acas_doc.specs.Paths.{key_path}
 use Rattle.acas_doc.proofs.Documents.{document_of-read}
-use Rattle.acas_doc.proofs.Holds.{list_at_passes, whole_at_passes, whole_item_passes}
+use Rattle.acas_doc.proofs.Holds.{list_at_passes, whole_at_passes}
 use Rattle.acas_doc.proofs.LeastUnknown.{only_known_passes}
 use Rattle.acas_model.specs.Text.{HoldsList, HoldsWhole}
-use Rattle.acas_model.proofs.Places.{each_from}
+use Rattle.acas_model.proofs.Wholes.{wholes_pass}
 use Rattle.acas_input.specs.declared.fault.InputFault.TheVariants.{NotToml}
 use Rattle.acas_input.proofs.Keys.{advisory_passes, version_passes}
 use Rattle.acas_encounter.specs.declared.limits.TheConstants.{LEAST_START_RANGE, GREATEST_START_RANGE, LEAST_ACCELERATION, GREATEST_ACCELERATION}
 use Rattle.acas_encounter.specs.declared.start.Start.{Start}
 use Rattle.acas_encounter.specs.Encounter.{EncounterData, IsStart}
 use Rattle.acas_encounter.specs.Start.{number_at, start_of}
-use Rattle.acas_encounter.specs.Accelerations.{acceleration_item, acceleration_items, accelerations_at}
+use Rattle.acas_encounter.specs.Accelerations.{accelerations_at}
 use Rattle.acas_encounter.specs.Whole.{encounter_in, encounter_of}
 use Rattle.acas_encounter.specs.Text.{IsEncounterText, IsStartText}
 
@@ -49,26 +49,11 @@ start_passes m doc s valid says fits known =
 
 -- ---- the accelerations
 
-item_passes : (path : List ℕ) (place : ℕ) (z : ℤ) → IsBetween LEAST_ACCELERATION GREATEST_ACCELERATION z → acceleration_item path place (integer z) ≡ Ok z
-unfolding acceleration_item
-item_passes path place z between = rw (whole_item_passes path place LEAST_ACCELERATION GREATEST_ACCELERATION z between.low between.high) refl
-
-items_pass : (path : List ℕ) (zs : List ℤ) → IsWithin LEAST_ACCELERATION GREATEST_ACCELERATION zs → acceleration_items path (map integer zs) ≡ Ok zs
-unfolding acceleration_items
-items_pass path zs within =
-    each_from (λ before d. acceleration_item path (length before) d) [] zs (map integer zs) (boolean false) (pos 0) (record {
-      long = sym (length-map zs integer);
-      at = λ k h.
-          let inside : k < length zs = omega (arith, h, length-map zs integer) in
-          let item : get_or (map integer zs) k (boolean false) ≡ integer (get_or zs k (pos 0)) = get_or-map integer zs k (pos 0) (boolean false) inside in
-          rw item (item_passes path (length (take k zs)) (get_or zs k (pos 0)) (within.bounded k inside));
-    })
-
 accelerations_pass : (doc : Members) (key : List ℕ) (least greatest : ℕ) (zs : List ℤ) → HoldsList doc key (map integer zs) → least ≤ length zs → length zs ≤ greatest → IsWithin LEAST_ACCELERATION GREATEST_ACCELERATION zs →
     accelerations_at doc key least greatest ≡ Ok zs
 unfolding accelerations_at
 accelerations_pass doc key least greatest zs there some few within =
-    rw (list_at_passes doc [] key least greatest (map integer zs) there (omega (arith, some, length-map zs integer)) (omega (arith, few, length-map zs integer)), items_pass (key_path [] key) zs within) refl
+    rw (list_at_passes doc [] key least greatest (map integer zs) there (omega (arith, some, length-map zs integer)) (omega (arith, few, length-map zs integer)), wholes_pass (key_path [] key) LEAST_ACCELERATION GREATEST_ACCELERATION zs within) refl
 
 -- ---- the whole text
 

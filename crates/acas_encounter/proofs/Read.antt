@@ -1,8 +1,7 @@
 -- What the keys hold of a text that passes the rules.
-use Rattle.std.proofs.Common.{◌≡◌, ℕ, ◌<◌, ◌≤◌, false, List, [], length, map, take, get_or, codes, ℤ, pos, ◌*ℤ◌, Ok, refl, sym, subst, ◌∙◌, arith}
+use Rattle.std.proofs.Common.{◌≡◌, ℕ, ◌<◌, ◌≤◌, List, [], length, map, codes, ℤ, pos, ◌*ℤ◌, Ok, refl, subst, arith}
 use Rattle.std.proofs.lemmas.Int.{ints}
-use Rattle.std.proofs.lemmas.List.{get_or-map, length-map}
-use Rattle.toml.specs.Data.{Data, Members, boolean, integer}
+use Rattle.toml.specs.Data.{Members, integer}
 use Rattle.acas_units.specs.declared.limits.TheConstants.{LEAST_CLOSING, GREATEST_CLOSING, LEAST_ALTITUDE, GREATEST_ALTITUDE, LEAST_RATE, GREATEST_RATE, LEAST_SECONDS, GREATEST_SECONDS}
 use Rattle.acas_units.specs.declared.ticks.TheConstants.{TICKS_PER_FOOT}
 use Rattle.acas_spec.specs.Axis.{IsBetween, IsWithin}
@@ -14,11 +13,11 @@ use Rattle.acas_doc.proofs.Documents.{document_of-found}
 use Rattle.acas_doc.specs.Keys.{list_at}
 use Rattle.acas_doc.specs.Known.{only_known}
 use Rattle.acas_doc.specs.Paths.{key_path}
-use Rattle.acas_doc.proofs.Holds.{fault_as_ok, list_at_ok, whole_at_ok, whole_item_ok}
+use Rattle.acas_doc.proofs.Holds.{fault_as_ok, list_at_ok, whole_at_ok}
 use Rattle.acas_doc.proofs.LeastUnknown.{only_known_passes}
 use Rattle.acas_model.specs.Text.{HasOnly, HoldsList, HoldsWhole}
-use Rattle.acas_model.proofs.Places.{each_places, same_lists}
 use Rattle.acas_model.proofs.ReadNumbers.{passed_ok, step_ok}
+use Rattle.acas_model.proofs.Wholes.{wholes_ok}
 use Rattle.acas_input.specs.declared.document.TheConstants.{INPUT_VERSION}
 use Rattle.acas_input.specs.declared.fault.InputFault.{InputFault}
 use Rattle.acas_input.specs.declared.fault.InputFault.TheVariants.{NotToml}
@@ -29,7 +28,7 @@ use Rattle.acas_encounter.specs.declared.limits.TheConstants.{LEAST_START_RANGE,
 use Rattle.acas_encounter.specs.declared.start.Start.{Start}
 use Rattle.acas_encounter.specs.Encounter.{EncounterData, IsStart}
 use Rattle.acas_encounter.specs.Start.{number_at, start_of, start_with}
-use Rattle.acas_encounter.specs.Accelerations.{acceleration_item, acceleration_items, accelerations_at}
+use Rattle.acas_encounter.specs.Accelerations.{accelerations_at}
 use Rattle.acas_encounter.specs.Whole.{encounter_in, encounter_of}
 use Rattle.acas_encounter.specs.Text.{IsEncounterText, IsStartText}
 
@@ -94,35 +93,6 @@ start_ok m doc s e =
 
 -- ---- the accelerations
 
--- an item that was read
-pub record IsReadItem (d : Data) (z : ℤ) : Type 0 where
-  pub there : d ≡ integer z
-  pub between : IsBetween LEAST_ACCELERATION GREATEST_ACCELERATION z
-
-item_ok : (path : List ℕ) (place : ℕ) (d : Data) (z : ℤ) → acceleration_item path place d ≡ Ok z → IsReadItem d z
-unfolding acceleration_item
-item_ok path place d z e =
-    let w = whole_item_ok path place LEAST_ACCELERATION GREATEST_ACCELERATION d z (fault_as_ok _ _ z e) in
-    record { there = w.0; between = record { low = w.1; high = w.2 } }
-
--- the items of a list that was read
-record AreReadItems (ds : List Data) (zs : List ℤ) : Type 0 where
-  pub there : ds ≡ map integer zs
-  pub long : length zs ≡ length ds
-  pub within : IsWithin LEAST_ACCELERATION GREATEST_ACCELERATION zs
-
-items_ok : (path : List ℕ) (ds : List Data) (zs : List ℤ) → acceleration_items path ds ≡ Ok zs → AreReadItems ds zs
-unfolding acceleration_items
-items_ok path ds zs e =
-    let read = each_places (λ before d. acceleration_item path (length before) d) zs ds (boolean false) (pos 0) e in
-    let item : (k : ℕ) → k < length ds → IsReadItem (get_or ds k (boolean false)) (get_or zs k (pos 0)) = λ k within. item_ok path (length (take k zs)) _ _ (read.at k within) in
-    record {
-      there = same_lists ds (map integer zs) (boolean false) (sym (length-map zs integer ∙ read.long))
-          (λ k within. (item k within).there ∙ sym (get_or-map integer zs k (pos 0) (boolean false) (omega (arith, within, read.long))));
-      long = read.long;
-      within = record { bounded = λ k within. (item k (omega (arith, within, read.long))).between };
-    }
-
 -- a list that was read
 pub record AreRead (doc : Members) (key : List ℕ) (least greatest : ℕ) (zs : List ℤ) : Type 0 where
   pub there : HoldsList doc key (map integer zs)
@@ -135,7 +105,7 @@ unfolding accelerations_at
 accelerations_ok doc key least greatest zs e =
     let l = bind_ok (in_doc (list_at doc [] key least greatest)) _ zs e in
     let list = list_at_ok doc [] key least greatest l.0 (fault_as_ok _ _ l.0 l.1) in
-    let items = items_ok (key_path [] key) l.0 zs l.2 in
+    let items = wholes_ok (key_path [] key) LEAST_ACCELERATION GREATEST_ACCELERATION l.0 zs (fault_as_ok _ _ zs l.2) in
     record {
       there = subst (HoldsList doc key) items.there list.0;
       some = omega (arith, list.1, items.long);

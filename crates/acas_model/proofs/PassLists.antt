@@ -14,13 +14,14 @@ use Rattle.acas_spec.specs.declared.parts.Advisory.{Advisory}
 use Rattle.acas_spec.specs.declared.parts.Choice.{Choice}
 use Rattle.acas_spec.specs.declared.parts.SigmaPoint.{SigmaPoint}
 use Rattle.acas_doc.specs.Paths.{key_path, item_path}
-use Rattle.acas_doc.proofs.Holds.{true-int_le, whole_at_passes, text_at_passes, list_at_passes, whole_item_passes, text_item_passes, table_item_passes}
+use Rattle.acas_doc.proofs.Holds.{true-int_le, whole_at_passes, text_at_passes, list_at_passes, text_item_passes, table_item_passes}
 use Rattle.acas_model.specs.Advisories.{name_at, advisory_of, advisory_item, advisory_items, new_name, distinct}
-use Rattle.acas_model.specs.Choices.{named, choice_item, choice_items, cost_item, cost_items, choices_from, some_choice, choices_of, choices_item, choice_lists, Advised, advised_of}
+use Rattle.acas_model.specs.Choices.{named, choice_item, choice_items, choices_from, some_choice, choices_of, choices_item, choice_lists, Advised, advised_of}
 use Rattle.acas_model.specs.Noise.{sigma_of, sigma_item, sigma_items, sigmas_of}
 use Rattle.acas_model.specs.Text.{HasOnly, HoldsText, HoldsWhole, HoldsList, IsDocumentText}
 use Rattle.acas_spec.proofs.Places.{all_from}
 use Rattle.acas_model.proofs.Places.{each_from, none_from}
+use Rattle.acas_model.proofs.Wholes.{wholes_pass}
 use Rattle.acas_model.proofs.PassNumbers.{only_passes, ≤ℤ-trans}
 use Rattle.acas_model.proofs.ReadAdvisories.{no_advisory}
 use Rattle.acas_model.proofs.ReadChoices.{name_of, no_choice_there}
@@ -152,22 +153,6 @@ chosen_pass m valid path advisory chosen known distinct =
           rw item (choice_passes m valid path advisory (take k chosen) (get_or chosen k 0) (known k within) new);
     })
 
-cost_passes : (path : List ℕ) (place : ℕ) (z : ℤ) → IsBetween LEAST_COST GREATEST_COST z → cost_item path place (integer z) ≡ Ok z
-unfolding cost_item
-cost_passes path place z h =
-    rw (whole_item_passes path place LEAST_COST GREATEST_COST z h.low h.high) refl
-
-costs_pass : (path : List ℕ) (costs : List ℤ) → ((k : ℕ) → k < length costs → IsBetween LEAST_COST GREATEST_COST (get_or costs k (pos 0))) → cost_items path (map integer costs) ≡ Ok costs
-unfolding cost_items
-costs_pass path costs within =
-    each_from (λ before d. cost_item path (length before) d) [] costs (map integer costs) (boolean false) (pos 0) (record {
-      long = sym (length-map costs integer);
-      at = λ k h.
-          let in_costs : k < length costs = omega (arith, h, length-map costs integer) in
-          let item : get_or (map integer costs) k (boolean false) ≡ integer (get_or costs k (pos 0)) = get_or-map integer costs k (pos 0) (boolean false) in_costs in
-          rw item (cost_passes path (length (take k costs)) (get_or costs k (pos 0)) (within k in_costs));
-    })
-
 -- different numbers below a count are not more than the count
 distinct_from : (xs : List ℕ) → AreDistinct 0 xs → IsDistinct eqb xs
 unfolding IsDistinct
@@ -219,7 +204,7 @@ choices_pass m valid t path advisory choices is named_list cost_list =
       some_passes advisory (length items) (omega (arith, long, is.some)),
       chosen_pass m valid (key_path path (codes "choices")) advisory chosen known is.distinct,
       list_at_passes t path (codes "costs") (length items) (length items) (map integer costs) cost_items (omega (arith, long, long_costs)) (omega (arith, long, long_costs)),
-      costs_pass (key_path path (codes "costs")) costs paid,
+      wholes_pass (key_path path (codes "costs")) LEAST_COST GREATEST_COST costs (record { bounded = paid }),
       together choices,
     ) refl
 

@@ -12,15 +12,16 @@ use Rattle.acas_spec.specs.Limits.{IsChoiceList, AreDistinct}
 use Rattle.acas_spec.specs.declared.parts.Advisory.{Advisory}
 use Rattle.acas_spec.specs.declared.parts.Choice.{Choice}
 use Rattle.acas_spec.proofs.Each.{bind_ok, same_ok}
-use Rattle.acas_doc.specs.Keys.{list_at, text_item, table_item}
+use Rattle.acas_doc.specs.Keys.{list_at, text_item, table_item, whole_items}
 use Rattle.acas_doc.specs.Paths.{key_path, item_path}
-use Rattle.acas_doc.proofs.Holds.{fault_as_ok, list_at_ok, whole_item_ok, text_item_ok, table_item_ok}
+use Rattle.acas_doc.proofs.Holds.{fault_as_ok, list_at_ok, text_item_ok, table_item_ok}
 use Rattle.acas_model.specs.declared.fault.ModelFault.{ModelFault}
 use Rattle.acas_model.specs.declared.fault.ModelFault.TheVariants.{NoChoice, RepeatedName}
 use Rattle.acas_model.specs.Document.{in_doc}
-use Rattle.acas_model.specs.Choices.{named, or_unknown, choice_item, choice_items, cost_item, cost_items, choices_from, some_choice, choices_of, choices_item, choice_lists}
+use Rattle.acas_model.specs.Choices.{named, or_unknown, choice_item, choice_items, choices_from, some_choice, choices_of, choices_item, choice_lists}
 use Rattle.acas_model.specs.Text.{HoldsList}
 use Rattle.acas_model.proofs.Places.{ReadAt, each_places, none_at, same_lists}
+use Rattle.acas_model.proofs.Wholes.{wholes_ok}
 use Rattle.acas_model.proofs.ReadNumbers.{step_ok}
 use Rattle.acas_model.proofs.ReadAdvisories.{untest_ok, no_advisory}
 
@@ -83,37 +84,6 @@ chosen_ok advisories path advisory ds chosen e = record {
         let other = none_at (λ b. b == get_or chosen j 0) (take j chosen) i 0 (item j (omega (arith, within, read.long))).new (omega (arith, above, within, length-take j chosen)) in
         let differs : (get_or chosen i 0 == get_or chosen j 0) ≡ false = rw (get_or-take j chosen i 0 above) at other in
         false≢true (sym differs ∙ equal (get_or chosen i 0) (get_or chosen j 0) same)
-
--- a cost that was read
-record IsReadCost (d : Data) (z : ℤ) : Type 0 where
-  pub there : d ≡ integer z
-  pub within : IsBetween LEAST_COST GREATEST_COST z
-
-cost_ok : (path : List ℕ) (place : ℕ) (d : Data) (z : ℤ) → cost_item path place d ≡ Ok z → IsReadCost d z
-unfolding cost_item
-cost_ok path place d z e =
-    let w = whole_item_ok path place LEAST_COST GREATEST_COST d z (fault_as_ok _ _ z e) in
-    record { there = w.0; within = record { low = w.1; high = w.2 } }
-
-record AreReadCosts (ds : List Data) (costs : List ℤ) : Type 0 where
-  pub long : length costs ≡ length ds
-  pub there : ds ≡ map integer costs
-  pub within : (k : ℕ) → k < length costs → IsBetween LEAST_COST GREATEST_COST (get_or costs k (pos 0))
-
-costs_ok : (path : List ℕ) (ds : List Data) (costs : List ℤ) → cost_items path ds ≡ Ok costs → AreReadCosts ds costs
-unfolding cost_items
-costs_ok path ds costs e = record {
-  long = read.long;
-  there = same_lists ds (map integer costs) (boolean false) (sym (length-map costs integer ∙ read.long))
-      (λ k within. (item k within).there ∙ sym (get_or-map integer costs k (pos 0) (boolean false) (omega (arith, within, read.long))));
-  within = λ k within. (item k (omega (arith, within, read.long))).within;
-}
-  where
-    read : ReadAt (λ before d. cost_item path (length before) d) [] ds costs (boolean false) (pos 0)
-    read = each_places (λ before d. cost_item path (length before) d) costs ds (boolean false) (pos 0) e
-
-    item : (k : ℕ) → k < length ds → IsReadCost (get_or ds k (boolean false)) (get_or costs k (pos 0))
-    item k within = cost_ok path (length (take k costs)) _ _ (read.at k within)
 
 -- what is seen of choices that were put together from their numbers and costs
 pub chosen_again : {A : Type 0} (f : ℕ → A) (chosen : List ℕ) (costs : List ℤ) → length chosen ≡ length costs → map (λ c. f c.advisory) (choices_from chosen costs) ≡ map f chosen
@@ -186,18 +156,18 @@ choices_ok advisories t path advisory choices e =
     let s = step_ok (some_choice advisory (length i.0)) _ choices i.2 in
     let c = bind_ok (choice_items advisories (key_path path (codes "choices")) advisory i.0) _ choices s.1 in
     let l = bind_ok (in_doc (list_at t path (codes "costs") (length i.0) (length i.0))) _ choices c.2 in
-    let z = bind_ok (cost_items (key_path path (codes "costs")) l.0) _ choices l.2 in
+    let z = bind_ok (in_doc (whole_items (key_path path (codes "costs")) LEAST_COST GREATEST_COST l.0)) _ choices l.2 in
     let made : choices_from c.0 z.0 ≡ choices = same_ok {E = ModelFault} _ _ z.2 in
     let named_list = list_at_ok t path (codes "choices") 0 (2 ^ 32 - 1) i.0 (fault_as_ok _ _ i.0 i.1) in
     let cost_list = list_at_ok t path (codes "costs") (length i.0) (length i.0) l.0 (fault_as_ok _ _ l.0 l.1) in
     let chosen = chosen_ok advisories (key_path path (codes "choices")) advisory i.0 c.0 c.1 in
-    let costs = costs_ok (key_path path (codes "costs")) l.0 z.0 z.1 in
+    let costs = wholes_ok (key_path path (codes "costs")) LEAST_COST GREATEST_COST l.0 z.0 (fault_as_ok _ _ z.0 z.1) in
     let long : length c.0 ≡ length z.0 = omega (arith, chosen.long, costs.long, cost_list.1, cost_list.2) in
     let some : 0 < length c.0 = omega (arith, chosen.long, some_choice_ok advisory (length i.0) s.0) in
     subst (IsReadChoices advisories t) made (record {
       choices = subst (HoldsList t (codes "choices")) (chosen.there ∙ sym (chosen_again (λ a. string (name_of advisories a)) c.0 z.0 long)) named_list.0;
       costs = subst (HoldsList t (codes "costs")) (costs.there ∙ sym (costs_again integer c.0 z.0 long)) cost_list.0;
-      is_list = choice_list (length advisories) c.0 z.0 long some chosen.known costs.within chosen.distinct;
+      is_list = choice_list (length advisories) c.0 z.0 long some chosen.known costs.within.bounded chosen.distinct;
     })
 
 pub record IsReadChoicesItem (advisories : List Advisory) (d : Data) (choices : List Choice) : Type 0 where

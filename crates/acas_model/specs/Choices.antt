@@ -7,7 +7,7 @@ use Rattle.acas_units.specs.declared.limits.TheConstants.{LEAST_COST, GREATEST_C
 use Rattle.acas_spec.specs.Steps.{◌>>=◌, ◌>>◌, each}
 use Rattle.acas_spec.specs.declared.parts.Advisory.{Advisory}
 use Rattle.acas_spec.specs.declared.parts.Choice.{Choice}
-use Rattle.acas_doc.specs.Keys.{list_at, whole_item, text_item, table_item}
+use Rattle.acas_doc.specs.Keys.{list_at, whole_items, text_item, table_item}
 use Rattle.acas_doc.specs.Values.{data_at}
 use Rattle.acas_doc.specs.Paths.{key_path, item_path}
 use Rattle.acas_model.specs.declared.fault.ModelFault.{ModelFault}
@@ -46,14 +46,6 @@ next_choice advisories path advisory before ds =
 unfoldable pub choice_items : List Advisory → List ℕ → ℕ → List Data → Result (List ℕ) ModelFault
 choice_items advisories path advisory ds = each (choice_item advisories path advisory) [] ds
 
--- a cost is a whole number within the limits of costs
-unfoldable pub cost_item : List ℕ → ℕ → Data → Result ℤ ModelFault
-cost_item path place d = in_doc (whole_item path place LEAST_COST GREATEST_COST d)
-
--- the costs of a list
-unfoldable pub cost_items : List ℕ → List Data → Result (List ℤ) ModelFault
-cost_items path ds = each (λ before d. cost_item path (length before) d) [] ds
-
 -- each choice with its cost
 abbrev pub choices_from : List ℕ → List ℤ → List Choice
 choices_from chosen costs = map (λ p. record { advisory = p.0; cost = p.1 }) (zip chosen costs)
@@ -69,7 +61,7 @@ choices_of advisories table path advisory = do
   some_choice advisory (length items)
   chosen ← choice_items advisories (key_path path (codes "choices")) advisory items
   cost_list ← in_doc (list_at table path (codes "costs") (length items) (length items))
-  costs ← cost_items (key_path path (codes "costs")) cost_list
+  costs ← in_doc (whole_items (key_path path (codes "costs")) LEAST_COST GREATEST_COST cost_list)
   Ok (choices_from chosen costs)
 
 -- what may be chosen under the advisory at a place of the list `advisory`

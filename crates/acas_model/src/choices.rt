@@ -11,7 +11,7 @@ ghost use Rattle.acas_model.specs.Choices as rules;
 use crate::advisories::{advisory_items, distinct};
 use crate::fault::{ModelFault, NamePlace};
 use acas_base::position_of;
-use acas_doc::{item, list, path_of_item, path_of_key, table_item, text_item};
+use acas_doc::{list, path_of_item, path_of_key, table_item, text_item, whole_items};
 use acas_spec::{Advisory, Choice};
 use acas_units::{GREATEST_ADVISORIES, GREATEST_COST, LEAST_ADVISORIES, LEAST_COST};
 use std::alloc::{AllocError, Global};
@@ -107,28 +107,6 @@ fn choice_items(
     Ok(chosen)
 }
 
-/// The cost at a place of a list.
-#[tactic(auto, unfolding(crate::specs::Choices::cost_item))]
-fn cost_item(alloc: Global, items: &[Value], path: &[u8], place: u32) -> Result<i64, ModelFault>
-    requires { place < length items.now }
-    ensures { Gives (λ z. z) result (rules.cost_item path.now place (item_at items.now place)) }
-{
-    Ok(item(alloc, items, path, place, LEAST_COST, GREATEST_COST)?)
-}
-
-/// The costs of a list.
-fn cost_items(alloc: Global, items: &[Value], path: &[u8]) -> Result<Vec<i64>, ModelFault>
-    requires { length items.now < 2 ^ 32 }
-    ensures { Gives (λ v. v.items) result (rules.cost_items path.now (data_of items.now)) }
-{
-    let mut costs = Vec::new(alloc);
-    for place in 0..items.len() as u32 {
-        let cost = cost_item(alloc, items, path, place)?;
-        costs.push(cost)?;
-    }
-    Ok(costs)
-}
-
 /// Each choice with its cost.
 fn paired(alloc: Global, chosen: &[u8], costs: &[i64]) -> Result<Vec<Choice>, AllocError>
     ensures { IfOk result (λ v. v.items ≡ rules.choices_from chosen.now costs.now) }
@@ -174,7 +152,13 @@ fn choices_of(
     let count = items.len() as u32;
     let cost_list = list(alloc, table, path, "costs", count, count)?;
     let costs_path = path_of_key(alloc, path, "costs")?;
-    let costs = cost_items(alloc, cost_list, costs_path.bytes())?;
+    let costs = whole_items(
+        alloc,
+        cost_list,
+        costs_path.bytes(),
+        LEAST_COST,
+        GREATEST_COST,
+    )?;
     Ok(paired(alloc, &chosen, &costs)?)
 }
 

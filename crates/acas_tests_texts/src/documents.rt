@@ -1,7 +1,7 @@
 //! The keys of small documents, and what is said of each.
 use acas_doc::{
     DocError, DocKind, fault_at, item, list, only_keys, path_of_item, path_of_key, table,
-    table_item, text, text_item, whole,
+    table_item, text, text_item, whole, whole_items,
 };
 use std::alloc::Global;
 use std::test::Fail;
@@ -50,6 +50,8 @@ fn values_are_found(rt: HostRuntime) -> Result<(), Fail> {
     let items = list(alloc, &document, b"", "list", 3, 3)?;
     assert_eq!(rt; items.len(), 3);
     assert!(rt; matches!(item(alloc, items, b"list", 0, 0, 7), Ok(7)));
+    let wholes = whole_items(alloc, &items[..1], b"list", 0, 7);
+    assert!(rt; matches!(wholes, Ok(found) if found.as_slice() == [7]));
     assert!(rt; matches!(text_item(alloc, items, b"list", 1), Ok(found) if found == "b"));
     assert!(rt; matches!(table_item(alloc, items, b"list", 2), Ok(found) if found.len() == 1));
     let faults = [
@@ -60,6 +62,10 @@ fn values_are_found(rt: HostRuntime) -> Result<(), Fail> {
         (
             fault_of(item(alloc, items, b"list", 0, 8, 9), "list[0]"),
             out_of_range(7, 8, 9),
+        ),
+        (
+            fault_of(whole_items(alloc, items, b"list", 0, 7), "list[1]"),
+            DocKind::WrongKind,
         ),
         (
             fault_of(text_item(alloc, items, b"list", 2), "list[2]"),
