@@ -114,42 +114,26 @@ fn of_two_words<'w>(verb: &str, word: &'w str) -> Option<Command<'w>>
     }
 }
 
-fn of_three_words<'w>(verb: &str, model: &'w str, second: &'w str) -> Option<Command<'w>>
-    ensures { HasForm result (form_of (verb.now ∷ model.now ∷ second.now ∷ [])) }
+fn of_three_words<'w>(verb: &str, model: &'w str, file: &'w str) -> Option<Command<'w>>
+    ensures { HasForm result (form_of (verb.now ∷ model.now ∷ file.now ∷ [])) }
 {
-    if verb == "compile" && are_apart(model, second) {
-        Some(Command::Compile {
+    if verb == "compile" && are_apart(model, file) {
+        return Some(Command::Compile { model, table: file });
+    }
+    if !are_file_names(model, file) {
+        return None;
+    }
+    match verb {
+        "check" => Some(Command::Check { model, table: file }),
+        "risk" => Some(Command::Risk { model, table: file }),
+        "audit" => Some(Command::Audit {
             model,
-            table: second,
-        })
-    } else if verb == "check" && are_file_names(model, second) {
-        Some(Command::Check {
-            model,
-            table: second,
-        })
-    } else if verb == "risk" && are_file_names(model, second) {
-        Some(Command::Risk {
-            model,
-            table: second,
-        })
-    } else if verb == "audit" && are_file_names(model, second) {
-        Some(Command::Audit {
-            model,
-            table: second,
+            table: file,
             which: Which::All,
-        })
-    } else if verb == "regions" && are_file_names(model, second) {
-        Some(Command::Regions {
-            model,
-            boxes: second,
-        })
-    } else if verb == "safeable" && are_file_names(model, second) {
-        Some(Command::Safeable {
-            model,
-            table: second,
-        })
-    } else {
-        None
+        }),
+        "regions" => Some(Command::Regions { model, boxes: file }),
+        "safeable" => Some(Command::Safeable { model, table: file }),
+        _ => None,
     }
 }
 
