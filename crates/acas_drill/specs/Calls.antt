@@ -9,10 +9,10 @@ use Rattle.acas_process.specs.Compiled.{compiled}
 use Rattle.acas_report_lines.specs.declared.counts.Counts.{Counts}
 use Rattle.acas_report_lines.specs.declared.counts.Which.TheVariants.{All}
 use Rattle.acas_report_cells.specs.Report.{IsReport}
-use Rattle.acas_command.specs.Called.{Called, calls_for_report}
+use Rattle.acas_command.specs.Called.{Called, MayPrint, calls_for_report}
 use Rattle.acas_command.specs.Outcome.{prints}
 use Rattle.acas_command.specs.declared.status.Cause.{Cause}
-use Rattle.acas_command.specs.declared.status.Cause.TheVariants.{Done, Reported, Words, Absent, Model, Table, Input, Folder, Output, TooLong, Memory}
+use Rattle.acas_command.specs.declared.status.Cause.TheVariants.{Output, Memory}
 use Rattle.acas_table_file.specs.Worth.{AreTabled}
 use Rattle.acas_drill_model.specs.DrilledModel.{drilled_model}
 use Rattle.acas_drill.specs.Text.{drill_text}
@@ -47,19 +47,11 @@ pub record IsDrillBegun (number : ℕ) (old new : Option (List ℕ)) : Type 0 wh
 abbrev pub CallsForDrill : ℕ → Called
 CallsForDrill number = calls_for_report (λ files. prints []) (λ files. IsDrillText number) (λ files. IsDrillBegun number)
 
--- the causes with which a drill ends
+-- the causes with which a drill ends: its output is out or failed, or memory ran out
 abbrev pub EndsDrill : Cause → Type 0
-EndsDrill Done = ⊤
-EndsDrill Reported = ⊤
-EndsDrill Words = ⊥
-EndsDrill (Absent role) = ⊥
-EndsDrill (Model fault) = ⊥
-EndsDrill (Table refusal) = ⊥
-EndsDrill (Input fault) = ⊥
-EndsDrill Folder = ⊥
 EndsDrill Output = ⊤
-EndsDrill (TooLong role) = ⊥
 EndsDrill Memory = ⊤
+EndsDrill cause = MayPrint cause
 
 -- an output beside any folder, of which this is told
 abbrev pub output_beside : {O : Type 0} → SinkMeanings O → Outside → O → Outside
