@@ -33,14 +33,5 @@ MayReport (Drill number) = ⊤
 
 -- its intruder, if any, has an acceleration and a rate that words can give
 abbrev pub HasIntruder : Form → Type 0
-HasIntruder (Values model) = ⊤
-HasIntruder (Compile model table) = ⊤
-HasIntruder (Check model table) = ⊤
-HasIntruder (Risk model table) = ⊤
-HasIntruder (Audit model table which) = ⊤
-HasIntruder (Regions model boxes) = ⊤
 HasIntruder (Manoeuvre model boxes accel rate) = IsManoeuvre (pos accel) (pos rate)
-HasIntruder (Safeable model table) = ⊤
-HasIntruder (Replay model table encounter) = ⊤
-HasIntruder (Migrate model table target) = ⊤
-HasIntruder (Drill number) = ⊤
+HasIntruder form = ⊤
