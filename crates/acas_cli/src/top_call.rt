@@ -73,48 +73,28 @@ pub fn run<F: Folder, O: Sink, E: Sink>(
     ensures output { O.faults out.old ≤ O.faults out.new }
     ensures error_output { E.faults err.old ≤ E.faults err.new }
 {
-    let cause = answer_and_report(alloc, words, folder, out, err, work);
+    let Some(command) = command_of(words) else {
+        report_words(err);
+        let cause = Cause::Words;
+        return Status {
+            code: cause.code(),
+            cause,
+        };
+    };
+    let Ok(mut line) = Line::make(alloc) else {
+        report_memory(err);
+        let cause = Cause::Memory;
+        return Status {
+            code: cause.code(),
+            cause,
+        };
+    };
+    let cause = answer(alloc, &command, folder, out, work);
+    report(words, &cause, &mut line, err);
     Status {
         code: cause.code(),
         cause,
     }
-}
-
-fn answer_and_report<F: Folder, O: Sink, E: Sink>(
-    alloc: Global,
-    words: &[String],
-    folder: &mut F,
-    out: &mut O,
-    err: &mut E,
-    work: &mut Work,
-) -> Cause
-    requires served { All (λ word. IsTrue (F.serves folder.old word)) (map string_bytes words.now) }
-    requires counts { HasRoom work.old }
-    ensures words { (result ≡ Cause.Words) ↔ (form_of (map string_bytes words.now) ≡ None) }
-    ensures answers { AnswersForm (form_of (map string_bytes words.now)) result
-        (outside F.Folder O.Sink folder.old out.old) (outside F.Folder O.Sink folder.new out.new) }
-    ensures headline { Headline (form_of (map string_bytes words.now)) result
-        (outside F.Folder O.Sink folder.old out.old) (outside F.Folder O.Sink folder.new out.new) }
-    ensures work { CountsForm (form_of (map string_bytes words.now)) (F.holds folder.old) result
-        work.old work.new }
-    ensures rising { NoneFell work.old work.new }
-    ensures line { Reports result (map string_bytes words.now)
-        (E.written err.old) (E.written err.new) (E.faults err.old) (E.faults err.new) }
-    ensures folder { ReadsAndWrites F.Folder folder.old folder.new (result ≡ Cause.Folder) }
-    ensures output { O.faults out.old ≤ O.faults out.new }
-    ensures error_output { E.faults err.old ≤ E.faults err.new }
-{
-    let Some(command) = command_of(words) else {
-        report_words(err);
-        return Cause::Words;
-    };
-    let Ok(mut line) = Line::make(alloc) else {
-        report_memory(err);
-        return Cause::Memory;
-    };
-    let cause = answer(alloc, &command, folder, out, work);
-    report(words, &cause, &mut line, err);
-    cause
 }
 
 // The answer to a command.

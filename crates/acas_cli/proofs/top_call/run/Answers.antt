@@ -7,7 +7,7 @@ use Rattle.acas_cli_words.specs.Forms.{form_of_command}
 use Rattle.acas_cli_words.specs.Words.{Form}
 use Rattle.acas_cli_words.proofs.KnownForms.{known_form}
 use Rattle.acas_cli.proofs.NeverWords.{never_words}
-use Rattle.acas_cli.proofs.top_call.answer_and_report.Goals as goal
+use Rattle.acas_cli.proofs.top_call.run.Goals as goal
 
 pub answer-cause-requires : goal.answer-cause-requires
 answer-cause-requires g c =
