@@ -1,5 +1,6 @@
 //! The files and streams of the system. They tell no content.
-ghost use Rattle.std.specs.Prelude.{◌≡◌, ◌+◌, ◌≤◌, None, true, length, IfOk};
+ghost use Rattle.std.specs.Prelude.{◌≡◌, ◌+◌, ◌<◌, ◌≤◌, None, true, length, IfOk, OnErr};
+ghost use Rattle.acas_outside.specs.Counts.{Rose};
 
 use crate::folder::{Folder, ReadMiss};
 use crate::sink::{Failed, Sink};
@@ -80,18 +81,8 @@ impl<R: Files> Folder for RealFolder<'_, R> {
     }
 
     fn append(&mut self, name: &str, piece: &[u8]) -> Result<usize, Failed> {
-        match append_once(self.rt, name, piece) {
-            Ok(count) => {
-                if count == 0 && !piece.is_empty() {
-                    self.faults = self.faults.saturating_add(1);
-                }
-                Ok(count)
-            }
-            Err(_) => {
-                self.faults = self.faults.saturating_add(1);
-                Err(Failed)
-            }
-        }
+        let written = append_once(self.rt, name, piece);
+        counted(written, piece, &mut self.faults)
     }
 }
 
@@ -103,6 +94,28 @@ fn append_once<R: Files>(rt: &R, name: &str, piece: &[u8]) -> io::Result<usize>
     how.append(true);
     let mut file = how.open(rt, name)?;
     file.write(piece)
+}
+
+// What is answered of one write of a piece. One that fails, or takes nothing of the piece, is counted as a fault.
+fn counted(written: io::Result<usize>, piece: &[u8], faults: &mut u64) -> Result<usize, Failed>
+    requires { IfOk written (λ n. n ≤ length piece.now) }
+    ensures bound { IfOk result (λ n. n ≤ length piece.now) }
+    ensures failed { OnErr result (Rose faults.old faults.new) }
+    ensures none { IfOk result (λ n. n ≡ 0 → 0 < length piece.now → Rose faults.old faults.new) }
+    ensures faults { faults.old ≤ faults.new }
+{
+    match written {
+        Ok(count) => {
+            if count == 0 && !piece.is_empty() {
+                *faults = faults.saturating_add(1);
+            }
+            Ok(count)
+        }
+        Err(_) => {
+            *faults = faults.saturating_add(1);
+            Err(Failed)
+        }
+    }
 }
 
 // One read from a place on.
@@ -137,17 +150,7 @@ impl<W: Write + Drop> Sink for RealSink<W> {
     ghost faults = { λ sink. sink.faults };
 
     fn write(&mut self, piece: &[u8]) -> Result<usize, Failed> {
-        match self.writer.write(piece) {
-            Ok(count) => {
-                if count == 0 && !piece.is_empty() {
-                    self.faults = self.faults.saturating_add(1);
-                }
-                Ok(count)
-            }
-            Err(_) => {
-                self.faults = self.faults.saturating_add(1);
-                Err(Failed)
-            }
-        }
+        let written = self.writer.write(piece);
+        counted(written, piece, &mut self.faults)
     }
 }
