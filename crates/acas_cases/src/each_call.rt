@@ -1,19 +1,18 @@
 //! Each call that a case makes fails in turn.
-use crate::cases::Case;
 use crate::fault::Fault;
+use crate::judge::Judged;
 use crate::outside::{End, File, KINDS, Start, perform};
 use crate::report::Report;
-use std::alloc::Global;
 
 /// Reports where a case of one run does not end as it is to end while one of its calls fails, or makes another number of
-/// calls than it says. `end` is how it ends while none fails.
-pub fn judge_each_call(
-    alloc: Global,
-    case: Case<'_>,
-    start: &Start,
-    end: &End,
-    report: &mut Report,
-) -> Result<(), Fault> {
+/// calls than it says. It was judged how the case ends while none fails.
+pub fn judge_each_call(judged: Judged<'_>, report: &mut Report) -> Result<(), Fault> {
+    let Judged {
+        alloc,
+        case,
+        start,
+        end,
+    } = judged;
     let said = case.text_or(alloc, "each_call", "")?;
     for ((kind, made), said) in KINDS.iter().zip(calls_of(end)).zip(said.split_whitespace()) {
         if said.parse::<u64>().ok() != Some(made) {

@@ -3,7 +3,7 @@ use crate::cases::{Case, items, keys_of};
 use crate::each_call::judge_each_call;
 use crate::fault::Fault;
 use crate::forms::{form_files, form_rows};
-use crate::judge::judge;
+use crate::judge::Judged;
 use crate::outside::{File, Start, perform, without};
 use crate::report::Report;
 use crate::steps::all_made;
@@ -133,8 +133,14 @@ fn try_case(
     let end = perform(alloc, &start, &failing)?;
     lines.update(end.out.sink.written());
     lines.update(end.err.sink.written());
-    judge(alloc, case, number, &start, &end, report)?;
-    judge_each_call(alloc, case, &start, &end, report)
+    let judged = Judged {
+        alloc,
+        case,
+        start: &start,
+        end: &end,
+    };
+    judged.judge(number, report)?;
+    judge_each_call(judged, report)
 }
 
 fn start_of(alloc: Global, case: Case<'_>) -> Result<Start, Fault> {
