@@ -1,6 +1,6 @@
 //! Courses as flown, and where both aircraft end.
 ghost use Rattle.std.specs.Prelude.{◌≡◌, ◌*◌, ◌^◌, ◌<◌, ◌≤◌, ◌↔◌, IsTrue, pos, ◌*ℤ◌, unsigned_abs};
-ghost use Rattle.acas_frac.specs.Fraction.{Fraction, IsFrac, difference_of, whole_of};
+ghost use Rattle.acas_frac.specs.Fraction.{Fraction, IsFrac, whole_of};
 ghost use Rattle.acas_flight.specs.Values.{IsApproach, IsHeld};
 ghost use Rattle.acas_passes.specs.Value.{IsWithinHalf, is_below};
 ghost use Rattle.acas_witness_plans.specs.Plans.{CanBeFlown};
@@ -11,7 +11,7 @@ use acas_frac::Frac;
 use acas_manoeuvre::Manoeuvre;
 use acas_region_curves::{approach, held};
 use acas_units::{GREATEST_HALF_HEIGHT, TICKS_PER_FOOT};
-use acas_witness_plans::{Plan, across, common, known, parts};
+use acas_witness_plans::{Plan, difference_parts, known};
 
 // The intruder's climb with its greatest acceleration.
 fn ascent_of(turn: &Turn, may: &Manoeuvre) -> Frac
@@ -59,18 +59,6 @@ fn ticks_over(ticks: i64, den: i128) -> i128
     i128::from(ticks) * den
 }
 
-// How far the own climb is above the intruder's, over the product of their denominators.
-fn climbed(climb: &Frac, ascent: &Frac) -> (i128, i128)
-    ensures value { result.0 ≡ Fraction.num (difference_of climb.now ascent.now) }
-    ensures size { unsigned_abs result.0 ≤ 2 * 10 ^ 37 }
-    ensures den { result.1 ≡ pos (Fraction.den (difference_of climb.now ascent.now)) }
-    ensures den_size { unsigned_abs result.1 ≤ 10 ^ 26 }
-{
-    let (a, b) = parts(climb);
-    let (c, d) = parts(ascent);
-    (across(a, d) - across(c, b), common(b, d))
-}
-
 // How far the own climb is above where the intruder ends, and the half height, over a common denominator.
 fn clearance(flown: &Flown, half: u64) -> (i128, i128)
     requires { half ≤ TICKS_PER_FOOT * GREATEST_HALF_HEIGHT }
@@ -79,7 +67,7 @@ fn clearance(flown: &Flown, half: u64) -> (i128, i128)
     ensures band { result.1 ≡ pos (half * Fraction.den (value_in flown.now)) }
     ensures band_size { unsigned_abs result.1 ≤ 10 ^ 33 }
 {
-    let (apart, den) = climbed(&flown.climb, &flown.ascent);
+    let (apart, den) = difference_parts(&flown.climb, &flown.ascent);
     let value = apart - ticks_over(flown.plan.altitude, den);
     (value, ticks_over(half as i64, den))
 }

@@ -1,11 +1,11 @@
 //! Fractions by their parts, and products of 128 bits under bounds.
-ghost use Rattle.std.specs.Prelude.{◌≡◌, ◌^◌, ◌≤◌, pos, ◌*ℤ◌, ◌≤ℤ◌, unsigned_abs};
-ghost use Rattle.acas_frac.specs.Fraction.{Fraction, IsFrac};
+ghost use Rattle.std.specs.Prelude.{◌≡◌, ◌*◌, ◌^◌, ◌<◌, ◌≤◌, pos, ◌*ℤ◌, ◌≤ℤ◌, unsigned_abs};
+ghost use Rattle.acas_frac.specs.Fraction.{Fraction, IsFrac, difference_of};
 
 use acas_frac::Frac;
 
-/// The numerator and the denominator, with their bounds.
-pub fn parts(value: &Frac) -> (i128, i128)
+// The numerator and the denominator, with their bounds.
+fn parts(value: &Frac) -> (i128, i128)
     ensures num { result.0 ≡ Fraction.num value.now }
     ensures den { result.1 ≡ pos (Fraction.den value.now) }
     ensures bounds { IsFrac value.now }
@@ -30,22 +30,25 @@ pub fn natural(value: i64) -> u64
     value as u64
 }
 
-/// The product of a numerator and a denominator.
-pub fn across(num: i128, den: i128) -> i128
-    requires num { unsigned_abs num ≤ 10 ^ 24 }
+// The product of a part of a fraction and a denominator.
+fn across(part: i128, den: i128) -> i128
+    requires part { unsigned_abs part ≤ 10 ^ 24 }
     requires den { unsigned_abs den ≤ 10 ^ 13 }
-    ensures value { result ≡ num *ℤ den }
+    ensures value { result ≡ part *ℤ den }
     ensures size { unsigned_abs result ≤ 10 ^ 37 }
 {
-    num * den
+    part * den
 }
 
-/// The product of two denominators.
-pub fn common(first: i128, second: i128) -> i128
-    requires first { unsigned_abs first ≤ 10 ^ 13 }
-    requires second { unsigned_abs second ≤ 10 ^ 13 }
-    ensures value { result ≡ first *ℤ second }
-    ensures size { unsigned_abs result ≤ 10 ^ 26 }
+/// The difference of two fractions, over the product of their denominators: its numerator, and that product.
+pub fn difference_parts(value: &Frac, other: &Frac) -> (i128, i128)
+    ensures num { result.0 ≡ Fraction.num (difference_of value.now other.now) }
+    ensures size { unsigned_abs result.0 ≤ 2 * 10 ^ 37 }
+    ensures den { result.1 ≡ pos (Fraction.den (difference_of value.now other.now)) }
+    ensures den_size { unsigned_abs result.1 ≤ 10 ^ 26 }
+    ensures some { 0 < Fraction.den (difference_of value.now other.now) }
 {
-    first * second
+    let (a, b) = parts(value);
+    let (c, d) = parts(other);
+    (across(a, d) - across(c, b), across(b, d))
 }

@@ -11,7 +11,7 @@ use acas_frac::Frac;
 use acas_region_curves::{pull_parts, rate_parts};
 use acas_rulings::Segment;
 use acas_units::{GREATEST_RATE, WINDOW_SECONDS};
-use acas_witness_plans::{across, common, known, parts, ratio};
+use acas_witness_plans::{difference_parts, known, ratio};
 
 // The way from one rate to another, over the product of their denominators.
 fn way_of(rate: i64, rate_den: u64, aim: i64, aim_den: u64) -> u64
@@ -48,9 +48,8 @@ fn difference(time: &Frac, other: &Frac) -> Frac
     ensures difference { IsDifference time.now other.now result }
     ensures lowest { IsFrac result }
 {
-    let (a, b) = parts(time);
-    let (c, d) = parts(other);
-    Frac::new(across(a, d) - across(c, b), common(b, d))
+    let (num, den) = difference_parts(time, other);
+    Frac::new(num, den)
 }
 
 // The pull, with the sign of the way from a rate to an aim.
