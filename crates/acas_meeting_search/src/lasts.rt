@@ -6,7 +6,7 @@ ghost use Rattle.acas_meeting_search.specs.View.{hunt_of};
 
 use crate::pursuit::Pursuit;
 use crate::stage::Stage;
-use acas_witness_search::{Quantity, rate_steps_between};
+use acas_witness_search::rate_steps_between;
 
 impl Pursuit {
     // That of the pass over the goal.
@@ -21,14 +21,8 @@ impl Pursuit {
         ensures { IsLast (pass_in stage (hunt_of self.now)) result }
     {
         match stage {
-            Stage::Time => self.survey.last(Quantity::Time),
-            Stage::Altitude => self.survey.last(Quantity::Altitude),
+            Stage::Of(quantity) => self.survey.last(quantity),
             Stage::Goal => self.last_goal(),
-            Stage::Intruder => self.survey.last(Quantity::Intruder),
-            Stage::Aim => self.survey.last(Quantity::Aim),
-            Stage::Pull => self.survey.last(Quantity::Pull),
-            Stage::Hold => self.survey.last(Quantity::Hold),
-            Stage::Own => self.survey.last(Quantity::Own),
         }
     }
 }

@@ -25,14 +25,8 @@ impl Pursuit {
         ensures flown { CanBeFlown result }
     {
         match stage {
-            Stage::Time => self.survey.plan_at(Quantity::Time, number),
-            Stage::Altitude => self.survey.plan_at(Quantity::Altitude, number),
+            Stage::Of(quantity) => self.survey.plan_at(quantity, number),
             Stage::Goal => self.survey.plan_at(Quantity::Intruder, 0),
-            Stage::Intruder => self.survey.plan_at(Quantity::Intruder, number),
-            Stage::Aim => self.survey.plan_at(Quantity::Aim, number),
-            Stage::Pull => self.survey.plan_at(Quantity::Pull, number),
-            Stage::Hold => self.survey.plan_at(Quantity::Hold, number),
-            Stage::Own => self.survey.plan_at(Quantity::Own, number),
         }
     }
 
@@ -90,10 +84,10 @@ impl Pursuit {
 
     // The turn from the intruder's rate of that number.
     fn from_rate(&self, number: u32, plan: &Plan) -> Turn
-        requires plan { let point = point_of self.now Stage.Intruder number in
+        requires plan { let point = point_of self.now (Stage.Of Quantity.Intruder) number in
             IsPlanOf (unit_of self.now) (Course.own point) plan.now }
         requires can { CanBeFlown plan.now }
-        ensures point { IsTurnOf (unit_of self.now) (point_of self.now Stage.Intruder number) result }
+        ensures point { IsTurnOf (unit_of self.now) (point_of self.now (Stage.Of Quantity.Intruder) number) result }
         ensures flown { CanBeFlownWith self.now.may.accel result }
     {
         Turn {
@@ -110,14 +104,16 @@ impl Pursuit {
         ensures flown { CanBeFlownWith self.now.may.accel result }
     {
         match stage {
-            Stage::Time => self.upward(&plan.time),
-            Stage::Altitude => self.upward(&self.survey.high),
+            Stage::Of(quantity) => match quantity {
+                Quantity::Time => self.upward(&plan.time),
+                Quantity::Altitude => self.upward(&self.survey.high),
+                Quantity::Intruder => self.from_rate(number, plan),
+                Quantity::Aim => self.downward(&self.survey.high),
+                Quantity::Pull => self.downward(&self.survey.high),
+                Quantity::Hold => self.downward(&self.survey.high),
+                Quantity::Own => self.downward(&self.survey.high),
+            },
             Stage::Goal => self.toward_goal(number),
-            Stage::Intruder => self.from_rate(number, plan),
-            Stage::Aim => self.downward(&self.survey.high),
-            Stage::Pull => self.downward(&self.survey.high),
-            Stage::Hold => self.downward(&self.survey.high),
-            Stage::Own => self.downward(&self.survey.high),
         }
     }
 }

@@ -12,6 +12,7 @@ use crate::stage::Stage;
 use crate::stage_pass::StagePass;
 use acas_passes::{Pass, halve};
 use acas_witness_plans::rate_steps;
+use acas_witness_search::Quantity;
 
 // The course at which the halving of a pass ends, if the last course of the pass is not below.
 fn hit(pursuit: &Pursuit, stage: Stage) -> Option<Flown>
@@ -79,5 +80,5 @@ pub fn meet(pursuit: &Pursuit) -> Flown
     if is_in_contact(&high, pursuit.survey.half) {
         return high;
     }
-    search_from(pursuit, Stage::Time)
+    search_from(pursuit, Stage::Of(Quantity::Time))
 }
