@@ -42,6 +42,9 @@ takes_layers-some New served held count some = absurd (omega (arith, some))
 takes_layers-some Finished served held count some = absurd (omega (arith, some))
 takes_layers-some Failed served held count some = absurd (omega (arith, some))
 
+pub is_started : (p : Phase) (served held : Bool) (count : ℕ) → 0 < takes_layers p served held count → p ≡ Started
+is_started p served held count some = (takes_layers-some p served held count some).started
+
 -- a layer fewer
 pub takes_layers-next : (w v : WriterState) (served served' held held' : Bool) → v ≡ record w { given = w.given + 1 } → served' ≡ served → IsTrue held'
     → 0 < takes_layers w.phase served held (w.shape.horizon + 1 - w.given)

@@ -27,7 +27,8 @@ impl<F: Folder> LayerSink for TableRows<'_, F> {
     ghost cuts = { CutsRow F.Folder };
 
     fn layer(&mut self, _n: u32, pairs: &[Pair], advice: &[u8]) -> Result<(), LayerFailed> {
-        match self.begun.layer(self.folder, self.name, pairs, advice) {
+        let begun = &mut *self.begun;
+        match begun.writer.layer(self.folder, self.name, pairs, advice) {
             Ok(()) => Ok(()),
             Err(_) => Err(LayerFailed),
         }
