@@ -4,7 +4,7 @@ use Rattle.std.proofs.lemmas.Bool.{cases_eq}
 use Rattle.std.proofs.lemmas.List.{get_or_append_left, get_or_push, length_push}
 use Rattle.acas_spec.specs.Model.{ModelData}
 use Rattle.acas_base.specs.Advices.{AdvicesData}
-use Rattle.acas_audit_blocks.specs.Audits.{AreFilledTo, AreUndecided, BlockAuditData, IsPlace, cell_count, no_advice, place_of}
+use Rattle.acas_audit_blocks.specs.Audits.{AreFilledTo, AreUndecided, BlockAuditData, HaveSameCells, IsPlace, cell_count, no_advice, place_of}
 use Rattle.acas_cells.specs.Cells.{cell_at}
 use Rattle.acas_cells.specs.Corners.{is_advised}
 use Rattle.acas_cells.specs.Sets.{holds}
@@ -35,12 +35,12 @@ filled_none m a n present audit first second = record {
   tabled = λ i j k advice place before. absurd (omega (arith, before));
 }
 
--- one cell more
-pub filled_next : (m : ModelData) (a : AdvicesData) (n present i j k : ℕ) (audit : BlockAuditData) (first second : List AdviceSet) (none some : AdviceSet) →
+-- the lists with one set more
+filled_one : (m : ModelData) (a : AdvicesData) (n present i j k : ℕ) (audit : BlockAuditData) (first second : List AdviceSet) (none some : AdviceSet) →
     IsPlace audit i j k → AreFilledTo m a n present (place_of audit i j k) audit → first ≡ audit.certified ++ none ∷ [] → second ≡ audit.reported ++ some ∷ [] →
     ((advice : ℕ) → holds none advice ≡ false) → ((advice : ℕ) → holds some advice ≡ is_advised m a (cell_at n present i j k) advice) →
     AreFilledTo m a n present (place_of audit i j k + 1) (record audit { certified = first; reported = second })
-filled_next m a n present i j k audit first second none some here before is_first is_second empty tabled = record {
+filled_one m a n present i j k audit first second none some here before is_first is_second empty tabled = record {
   certified = pushed_long audit.certified first none (place_of audit i j k) before.certified is_first;
   reported = pushed_long audit.reported second some (place_of audit i j k) before.reported is_second;
   none = λ x y z advice place within.
@@ -60,9 +60,27 @@ filled_next m a n present i j k audit first second none some here before is_firs
     advised_same : (advice i j k x y z : ℕ) → i ≡ x → j ≡ y → k ≡ z → is_advised m a (cell_at n present i j k) advice ≡ is_advised m a (cell_at n present x y z) advice
     advised_same advice i j k x y z e f g = rw (e, f, g) refl
 
--- the same up to another place, and for an audit with the same fields
+-- the same up to another place
 pub filled_to : (m : ModelData) (a : AdvicesData) (n present upto other : ℕ) (audit : BlockAuditData) → upto ≡ other → AreFilledTo m a n present upto audit → AreFilledTo m a n present other audit
 filled_to m a n present upto other audit e filled = subst (λ (x : ℕ). AreFilledTo m a n present x audit) e filled
+
+-- only the lists are changed
+renewed : (old new : BlockAuditData) → HaveSameCells old new → record old { certified = new.certified; reported = new.reported } ≡ new
+renewed old new same =
+    ap (λ (x : ℕ). record new { altitudes = x; own_rates = old.own_rates; intruder_rates = old.intruder_rates }) (sym same.altitudes)
+    ∙ ap (λ (x : ℕ). record new { own_rates = x; intruder_rates = old.intruder_rates }) (sym same.own_rates)
+    ∙ ap (λ (x : ℕ). record new { intruder_rates = x }) (sym same.intruder_rates)
+
+-- one cell more
+pub filled_next : (m : ModelData) (a : AdvicesData) (n present i j k : ℕ) (old new : BlockAuditData) (none some : AdviceSet) → HaveSameCells old new →
+    IsPlace old i j k → AreFilledTo m a n present (place_of old i j k) old → new.certified ≡ old.certified ++ none ∷ [] → new.reported ≡ old.reported ++ some ∷ [] →
+    ((advice : ℕ) → holds none advice ≡ false) → ((advice : ℕ) → holds some advice ≡ is_advised m a (cell_at n present i j k) advice) →
+    AreFilledTo m a n present (place_of new i j (k + 1)) new
+filled_next m a n present i j k old new none some same here before is_first is_second empty tabled =
+    let is = renewed old new same in
+    filled_to m a n present _ _ new (ap (λ (x : BlockAuditData). place_of x i j (k + 1)) is)
+    (subst (λ (x : BlockAuditData). AreFilledTo m a n present (place_of old i j (k + 1)) x) is
+    (filled_to m a n present _ _ _ (omega arith) (filled_one m a n present i j k old new.certified new.reported none some here before is_first is_second empty tabled)))
 
 -- the end of a row is the start of the next, and the end of a plane too
 pub row_end : (a : BlockAuditData) (i j : ℕ) → place_of a i j a.intruder_rates ≡ place_of a i (j + 1) 0

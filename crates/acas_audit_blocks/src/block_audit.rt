@@ -6,6 +6,14 @@ use acas_base::Model;
 use acas_cells::AdviceSet;
 use std::alloc::{AllocError, Global};
 
+/// The advices other than clear of conflict that are tabled at the corners of a cell: those under which it is not endangered, and those
+/// under which it is.
+#[derive(Clone, Copy)]
+pub struct CellSets {
+    pub certified: AdviceSet,
+    pub reported: AdviceSet,
+}
+
 /// For the cells of n seconds and a present advisory, which advices each is certified under and which it is reported under. Contracts
 /// see the numbers of cells on the axes of altitude, own rate and intruder rate, and two lists with a set of advices for each cell,
 /// both empty until the cells are decided.
@@ -67,24 +75,17 @@ impl BlockAudit {
         ((i * self.own_rates + j) * self.intruder_rates + k) as usize
     }
 
-    /// The advices other than clear of conflict that are tabled at the corners of a cell and under which it is not endangered. The
-    /// cells were decided, and the cell is one of them.
-    pub fn certified(&self, i: u32, j: u32, k: u32) -> AdviceSet
+    /// The sets of a cell. The cells were decided, and the cell is one of them.
+    pub fn sets(&self, i: u32, j: u32, k: u32) -> CellSets
         requires lists { HasLists self.now }
         requires place { IsPlace self.now i j k }
-        ensures { result ≡ certified_at self.now i j k }
+        ensures certified { result.certified ≡ certified_at self.now i j k }
+        ensures reported { result.reported ≡ reported_at self.now i j k }
     {
         let place = self.place_of(i, j, k);
-        self.certified[place]
-    }
-
-    /// Those under which it is. The cells were decided, and the cell is one of them.
-    pub fn reported(&self, i: u32, j: u32, k: u32) -> AdviceSet
-        requires lists { HasLists self.now }
-        requires place { IsPlace self.now i j k }
-        ensures { result ≡ reported_at self.now i j k }
-    {
-        let place = self.place_of(i, j, k);
-        self.reported[place]
+        CellSets {
+            certified: self.certified[place],
+            reported: self.reported[place],
+        }
     }
 }

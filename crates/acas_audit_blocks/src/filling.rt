@@ -1,7 +1,7 @@
 //! What the two sets of each cell begin with.
-ghost use Rattle.std.specs.Prelude.{◌≡◌, ◌+◌, ◌<◌, ◌≤◌, [], ◌∷◌, ◌++◌, length, vec_capacity};
+ghost use Rattle.std.specs.Prelude.{◌≡◌, ◌<◌, ◌≤◌, [], ◌∷◌, ◌++◌, length, vec_capacity};
 ghost use Rattle.acas_base.specs.Advices.{AreAdvicesOf};
-ghost use Rattle.acas_audit_blocks.specs.Audits.{AreFilledTo, AreUndecided, HaveSameCells, IsAuditOf, IsPlace, place_of};
+ghost use Rattle.acas_audit_blocks.specs.Audits.{AreUndecided, HaveSameCells, IsAuditOf, cell_count};
 
 use crate::block_audit::BlockAudit;
 use acas_base::{Advices, Model};
@@ -18,6 +18,18 @@ fn push_within(list: &mut Vec<AdviceSet>, set: AdviceSet)
 }
 
 impl BlockAudit {
+    // Puts the sets of one more cell behind those of the cells before it.
+    fn push_sets(&mut self, certified: AdviceSet, reported: AdviceSet)
+        requires certified { length self.old.certified < cell_count self.old }
+        requires reported { length self.old.reported < cell_count self.old }
+        ensures same { HaveSameCells self.old self.new }
+        ensures certified { self.new.certified ≡ self.old.certified ++ certified ∷ [] }
+        ensures reported { self.new.reported ≡ self.old.reported ++ reported ∷ [] }
+    {
+        push_within(&mut self.certified, certified);
+        push_within(&mut self.reported, reported);
+    }
+
     // Begins both lists for n seconds and a present advisory: in the first no advice, and in the second those at the cell's corners.
     pub(crate) fn fill(&mut self, model: &Model, advices: &Advices, n: u32, present: u8)
         requires audit { IsAuditOf model.now self.old }
@@ -30,66 +42,13 @@ impl BlockAudit {
         self.certified.clear();
         self.reported.clear();
         for i in 0..self.altitudes {
-            self.fill_at(model, advices, n, present, i);
+            for j in 0..self.own_rates {
+                for k in 0..self.intruder_rates {
+                    // The advices other than clear of conflict at the corners of the cell.
+                    let set = advices_at(model, advices, n, present, i, j, k).without(0);
+                    self.push_sets(AdviceSet::empty(), set);
+                }
+            }
         }
-    }
-
-    // Puts the sets of the cells that are at one place on the axis of altitude behind those before them.
-    fn fill_at(&mut self, model: &Model, advices: &Advices, n: u32, present: u8, i: u32)
-        requires audit { IsAuditOf model.now self.old }
-        requires advices { AreAdvicesOf model.now advices.now }
-        requires n { n < model.now.grid.horizon }
-        requires present { present < model.now.grid.advisories }
-        requires i { i < self.old.altitudes }
-        requires filled { AreFilledTo model.now advices.now n present (place_of self.old i 0 0) self.old }
-        ensures same { HaveSameCells self.old self.new }
-        ensures filled { AreFilledTo model.now advices.now n present (place_of self.old (i + 1) 0 0) self.new }
-    {
-        for j in 0..self.own_rates {
-            self.fill_row(model, advices, n, present, i, j);
-        }
-    }
-
-    // Those at one place on the axis of own rate besides.
-    fn fill_row(&mut self, model: &Model, advices: &Advices, n: u32, present: u8, i: u32, j: u32)
-        requires audit { IsAuditOf model.now self.old }
-        requires advices { AreAdvicesOf model.now advices.now }
-        requires n { n < model.now.grid.horizon }
-        requires present { present < model.now.grid.advisories }
-        requires i { i < self.old.altitudes }
-        requires j { j < self.old.own_rates }
-        requires filled { AreFilledTo model.now advices.now n present (place_of self.old i j 0) self.old }
-        ensures same { HaveSameCells self.old self.new }
-        ensures filled { AreFilledTo model.now advices.now n present (place_of self.old i (j + 1) 0) self.new }
-    {
-        for k in 0..self.intruder_rates {
-            self.fill_cell(model, advices, n, present, i, j, k);
-        }
-    }
-
-    // Those of one cell.
-    fn fill_cell(
-        &mut self,
-        model: &Model,
-        advices: &Advices,
-        n: u32,
-        present: u8,
-        i: u32,
-        j: u32,
-        k: u32,
-    )
-        requires audit { IsAuditOf model.now self.old }
-        requires advices { AreAdvicesOf model.now advices.now }
-        requires n { n < model.now.grid.horizon }
-        requires present { present < model.now.grid.advisories }
-        requires place { IsPlace self.old i j k }
-        requires filled { AreFilledTo model.now advices.now n present (place_of self.old i j k) self.old }
-        ensures same { HaveSameCells self.old self.new }
-        ensures filled { AreFilledTo model.now advices.now n present (place_of self.old i j k + 1) self.new }
-    {
-        // The advices other than clear of conflict at the corners of the cell.
-        let set = advices_at(model, advices, n, present, i, j, k).without(0);
-        push_within(&mut self.certified, AdviceSet::empty());
-        push_within(&mut self.reported, set);
     }
 }

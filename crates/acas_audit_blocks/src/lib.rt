@@ -11,7 +11,7 @@ mod filling;
 mod moving;
 mod waiting;
 
-pub use block_audit::BlockAudit;
+pub use block_audit::{BlockAudit, CellSets};
 pub use clear::block_clear;
 pub use decision_laws::decisions_are_one;
 pub use decisions::{DecidedBlock, Decisions};

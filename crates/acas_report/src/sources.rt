@@ -79,8 +79,8 @@ impl Rulings for ByBlocks {
     }
 
     fn advised(&self, _model: &Model, _advices: &Advices, at: Place) -> AdviceSet {
-        let Place { i, j, k, .. } = at;
-        self.0.certified(i, j, k).union(self.0.reported(i, j, k))
+        let sets = self.0.sets(at.i, at.j, at.k);
+        sets.certified.union(sets.reported)
     }
 
     fn certifies(&self, model: &Model, name: &CellName) -> bool {
@@ -93,10 +93,11 @@ impl Rulings for ByBlocks {
             advice,
             ..
         } = *name;
-        if self.0.certified(i, j, k).has(advice) {
+        let sets = self.0.sets(i, j, k);
+        if sets.certified.has(advice) {
             return true;
         }
-        if self.0.reported(i, j, k).has(advice) {
+        if sets.reported.has(advice) {
             return false;
         }
         // The advice is tabled at no corner of the cell, and was not decided.
@@ -106,10 +107,11 @@ impl Rulings for ByBlocks {
     fn ruling(&self, model: &Model, name: &CellName) -> Ruling {
         // Opens the grid: the advice is one of a set's.
         let _ = model.grid();
-        if self.0.certified(name.i, name.j, name.k).has(name.advice) {
+        let sets = self.0.sets(name.i, name.j, name.k);
+        if sets.certified.has(name.advice) {
             return Ruling::Certified;
         }
-        if self.0.reported(name.i, name.j, name.k).has(name.advice) {
+        if sets.reported.has(name.advice) {
             return Ruling::Reported(witness_of(model, name));
         }
         // The advice is tabled at no corner of the cell, and was not decided.

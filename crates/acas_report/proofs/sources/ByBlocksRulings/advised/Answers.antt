@@ -4,15 +4,8 @@ use Rattle.acas_cells.specs.Sets.{holds}
 use Rattle.acas_cells.specs.declared.set.AdviceSet.{AdviceSet}
 use Rattle.acas_report.proofs.sources.ByBlocksRulings.advised.Goals as goal
 
-pub certified-requires-clause-place : goal.certified-requires-clause-place
-certified-requires-clause-place c = record {
-  altitude = omega (arith, c.requires.ready.cells.altitudes, c.requires.cell.i);
-  own = omega (arith, c.requires.ready.cells.own_rates, c.requires.cell.j);
-  intruder = omega (arith, c.requires.ready.cells.intruder_rates, c.requires.cell.k);
-}
-
-pub reported-requires-clause-place : goal.reported-requires-clause-place
-reported-requires-clause-place c = record {
+pub sets-sets-requires-clause-place : goal.sets-sets-requires-clause-place
+sets-sets-requires-clause-place c = record {
   altitude = omega (arith, c.requires.ready.cells.altitudes, c.requires.cell.i);
   own = omega (arith, c.requires.ready.cells.own_rates, c.requires.cell.j);
   intruder = omega (arith, c.requires.ready.cells.intruder_rates, c.requires.cell.k);
@@ -21,6 +14,6 @@ reported-requires-clause-place c = record {
 pub returns : goal.returns
 returns c = λ a.
     c.union.ensures.more a
-    ∙ ap (λ (s : AdviceSet). holds s a || holds c.reported.result a) c.certified.ensures
-    ∙ ap (λ (s : AdviceSet). holds (certified_at c.args.self.now.0 c.args.at.i c.args.at.j c.args.at.k) a || holds s a) c.reported.ensures
+    ∙ ap (λ (s : AdviceSet). holds s a || holds c.sets-sets.result.reported a) c.sets-sets.ensures.certified
+    ∙ ap (λ (s : AdviceSet). holds (certified_at c.args.self.now.0 c.args.at.i c.args.at.j c.args.at.k) a || holds s a) c.sets-sets.ensures.reported
     ∙ c.requires.ready.tabled c.args.at.i c.args.at.j c.args.at.k a c.requires.cell

@@ -4,8 +4,8 @@ use Rattle.acas_cells.specs.Sets.{holds}
 use Rattle.acas_cells.specs.declared.set.AdviceSet.{AdviceSet}
 use Rattle.acas_report.proofs.sources.ByBlocksRulings.ruling.Goals as goal
 
-pub certified-requires-clause-place : goal.certified-requires-clause-place
-certified-requires-clause-place c = record {
+pub sets-sets-requires-clause-place : goal.sets-sets-requires-clause-place
+sets-sets-requires-clause-place c = record {
   altitude = omega (arith, c.requires.ready.1.cells.altitudes, c.requires.cell.i);
   own = omega (arith, c.requires.ready.1.cells.own_rates, c.requires.cell.j);
   intruder = omega (arith, c.requires.ready.1.cells.intruder_rates, c.requires.cell.k);
@@ -18,21 +18,14 @@ pub returns-then-has : goal.returns-then-has
 returns-then-has c =
     let name = c.args.name.now in
     let there : holds (certified_at c.args.self.now.0 name.i name.j name.k) name.advice ≡ true =
-    ap (λ (s : AdviceSet). holds s name.advice) (sym c.certified.ensures) ∙ (sym c.has.ensures ∙ c.if-has.true)
+    ap (λ (s : AdviceSet). holds s name.advice) (sym c.sets-sets.ensures.certified) ∙ (sym c.has.ensures ∙ c.if-has.true)
     in
     c.requires.ready.1.safe name.i name.j name.k name.advice c.requires.cell c.requires.advice there
-
-pub reported-requires-clause-place : goal.reported-requires-clause-place
-reported-requires-clause-place c = record {
-  altitude = omega (arith, c.requires.ready.1.cells.altitudes, c.requires.cell.i);
-  own = omega (arith, c.requires.ready.1.cells.own_rates, c.requires.cell.j);
-  intruder = omega (arith, c.requires.ready.1.cells.intruder_rates, c.requires.cell.k);
-}
 
 pub witness_of-requires-clause-danger : goal.witness_of-requires-clause-danger
 witness_of-requires-clause-danger c =
     let name = c.args.name.now in
     let there : holds (reported_at c.args.self.now.0 name.i name.j name.k) name.advice ≡ true =
-    ap (λ (s : AdviceSet). holds s name.advice) (sym c.reported.ensures) ∙ (sym c.has-2.ensures ∙ c.if-has-2.true)
+    ap (λ (s : AdviceSet). holds s name.advice) (sym c.sets-sets.ensures.reported) ∙ (sym c.has-2.ensures ∙ c.if-has-2.true)
     in
     c.requires.ready.1.endangered name.i name.j name.k name.advice c.requires.cell c.requires.advice there
