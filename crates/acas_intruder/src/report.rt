@@ -1,12 +1,12 @@
 //! The report of a box file against an intruder that may change its rate.
-ghost use Rattle.std.specs.Prelude.{◌≡◌, ◌<◌, ℕ, List, IfOk, IsErrOf, length};
-ghost use Rattle.acas_outside.specs.Bytes.{Appends};
+ghost use Rattle.std.specs.Prelude.{◌≡◌, ◌<◌, ℕ, IsErrOf, length};
 ghost use Rattle.acas_outside.specs.Frame.{Emits};
 ghost use Rattle.acas_rulings.specs.Boxes.{AreBoxesOf, IsBoxOf, box_at};
 ghost use Rattle.acas_manoeuvre.specs.Intruder.{RatesFit};
 ghost use Rattle.acas_manoeuvre.specs.View.{may_of};
 ghost use Rattle.acas_meetings.specs.Verdicts.{IsMeetVerdict};
 ghost use Rattle.acas_report_lines.specs.Meetings.{IsMeetingsBegun, IsMeetingsReport};
+ghost use Rattle.acas_report_lines.specs.Report.{WroteReport};
 
 use crate::verdict::meet_verdict;
 use acas_base::Model;
@@ -48,9 +48,8 @@ pub fn write_meetings<S: Sink>(
     requires fits { AreBoxesOf model.now boxes.now }
     requires rates { (place : ℕ) → place < length boxes.now →
         RatesFit (may_of may.now) (box_at boxes.now place).states.intruder }
-    ensures report { IfOk result (λ counts. (text : List ℕ)
-        × IsMeetingsReport model.now (may_of may.now) boxes.now counts text
-        × Appends (S.written sink.old) (S.written sink.new) text) }
+    ensures report { WroteReport (IsMeetingsReport model.now (may_of may.now) boxes.now)
+        result (S.written sink.old) (S.written sink.new) }
     ensures part { IsErrOf result PrintFault.Sink →
         IsMeetingsBegun model.now (may_of may.now) boxes.now (S.written sink.old) (S.written sink.new) }
     ensures memory { IsErrOf result PrintFault.Memory → S.written sink.new ≡ S.written sink.old }

@@ -1,11 +1,11 @@
 //! The reports of an audit and of a box file, with the rulings of verdicts.
-ghost use Rattle.std.specs.Prelude.{◌≡◌, ◌+◌, ◌≤◌, ◌^◌, ℕ, List, IfOk, IsErrOf};
+ghost use Rattle.std.specs.Prelude.{◌≡◌, ◌+◌, ◌≤◌, ◌^◌, ℕ, IfOk, IsErrOf};
 ghost use Rattle.acas_base.specs.Advices.{AreAdvicesOf};
-ghost use Rattle.acas_outside.specs.Bytes.{Appends};
 ghost use Rattle.acas_outside.specs.Frame.{Emits};
 ghost use Rattle.acas_rulings.specs.Boxes.{AreBoxesOf};
 ghost use Rattle.acas_audit_blocks.specs.Decisions.{AreAuditsDecisions};
 ghost use Rattle.acas_report_lines.specs.Regions.{IsRegionsReport, IsRegionsReportBegun};
+ghost use Rattle.acas_report_lines.specs.Report.{WroteReport};
 ghost use Rattle.acas_report_cells.specs.Report.{IsReport, IsReportBegun};
 
 use crate::sources::{ByBlocks, OneByOne};
@@ -27,9 +27,7 @@ pub fn write_report<S: Sink>(
     which: Which,
 ) -> Result<Counts, PrintFault>
     requires { AreAdvicesOf model.now advices.now }
-    ensures report { IfOk result (λ counts. (text : List ℕ)
-        × IsReport model.now advices.now which counts text
-        × Appends (S.written sink.old) (S.written sink.new) text) }
+    ensures report { WroteReport (IsReport model.now advices.now which) result (S.written sink.old) (S.written sink.new) }
     ensures part { IsErrOf result PrintFault.Sink →
         IsReportBegun model.now advices.now which (S.written sink.old) (S.written sink.new) }
     ensures memory { IsErrOf result PrintFault.Memory → S.written sink.new ≡ S.written sink.old }
@@ -57,9 +55,7 @@ pub fn write_blocks<S: Sink>(
 ) -> Result<Counts, PrintFault>
     requires advices { AreAdvicesOf model.now advices.now }
     requires room { count.old ≤ 2 ^ 63 }
-    ensures report { IfOk result (λ counts. (text : List ℕ)
-        × IsReport model.now advices.now which counts text
-        × Appends (S.written sink.old) (S.written sink.new) text) }
+    ensures report { WroteReport (IsReport model.now advices.now which) result (S.written sink.old) (S.written sink.new) }
     ensures part { IsErrOf result PrintFault.Sink →
         IsReportBegun model.now advices.now which (S.written sink.old) (S.written sink.new) }
     ensures memory { IsErrOf result PrintFault.Memory → S.written sink.new ≡ S.written sink.old }
@@ -89,9 +85,7 @@ pub fn write_regions<S: Sink>(
     sink: &mut S,
 ) -> Result<Counts, PrintFault>
     requires { AreBoxesOf model.now boxes.now }
-    ensures report { IfOk result (λ counts. (text : List ℕ)
-        × IsRegionsReport model.now boxes.now counts text
-        × Appends (S.written sink.old) (S.written sink.new) text) }
+    ensures report { WroteReport (IsRegionsReport model.now boxes.now) result (S.written sink.old) (S.written sink.new) }
     ensures part { IsErrOf result PrintFault.Sink →
         IsRegionsReportBegun model.now boxes.now (S.written sink.old) (S.written sink.new) }
     ensures memory { IsErrOf result PrintFault.Memory → S.written sink.new ≡ S.written sink.old }

@@ -11,7 +11,7 @@ pub struct Audit<'a> {
     pub which: Which,
 }
 
-/// The numbers of a cell. A loop over cells sets one of them; those that are set within it do not matter to it.
+/// The numbers of a cell. Where all cells of n seconds and a present advisory are meant, the other three do not matter.
 #[derive(Clone, Copy)]
 pub struct Place {
     pub n: u32,

@@ -1,9 +1,9 @@
 //! The report of an audit, with rulings from a source of them.
-ghost use Rattle.std.specs.Prelude.{◌≡◌, ◌+◌, ◌≤◌, ◌^◌, ℕ, List, [], OnOk, OnErr, IfOk, IsErr, IsErrOf};
+ghost use Rattle.std.specs.Prelude.{◌≡◌, ◌≤◌, ◌^◌, [], OnOk, OnErr, IfOk, IsErr, IsErrOf};
 ghost use Rattle.acas_base.specs.Advices.{AreAdvicesOf};
-ghost use Rattle.acas_outside.specs.Bytes.{Appends};
 ghost use Rattle.acas_outside.specs.Frame.{Emits};
-ghost use Rattle.acas_report_cells.specs.Blocks.{ArePrepared};
+ghost use Rattle.acas_report_lines.specs.Report.{WroteReport};
+ghost use Rattle.acas_report_cells.specs.Blocks.{CountsPrepared};
 ghost use Rattle.acas_report_cells.specs.Report.{IsReport, IsReportBegun};
 
 use crate::audit::Audit;
@@ -27,16 +27,15 @@ pub fn write_report_by<R: Rulings, S: Sink>(
     requires advices { AreAdvicesOf audit.now.model.now audit.now.advices.now }
     requires fits { R.fits rulings.old audit.now.model.now }
     requires room { count.old ≤ 2 ^ 63 }
-    ensures report { IfOk result (λ counts. (text : List ℕ)
-        × IsReport audit.now.model.now audit.now.advices.now audit.now.which counts text
-        × Appends (S.written sink.old) (S.written sink.new) text) }
+    ensures report { WroteReport (IsReport audit.now.model.now audit.now.advices.now audit.now.which)
+        result (S.written sink.old) (S.written sink.new) }
     ensures part { IsErrOf result PrintFault.Sink →
         IsReportBegun audit.now.model.now audit.now.advices.now audit.now.which (S.written sink.old) (S.written sink.new) }
     ensures memory { IsErrOf result PrintFault.Memory → S.written sink.new ≡ S.written sink.old }
     ensures frame { Emits S.Sink sink.old sink.new (IsErrOf result PrintFault.Sink) }
     ensures unmoved { IsErrOf result PrintFault.Memory → count.new ≡ count.old }
-    ensures decisions { IfOk result (λ counts. (number : ℕ)
-        × ArePrepared R.takes audit.now.model.now audit.now.advices.now number × (count.new ≡ count.old + number)) }
+    ensures decisions { IfOk result (λ counts.
+        CountsPrepared R.takes audit.now.model.now audit.now.advices.now count.old count.new) }
     ensures rising { count.old ≤ count.new }
 {
     let Ok(pen) = Pen::make(alloc) else {
@@ -63,16 +62,14 @@ fn write_whole<R: Rulings, S: Sink>(
     requires certified { pen.counts.certified ≡ 0 }
     requires reported { pen.counts.reported ≡ 0 }
     requires clear { pen.counts.clear ≡ 0 }
-    ensures ok { IfOk result (λ counts. (text : List ℕ)
-        × IsReport audit.now.model.now audit.now.advices.now audit.now.which counts text
-        × Appends (S.written sink.old) (S.written sink.new) text) }
+    ensures ok { WroteReport (IsReport audit.now.model.now audit.now.advices.now audit.now.which)
+        result (S.written sink.old) (S.written sink.new) }
     ensures err { OnErr result
         (IsReportBegun audit.now.model.now audit.now.advices.now audit.now.which (S.written sink.old)
         (S.written sink.new)) }
     ensures frame { Emits S.Sink sink.old sink.new (IsErr result) }
-    ensures counted { OnOk result ((number : ℕ)
-        × ArePrepared R.takes audit.now.model.now audit.now.advices.now number
-        × (count.new ≡ count.old + number)) }
+    ensures counted { OnOk result
+        (CountsPrepared R.takes audit.now.model.now audit.now.advices.now count.old count.new) }
     ensures rising { count.old ≤ count.new }
 {
     // Opens the model's limits: there is room for the counts.

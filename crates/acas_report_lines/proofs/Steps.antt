@@ -98,6 +98,10 @@ split_at f (suc m) i here =
 pub wrote_more : {N X R : Type 0} (plan : Plan N X R) (f : ℕ → List X) (i : ℕ) (p q r : Progress) → Wrote plan p q (below i f) → Wrote plan q r (f i) → Wrote plan p r (below (i + 1) f)
 wrote_more plan f i p q r first then = rw (add-one i) (wrote_both plan p q r (below i f) (f i) first then)
 
+-- all turns of a loop, once it is at its end
+pub wrote_all : {N X R : Type 0} (plan : Plan N X R) (f : ℕ → List X) (n i : ℕ) (p q : Progress) → i ≡ n → Wrote plan p q (below i f) → Wrote plan p q (below n f)
+wrote_all plan f n i p q ends wrote = subst (λ (x : ℕ). Wrote plan p q (below x f)) ends wrote
+
 -- a turn of a loop in which printing failed
 pub broke_more : {N X R : Type 0} (plan : Plan N X R) (f : ℕ → List X) (n i : ℕ) (p q : Progress) (new : Option (List ℕ)) → i < n → Wrote plan p q (below i f) → Broke plan q.written q.waits new (f i) → Broke plan p.written p.waits new (below n f)
 broke_more plan f n i p q new here first then =

@@ -1,7 +1,7 @@
 -- Reports on what is ruled on, of any kind.
-use Rattle.std.specs.Prelude.{◌≡◌, ℕ, not, Bool, false, List, [], ◌++◌, All, map, count_by, if◌then◌else◌, Option}
+use Rattle.std.specs.Prelude.{◌≡◌, ℕ, not, Bool, false, List, [], ◌++◌, All, map, count_by, if◌then◌else◌, Option, Result, IfOk}
 use Rattle.std.specs.List.{flat_map}
-use Rattle.acas_outside.specs.Bytes.{AppendsPart}
+use Rattle.acas_outside.specs.Bytes.{Appends, AppendsPart}
 use Rattle.acas_report_lines.specs.declared.counts.Counts.{Counts}
 use Rattle.acas_report_lines.specs.declared.counts.Which.{Which}
 use Rattle.acas_report_lines.specs.declared.counts.Which.TheVariants as which
@@ -43,6 +43,10 @@ pub record IsReportOn {N R : Type 0} (IsRulingOf : N → R → Type 0) (certifie
   pub rulings : AreRuled IsRulingOf names ruled
   pub counted : counts ≡ counts_of certified ruled clear
   pub printed : text ≡ text_of ruled
+
+-- a call that answers counts wrote a whole report with them
+abbrev pub WroteReport : {C F : Type 0} → (C → List ℕ → Type 0) → Result C F → Option (List ℕ) → Option (List ℕ) → Type 0
+WroteReport IsReport result old new = IfOk result (λ counts. (text : List ℕ) × IsReport counts text × Appends old new text)
 
 -- A report that was begun: the first of these are ruled on, in order, and whatever rulings the others had, what went out is a
 -- proper prefix of the text.

@@ -1,12 +1,11 @@
 //! The report on boxes, with rulings of any kind from a source of them.
-ghost use Rattle.std.specs.Prelude.{◌≡◌, ◌+◌, ◌<◌, ◌^◌, ℕ, List, [], ◌∷◌, OnOk, OnErr, IfOk, IsErr, IsErrOf, length};
+ghost use Rattle.std.specs.Prelude.{◌≡◌, ◌+◌, ◌<◌, ◌^◌, [], ◌∷◌, OnOk, OnErr, IsErr, IsErrOf, length};
 ghost use Rattle.acas_spec.specs.Model.{ModelData};
-ghost use Rattle.acas_outside.specs.Bytes.{Appends};
 ghost use Rattle.acas_outside.specs.Frame.{Emits};
 ghost use Rattle.acas_rulings.specs.Boxes.{AuditedBox, audited, box_at};
 ghost use Rattle.acas_report_lines.specs.Plan.{Broke, Room, Wrote, box_plan, progress, total};
 ghost use Rattle.acas_report_lines.specs.Regions.{IsEachBox, IsSaidAt, boxes_text, places};
-ghost use Rattle.acas_report_lines.specs.Report.{IsBegun, IsReportOn};
+ghost use Rattle.acas_report_lines.specs.Report.{IsBegun, IsReportOn, WroteReport};
 
 use crate::counts::Counts;
 use crate::lines::{write_box_counts, write_box_line};
@@ -53,10 +52,9 @@ pub fn write_boxes_by<R: BoxSource, S: Sink>(
     sink: &mut S,
 ) -> Result<Counts, PrintFault>
     requires { IsEachBox (R.takes rulings.now model.now) boxes.now }
-    ensures report { IfOk result (λ counts. (text : List ℕ)
-        × IsReportOn (IsSaidAt (R.rules rulings.now model.now) boxes.now) R.Ruling.certified (places boxes.now) 0
-        (boxes_text R.Ruling.certified R.Ruling.text) counts text
-        × Appends (S.written sink.old) (S.written sink.new) text) }
+    ensures report { WroteReport (IsReportOn (IsSaidAt (R.rules rulings.now model.now) boxes.now)
+        R.Ruling.certified (places boxes.now) 0 (boxes_text R.Ruling.certified R.Ruling.text))
+        result (S.written sink.old) (S.written sink.new) }
     ensures part { IsErrOf result PrintFault.Sink →
         IsBegun (IsSaidAt (R.rules rulings.now model.now) boxes.now) (places boxes.now)
         (boxes_text R.Ruling.certified R.Ruling.text) (S.written sink.old) (S.written sink.new) }
@@ -88,10 +86,9 @@ fn write_whole<R: BoxSource, S: Sink>(
     requires certified { pen.counts.certified ≡ 0 }
     requires reported { pen.counts.reported ≡ 0 }
     requires clear { pen.counts.clear ≡ 0 }
-    ensures ok { IfOk result (λ counts. (text : List ℕ)
-        × IsReportOn (IsSaidAt (R.rules on.now.rulings.now on.now.model.now) on.now.boxes.now)
-        R.Ruling.certified (places on.now.boxes.now) 0 (boxes_text R.Ruling.certified R.Ruling.text) counts text
-        × Appends (S.written sink.old) (S.written sink.new) text) }
+    ensures ok { WroteReport (IsReportOn (IsSaidAt (R.rules on.now.rulings.now on.now.model.now) on.now.boxes.now)
+        R.Ruling.certified (places on.now.boxes.now) 0 (boxes_text R.Ruling.certified R.Ruling.text))
+        result (S.written sink.old) (S.written sink.new) }
     ensures err { OnErr result
         (IsBegun (IsSaidAt (R.rules on.now.rulings.now on.now.model.now) on.now.boxes.now)
         (places on.now.boxes.now)
