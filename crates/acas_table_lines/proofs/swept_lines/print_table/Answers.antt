@@ -27,7 +27,7 @@ returns-in_err-flush-in-Ok-clause-err g c =
     let m = c.args.model.now in
     let whole = values_text-behind_nothing m c.args.pen.now.buffer c.requires.empty in
     on_err_always _ (subst (AppendsPart _ _) whole
-    (part_of_waiting _ _ _ _ _ _ (lines_added g.O.Sink m _ (m.grid.horizon + 1) c.sweep_to.new.rows _ _ refl c.in-Ok.ensures.hands.ok (search rules) (search rules))) c.in_err-flush-in-Ok.ensures.err)
+    (part_of_waiting _ _ _ _ _ _ (lines_added g.O.Sink m _ (m.grid.horizon + 1) c.sweep_to.new.rows _ _ refl c.in-Ok.ensures.hands.ok (search rules) (search rules)) c.in_err-flush-in-Ok.ensures.err))
 
 pub returns-in_err-flush-in-Ok-clause-frame : goal.returns-in_err-flush-in-Ok-clause-frame
 returns-in_err-flush-in-Ok-clause-frame g c =
