@@ -9,9 +9,9 @@ ghost use Rattle.acas_check_commands.specs.Calls.{CallsForMigrate};
 
 use acas_command::{Cause, read_model_file};
 use acas_means::LayerMeans;
-use acas_outside::{Folder, Sink, emit};
+use acas_outside::{Folder, Sink};
 use acas_table_file::read_table_layers;
-use acas_table_rows::{store_layers, write_stored_line};
+use acas_table_rows::{print_stored_line, store_layers};
 use acas_table_writer::TableWriter;
 use acas_units::Line;
 use std::alloc::Global;
@@ -45,8 +45,7 @@ pub fn migrate<M: LayerMeans, F: Folder, O: Sink>(
         Ok(length) => length,
         Err(_) => return Err(Cause::Folder),
     };
-    write_stored_line(&mut line, "migrated", found.model.grid(), length);
-    match emit(out, line.bytes()) {
+    match print_stored_line(out, &mut line, "migrated", found.model.grid(), length) {
         Ok(()) => Ok(()),
         Err(_) => Err(Cause::Output),
     }

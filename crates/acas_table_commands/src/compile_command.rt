@@ -8,11 +8,11 @@ ghost use Rattle.acas_table_commands.specs.Work.{CountsSweep};
 
 use acas_command::{Cause, read_model_file};
 use acas_means::LayerMeans;
-use acas_outside::{Folder, Sink, emit};
+use acas_outside::{Folder, Sink};
 use acas_plane::Turned;
 use acas_step_choices::Backups;
 use acas_sweep::SweepRoom;
-use acas_table_rows::{store_swept, write_stored_line};
+use acas_table_rows::{print_stored_line, store_swept};
 use acas_table_writer::TableWriter;
 use acas_units::Line;
 use std::alloc::Global;
@@ -54,8 +54,7 @@ pub fn compile<M: LayerMeans, F: Folder, O: Sink>(
         Ok(length) => length,
         Err(_) => return Err(Cause::Folder),
     };
-    write_stored_line(&mut line, "compiled", found.model.grid(), length);
-    match emit(out, line.bytes()) {
+    match print_stored_line(out, &mut line, "compiled", found.model.grid(), length) {
         Ok(()) => Ok(()),
         Err(_) => Err(Cause::Output),
     }

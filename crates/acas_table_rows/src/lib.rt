@@ -8,5 +8,5 @@ mod swept_table;
 mod table_rows;
 
 pub use stored_layers::store_layers;
-pub use stored_line::write_stored_line;
+pub use stored_line::print_stored_line;
 pub use swept_table::store_swept;

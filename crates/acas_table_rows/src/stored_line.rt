@@ -1,5 +1,7 @@
 //! The line of a command that stores a table.
-ghost use Rattle.std.specs.Prelude.{[], ◌≡◌, ◌≤◌, length};
+ghost use Rattle.std.specs.Prelude.{[], ◌≡◌, ◌≤◌, IsErr, OnOk, OnErr, length};
+ghost use Rattle.acas_outside.specs.Bytes.{Appends, AppendsPart};
+ghost use Rattle.acas_outside.specs.Frame.{Emits};
 ghost use Rattle.acas_table_text.specs.Shape.{shape_of};
 ghost use Rattle.acas_table_text.specs.Format.{length_of};
 ghost use Rattle.acas_table_text.specs.declared.format.Format.TheVariants.{Layered};
@@ -7,15 +9,26 @@ ghost use Rattle.acas_table_rows.specs.StoredLine.{stored_line};
 
 use acas_command::{put_count, put_text};
 use acas_grid::Grid;
+use acas_outside::{Failed, Sink, emit};
 use acas_units::Line;
 
-/// Makes the line that says, behind what was done, how large the stored table over a grid is, which has so many bytes.
+/// Prints the line that says, behind what was done, how large the stored table over a grid is, which has so many bytes. It makes the
+/// line in one that is empty, and takes no memory.
 #[tactic(auto, unfolding(crate::specs::StoredLine::stored_line))]
-pub fn write_stored_line(line: &mut Line, done: &str, grid: &Grid, bytes: u64)
+pub fn print_stored_line<O: Sink>(
+    out: &mut O,
+    line: &mut Line,
+    done: &str,
+    grid: &Grid,
+    bytes: u64,
+) -> Result<(), Failed>
     requires empty { line.old ≡ [] }
     requires word { length done.now ≤ 8 }
     requires bytes { bytes ≡ length_of Layered (shape_of grid.now) }
-    ensures { line.new ≡ stored_line done.now grid.now }
+    ensures ok { OnOk result (Appends (O.written out.old) (O.written out.new) (stored_line done.now grid.now)) }
+    ensures err { OnErr result
+        (AppendsPart (O.written out.old) (O.written out.new) (stored_line done.now grid.now)) }
+    ensures frame { Emits O.Sink out.old out.new (IsErr result) }
 {
     put_text(line, done);
     put_text(line, " layers ");
@@ -25,4 +38,5 @@ pub fn write_stored_line(line: &mut Line, done: &str, grid: &Grid, bytes: u64)
     put_text(line, " bytes ");
     put_count(line, bytes);
     put_text(line, "\n");
+    emit(out, line.bytes())
 }

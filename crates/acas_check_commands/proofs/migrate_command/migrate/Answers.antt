@@ -54,8 +54,8 @@ returns-in-Err-clause-answers g c =
     (called-migrate before.holds _ c.args.model.now table target digest m layers c.read_model_file.ensures.frame.holds c.in_ok-found.ensures.ok c.in_ok-layers.ensures.ok)
     (told-part before.holds after.holds target text (subst (λ (h : Option Files). (after.holds ≡ h) ⊎ StoresPart h after.holds target text) held c.in-Err.ensures.err)) refl rose
 
-pub returns-in-Ok-emit-clause-answers : goal.returns-in-Ok-emit-clause-answers
-returns-in-Ok-emit-clause-answers g c =
+pub returns-in-Ok-print_stored_line-clause-answers : goal.returns-in-Ok-print_stored_line-clause-answers
+returns-in-Ok-print_stored_line-clause-answers g c =
     let m = c.in_ok-found.found.model in
     let digest = c.in_ok-found.found.digest in
     let layers = c.in_ok-layers.layers in
@@ -63,8 +63,8 @@ returns-in-Ok-emit-clause-answers g c =
     let target = c.args.target.now in
     let text : List ℕ = layers_text digest m layers in
     let before : Outside = outside g.F.Folder g.O.Sink c.args.folder.now c.args.out.now in
-    let after : Outside = outside g.F.Folder g.O.Sink c.store_layers.new.folder c.emit.new.sink in
-    let printed : Appends (g.O.Sink.written c.args.out.now) (g.O.Sink.written c.emit.new.sink) (migrated_line m.grid) = search rules in
+    let after : Outside = outside g.F.Folder g.O.Sink c.store_layers.new.folder c.print_stored_line.new.out in
+    let printed : Appends (g.O.Sink.written c.args.out.now) (g.O.Sink.written c.print_stored_line.new.out) (migrated_line m.grid) = search rules in
     let held = c.read_table_layers.ensures.frame.holds ∙ c.read_model_file.ensures.frame.holds in
     answers-done (λ files. migrate_of (get files c.args.model.now) (get files table) target) (stores target text (migrated_line m.grid)) before after
     (called-migrate before.holds _ c.args.model.now table target digest m layers c.read_model_file.ensures.frame.holds c.in_ok-found.ensures.ok c.in_ok-layers.ensures.ok) refl
@@ -79,8 +79,8 @@ returns-clause-answers g c =
     let target = c.args.target.now in
     let text : List ℕ = layers_text digest m layers in
     let before : Outside = outside g.F.Folder g.O.Sink c.args.folder.now c.args.out.now in
-    let after : Outside = outside g.F.Folder g.O.Sink c.store_layers.new.folder c.emit.new.sink in
-    let part : AppendsPart (g.O.Sink.written c.args.out.now) (g.O.Sink.written c.emit.new.sink) (migrated_line m.grid) = search rules in
+    let after : Outside = outside g.F.Folder g.O.Sink c.store_layers.new.folder c.print_stored_line.new.out in
+    let part : AppendsPart (g.O.Sink.written c.args.out.now) (g.O.Sink.written c.print_stored_line.new.out) (migrated_line m.grid) = search rules in
     let rose : Rose before.output_faults after.output_faults = search rules in
     let held = c.read_table_layers.ensures.frame.holds ∙ c.read_model_file.ensures.frame.holds in
     answers-output (λ files. migrate_of (get files c.args.model.now) (get files table) target) (stores target text (migrated_line m.grid)) before after

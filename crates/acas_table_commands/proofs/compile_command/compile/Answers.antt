@@ -33,14 +33,14 @@ returns-in-Err-clause-answers g c =
     (told-part before.holds after.holds table (compiled_text digest m)
     (subst (λ (h : Option Files). (after.holds ≡ h) ⊎ StoresPart h after.holds table (compiled_text digest m)) c.read_model_file.ensures.frame.holds c.in-Err.ensures.err)) refl rose
 
-pub returns-in-Ok-emit-clause-answers : goal.returns-in-Ok-emit-clause-answers
-returns-in-Ok-emit-clause-answers g c =
+pub returns-in-Ok-print_stored_line-clause-answers : goal.returns-in-Ok-print_stored_line-clause-answers
+returns-in-Ok-print_stored_line-clause-answers g c =
     let m = c.in_ok-found.found.model in
     let digest = c.in_ok-found.found.digest in
     let table = c.args.table.now in
     let before : Outside = outside g.F.Folder g.O.Sink c.args.folder.now c.args.out.now in
-    let after : Outside = outside g.F.Folder g.O.Sink c.store_swept.new.folder c.emit.new.sink in
-    let printed : Appends (g.O.Sink.written c.args.out.now) (g.O.Sink.written c.emit.new.sink) (compiled_line m.grid) = search rules in
+    let after : Outside = outside g.F.Folder g.O.Sink c.store_swept.new.folder c.print_stored_line.new.out in
+    let printed : Appends (g.O.Sink.written c.args.out.now) (g.O.Sink.written c.print_stored_line.new.out) (compiled_line m.grid) = search rules in
     answers-done (λ files. compile_of (get files c.args.model.now) table) (stores table (compiled_text digest m) (compiled_line m.grid)) before after
     (called-model before.holds c.args.model.now digest m (λ files d n. rest_of_compile table d n) c.in_ok-found.ensures.ok) refl
     (told-stored before.holds after.holds table (compiled_text digest m)
@@ -52,8 +52,8 @@ returns-clause-answers g c =
     let digest = c.in_ok-found.found.digest in
     let table = c.args.table.now in
     let before : Outside = outside g.F.Folder g.O.Sink c.args.folder.now c.args.out.now in
-    let after : Outside = outside g.F.Folder g.O.Sink c.store_swept.new.folder c.emit.new.sink in
-    let part : AppendsPart (g.O.Sink.written c.args.out.now) (g.O.Sink.written c.emit.new.sink) (compiled_line m.grid) = search rules in
+    let after : Outside = outside g.F.Folder g.O.Sink c.store_swept.new.folder c.print_stored_line.new.out in
+    let part : AppendsPart (g.O.Sink.written c.args.out.now) (g.O.Sink.written c.print_stored_line.new.out) (compiled_line m.grid) = search rules in
     let rose : Rose before.output_faults after.output_faults = search rules in
     answers-output (λ files. compile_of (get files c.args.model.now) table) (stores table (compiled_text digest m) (compiled_line m.grid)) before after
     (called-model before.holds c.args.model.now digest m (λ files d n. rest_of_compile table d n) c.in_ok-found.ensures.ok) tt
@@ -65,6 +65,6 @@ returns-in_err-found-clause-work g c =
     let p = err_from_is_err_and c.from_residual.result c.from_residual.ensures.1 in
     rw (p.1, p.2) (counts_nothing _ _ _ _ _ _ _ c.in_err-found.ensures.refused)
 
-pub returns-in-Ok-emit-clause-work : goal.returns-in-Ok-emit-clause-work
-returns-in-Ok-emit-clause-work g c =
+pub returns-in-Ok-print_stored_line-clause-work : goal.returns-in-Ok-print_stored_line-clause-work
+returns-in-Ok-print_stored_line-clause-work g c =
     counts_sweep _ _ c.in_ok-found.found.digest c.in_ok-found.found.model _ _ _ _ _ c.in_ok-found.ensures.ok c.in-Ok.ensures.counted c.in-Ok.ensures.turns
