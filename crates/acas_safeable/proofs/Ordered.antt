@@ -12,8 +12,8 @@ use Rattle.acas_flight_laws.proofs.Cuts.{cuts_meet}
 use Rattle.acas_flight.specs.Parts.{CanBeMet, until}
 use Rattle.acas_flight.specs.Response.{Demand, Follows, Meets, Segment, lasting, scaled}
 use Rattle.acas_flight.specs.State.{Interval}
-use Rattle.acas_safeable.specs.Reached.{greatest_altitude, greatest_rate, least_altitude, least_rate}
-use Rattle.acas_safeable.proofs.Altitudes.{greatest_altitude-holds, greatest_rate-holds, least_altitude-holds, least_rate-holds}
+use Rattle.acas_safeable.specs.Reached.{greatest_altitude, least_altitude}
+use Rattle.acas_safeable.proofs.Altitudes.{greatest_altitude-holds, least_altitude-holds}
 
 abbrev segment : ℕ → ℤ → Segment
 segment d c = record { duration = d; acceleration = c }
@@ -154,17 +154,13 @@ module _ (a : Demand) (fine : CanBeMet a) (h v w : Interval) (oh : h.least ≤�
   same : (z : ℤ) → z ≤ℤ z
   same z = omega (arith, ints)
 
-  pub ends_ordered : (least_altitude a h v w ≤ℤ greatest_altitude a h v w) × (least_rate a v ≤ℤ greatest_rate a v)
+  pub ends_ordered : least_altitude a h v w ≤ℤ greatest_altitude a h v w
   ends_ordered =
       let r = some_response a fine v.least in
       let q = r.over in
       let own = v.least *ℤ pos q in
       let cut = cuts_meet (scaled q a) (own *ℤ pos q) r.response q (scaled_can_be_met q a r.some fine) r.meets r.lasts in
-      let first = until q r.response in (
-        between (q * q * q) _ _ _ (mul-pos (mul-pos r.some r.some) r.some)
-            (least_altitude-holds a v q own first cut.1 cut.0 fine r.some h w (h.least *ℤ pos q) (w.least *ℤ pos q) (scaled_le v.least v.greatest q ov) (same (h.least *ℤ pos q)) (same (w.least *ℤ pos q)))
-            (greatest_altitude-holds a v q own first cut.1 cut.0 fine r.some h w (h.least *ℤ pos q) (w.least *ℤ pos q) (same own) (scaled_le h.least h.greatest q oh) (scaled_le w.least w.greatest q ow)),
-        between (q * q) _ _ _ (mul-pos r.some r.some)
-            (least_rate-holds a v q own first cut.1 cut.0 (same own))
-            (greatest_rate-holds a v q own first cut.1 cut.0 (scaled_le v.least v.greatest q ov)),
-      )
+      let first = until q r.response in
+      between (q * q * q) _ _ _ (mul-pos (mul-pos r.some r.some) r.some)
+      (least_altitude-holds a v q own first cut.1 cut.0 fine r.some h w (h.least *ℤ pos q) (w.least *ℤ pos q) (scaled_le v.least v.greatest q ov) (same (h.least *ℤ pos q)) (same (w.least *ℤ pos q)))
+      (greatest_altitude-holds a v q own first cut.1 cut.0 fine r.some h w (h.least *ℤ pos q) (w.least *ℤ pos q) (same own) (scaled_le h.least h.greatest q oh) (scaled_le w.least w.greatest q ow))

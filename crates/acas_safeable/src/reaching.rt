@@ -1,7 +1,7 @@
 //! What is reached from a cell within a second.
 ghost use Rattle.std.specs.Prelude.{◌≡◌, ◌<◌, ◌≤◌, IfSome, None, unsigned_abs};
 ghost use Rattle.acas_cells.specs.Cells.{IsCellOf};
-ghost use Rattle.acas_areas.specs.Limits.{interval_of};
+ghost use Rattle.acas_areas.specs.Limits.{IsSmall, interval_of};
 ghost use Rattle.acas_areas.specs.Sizes.{altitude_size};
 ghost use Rattle.acas_areas.specs.View.{area_of, demand_in};
 ghost use Rattle.acas_safeable.specs.Reached.{IsWithinAltitudes, greatest_altitude, greatest_rate, least_altitude, least_rate, reached_area, reached_from};
@@ -54,32 +54,20 @@ fn greatest_altitude(asked: &Asked, area: &BoxState) -> i128
     )
 }
 
-// The least own rate that is reached.
+// The own rates that are reached. One below lo does not fall, and any other falls by the limit at most and not below lo; one above hi
+// does not rise, and any other rises by the limit at most and not above hi.
 #[tactic(auto, using(std::proofs::lemmas::Int::clamps))]
-fn least_rate(asked: &Asked, own: Span) -> i64
-    requires { unsigned_abs own.least ≤ unsigned_abs GREATEST_RATE }
-    ensures value { result ≡ least_rate (demand_in asked.now) (interval_of own) }
-    ensures size { unsigned_abs result ≤ unsigned_abs GREATEST_RATE }
+fn reached_rates(asked: &Asked, own: Span) -> Span
+    requires { IsSmall (unsigned_abs GREATEST_RATE) (interval_of own) }
+    ensures least { result.least ≡ least_rate (demand_in asked.now) (interval_of own) }
+    ensures greatest { result.greatest ≡ greatest_rate (demand_in asked.now) (interval_of own) }
+    ensures size { IsSmall (unsigned_abs GREATEST_RATE) (interval_of result) }
 {
-    if own.least < asked.lo {
-        own.least
-    } else {
-        asked.lo.max(own.least - asked.limit as i64)
-    }
-}
-
-// The greatest own rate that is reached.
-#[tactic(auto, using(std::proofs::lemmas::Int::clamps))]
-fn greatest_rate(asked: &Asked, own: Span) -> i64
-    requires { unsigned_abs own.greatest ≤ unsigned_abs GREATEST_RATE }
-    ensures value { result ≡ greatest_rate (demand_in asked.now) (interval_of own) }
-    ensures size { unsigned_abs result ≤ unsigned_abs GREATEST_RATE }
-{
-    if asked.hi < own.greatest {
+    Span::new(
+        own.least.min(asked.lo.max(own.least - asked.limit as i64)),
         own.greatest
-    } else {
-        asked.hi.min(own.greatest + asked.limit as i64)
-    }
+            .max(asked.hi.min(own.greatest + asked.limit as i64)),
+    )
 }
 
 // The area that is reached from another under what an advisory asks.
@@ -92,11 +80,9 @@ fn reached_from(asked: &Asked, area: &BoxState) -> Option<BoxState>
 {
     let least = within(least_altitude(asked, area))?;
     let greatest = within(greatest_altitude(asked, area))?;
-    let slowest = least_rate(asked, area.v0);
-    let fastest = greatest_rate(asked, area.v0);
     Some(BoxState {
         h: Span::new(least, greatest),
-        v0: Span::new(slowest, fastest),
+        v0: reached_rates(asked, area.v0),
         v1: area.v1,
     })
 }

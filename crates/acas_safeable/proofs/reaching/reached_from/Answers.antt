@@ -22,10 +22,4 @@ new-requires c =
     let order = ends_ordered (demand_in c.args.asked.now) (asked_can_be_met (demand_in c.args.asked.now) c.args.asked.now.within) (interval_of area.h) (interval_of area.v0) (interval_of area.v1) area.h.ordered area.v0.ordered area.v1.ordered in
     let least : to_z w128 (of_z w128 c.least_altitude.result) ≡ c.least_altitude.result = omega (arith, ints, c.least_altitude.type_inv) in
     let greatest : to_z w128 (of_z w128 c.greatest_altitude.result) ≡ c.greatest_altitude.result = omega (arith, ints, c.greatest_altitude.type_inv) in
-    in_order _ _ _ _ (c.in_ok-least.ensures.value ∙ least ∙ c.least_altitude.ensures) (c.in_ok-greatest.ensures.value ∙ greatest ∙ c.greatest_altitude.ensures) order.0 c.in_ok-least.ensures.size c.in_ok-greatest.ensures.size
-
-pub new-requires-2 : goal.new-requires-2
-new-requires-2 c =
-    let area = c.args.area.now in
-    let order = ends_ordered (demand_in c.args.asked.now) (asked_can_be_met (demand_in c.args.asked.now) c.args.asked.now.within) (interval_of area.h) (interval_of area.v0) (interval_of area.v1) area.h.ordered area.v0.ordered area.v1.ordered in
-    in_order _ _ _ _ c.least_rate-slowest.ensures.value c.greatest_rate-fastest.ensures.value order.1 (omega (arith, c.least_rate-slowest.ensures.size)) (omega (arith, c.greatest_rate-fastest.ensures.size))
+    in_order _ _ _ _ (c.in_ok-least.ensures.value ∙ least ∙ c.least_altitude.ensures) (c.in_ok-greatest.ensures.value ∙ greatest ∙ c.greatest_altitude.ensures) order c.in_ok-least.ensures.size c.in_ok-greatest.ensures.size
