@@ -1,5 +1,5 @@
 //! The rules of a model's text, in their order.
-ghost use Rattle.std.specs.Prelude.{◌≡◌, ◌≤◌, ◌+◌, ◌*◌, length, map, IfOk};
+ghost use Rattle.std.specs.Prelude.{◌≡◌, ◌≤◌, ◌+◌, ◌*◌, length, map};
 ghost use Rattle.std.specs.List.{AllByRecursion};
 ghost use Rattle.toml.specs.View.{table_view};
 ghost use Rattle.acas_spec.specs.Model.{entries};

@@ -1,5 +1,5 @@
 //! The cells of an audit in order.
-ghost use Rattle.std.specs.Prelude.{◌≡◌, ◌+◌, ◌*◌, ◌<◌, ◌≤◌, ◌^◌, ℕ, [], ◌∷◌, OnOk, OnErr, IsErr, length};
+ghost use Rattle.std.specs.Prelude.{◌+◌, ◌*◌, ◌<◌, ◌≤◌, ◌^◌, [], ◌∷◌, OnOk, OnErr, IsErr};
 ghost use Rattle.acas_base.specs.Advices.{AreAdvicesOf};
 ghost use Rattle.acas_outside.specs.Frame.{Emits};
 ghost use Rattle.acas_cells.specs.Cells.{IsCellOf, block_cells, cells_of};
