@@ -48,12 +48,16 @@ impl TableCheck {
         ensures check { IfOk result (λ t. IsCheckOf model.now t 0 0) }
     {
         let states = model.grid().states() as usize;
+        let pairs = vec![in alloc; Pair { upper: 0, lower: 0 }; states]?;
+        let advice = vec![in alloc; 0u8; states]?;
+        let means = vec![in alloc; Pair { upper: 0, lower: 0 }; states]?;
+        let leasts = Leasts::new(alloc, model)?;
         Ok(TableCheck {
             reader,
-            pairs: vec![in alloc; Pair { upper: 0, lower: 0 }; states]?,
-            advice: vec![in alloc; 0u8; states]?,
-            means: vec![in alloc; Pair { upper: 0, lower: 0 }; states]?,
-            leasts: Leasts::new(alloc, model)?,
+            pairs,
+            advice,
+            means,
+            leasts,
         })
     }
 

@@ -50,7 +50,7 @@ waits_after m a n present advice b first second D old new block parts ruled wait
   each = λ i j k h.
       let in_block = parts.in_second i j k h in
       let stays = ruled.outside i j k (place_in_block old b i j k block in_block) (λ in_first. parts.apart i j k in_first h) in
-      ap (λ s. holds s advice) stays.1 ∙ waits.each i j k in_block;
+      ap (λ s. holds s.reported advice) stays ∙ waits.each i j k in_block;
 }
 
 -- ---- one number

@@ -4,7 +4,7 @@ use Rattle.std.proofs.lemmas.Bool.{cases_eq, cases_lt}
 use Rattle.acas_spec.specs.Model.{ModelData}
 use Rattle.acas_base.specs.Advices.{AdvicesData}
 use Rattle.acas_flight.specs.Contact.{IsEndangeredCell}
-use Rattle.acas_audit_blocks.specs.Audits.{AreListsOf, AreUndecided, BlockAuditData, HasLists, IsAuditOf, IsBlockIn, IsPlace, IsRuledIn, IsSorted, Waits, certified_at, danger, no_danger, not_asked, reported_at}
+use Rattle.acas_audit_blocks.specs.Audits.{AreSetsOf, AreUndecided, BlockAuditData, HasSets, IsAuditOf, IsBlockIn, IsPlace, IsRuledIn, IsSorted, Waits, certified_at, danger, no_danger, not_asked, reported_at}
 use Rattle.acas_cells.specs.Blocks.{IsBlockOf, IsInBlock, all_cells}
 use Rattle.acas_cells.specs.Cells.{cell_at}
 use Rattle.acas_cells.specs.Corners.{is_advised}
@@ -12,13 +12,13 @@ use Rattle.acas_cells.specs.DecisionCounts.{IsSumBelow, no_more, one_more}
 use Rattle.acas_audit_blocks.specs.Decisions.{AreDecisionsUnder, IsDecidedBy}
 use Rattle.acas_cells.specs.Sets.{holds}
 use Rattle.acas_cells.specs.declared.block.Block.{Block}
-use Rattle.acas_audit_blocks.proofs.Ruled.{place_in_block, resorted}
+use Rattle.acas_audit_blocks.proofs.Ruled.{earlier_place, place_in_block, resorted}
 
 -- ---- what is decided
 
 -- the advices below one are decided, and nothing of the others is
 pub record IsDecidedBelow (m : ModelData) (a : AdvicesData) (n present upto : ℕ) (audit : BlockAuditData) : Type 0 where
-  pub lists : HasLists audit
+  pub sets : HasSets audit
   pub done : (i j k advice : ℕ) → IsPlace audit i j k → advice < upto →
       IsSorted (IsEndangeredCell m n i j k advice) false (is_advised m a (cell_at n present i j k) advice) (holds (certified_at audit i j k) advice) (holds (reported_at audit i j k) advice)
   pub none : (i j k advice : ℕ) → IsPlace audit i j k → upto ≤ advice → holds (certified_at audit i j k) advice ≡ false
@@ -27,15 +27,15 @@ pub record IsDecidedBelow (m : ModelData) (a : AdvicesData) (n present upto : �
 -- clear of conflict is no advisory, so nothing is decided for it
 pub decided_at_first : (m : ModelData) (a : AdvicesData) (n present : ℕ) (audit : BlockAuditData) → AreUndecided m a n present audit → IsDecidedBelow m a n present 1 audit
 decided_at_first m a n present audit begun = record {
-  lists = begun.lists;
+  sets = begun.sets;
   done = by_advice;
-  none = λ i j k advice place above. begun.none i j k advice place;
-  tabled = λ i j k advice place above. begun.tabled i j k advice place;
+  none = λ i j k advice place above. (begun.each i j k place).none advice;
+  tabled = λ i j k advice place above. (begun.each i j k place).tabled advice;
 }
   where
     by_advice : (i j k advice : ℕ) → IsPlace audit i j k → advice < 1 →
         IsSorted (IsEndangeredCell m n i j k advice) false (is_advised m a (cell_at n present i j k) advice) (holds (certified_at audit i j k) advice) (holds (reported_at audit i j k) advice)
-    by_advice i j k zero place within = resorted false false false false _ _ _ _ refl refl (sym (begun.none i j k 0 place)) (sym (begun.tabled i j k 0 place)) (not_asked false)
+    by_advice i j k zero place within = resorted false false false false _ _ _ _ refl refl (sym ((begun.each i j k place).none 0)) (sym ((begun.each i j k place).tabled 0)) (not_asked false)
     by_advice i j k (suc other) place within = absurd (omega (arith, within))
 
 -- each cell of the audit is in the block of all cells
@@ -63,9 +63,9 @@ pub decided_next : (m : ModelData) (a : AdvicesData) (n present upto : ℕ) (old
     IsDecidedBelow m a n present upto old → IsRuledIn (λ i j k. IsEndangeredCell m n i j k upto) upto (all_cells m) old new →
     IsDecidedBelow m a n present (upto + 1) new
 decided_next m a n present upto old new of block before ruled = record {
-  lists = ruled.lists;
+  sets = ruled.sets;
   done = λ i j k advice place within.
-      let was = back i j k place in
+      let was = earlier_place old new i j k ruled.same place in
       elim (cases_eq advice upto) [
         | inl same ↦ subst (λ (x : ℕ). IsSorted (IsEndangeredCell m n i j k x) false (is_advised m a (cell_at n present i j k) x) (holds (certified_at new i j k) x) (holds (reported_at new i j k) x)) (sym same) (here i j k was)
         | inr other ↦
@@ -73,20 +73,13 @@ decided_next m a n present upto old new of block before ruled = record {
             resorted _ _ _ _ _ _ _ _ refl refl (sym stays.0) (sym stays.1) (before.done i j k advice was (omega (arith, within, other)))
       ];
   none = λ i j k advice place above.
-      let was = back i j k place in
+      let was = earlier_place old new i j k ruled.same place in
       (ruled.others i j k advice was (λ same. omega (arith, above, same))).0 ∙ before.none i j k advice was (omega (arith, above));
   tabled = λ i j k advice place above.
-      let was = back i j k place in
+      let was = earlier_place old new i j k ruled.same place in
       (ruled.others i j k advice was (λ same. omega (arith, above, same))).1 ∙ before.tabled i j k advice was (omega (arith, above));
 }
   where
-    back : (i j k : ℕ) → IsPlace new i j k → IsPlace old i j k
-    back i j k place = record {
-      altitude = omega (arith, place.altitude, ruled.same.altitudes);
-      own = omega (arith, place.own, ruled.same.own_rates);
-      intruder = omega (arith, place.intruder, ruled.same.intruder_rates);
-    }
-
     here : (i j k : ℕ) → IsPlace old i j k →
         IsSorted (IsEndangeredCell m n i j k upto) false (is_advised m a (cell_at n present i j k) upto) (holds (certified_at new i j k) upto) (holds (reported_at new i j k) upto)
     here i j k was =
@@ -117,10 +110,10 @@ sorted_tabled D _ _ _ (danger _ some) = refl
 or_false : (x y : Bool) → x ≡ false → (x || y) ≡ y
 or_false x y e = rw e refl
 
-pub exact_lists : (m : ModelData) (a : AdvicesData) (n present : ℕ) (audit : BlockAuditData) → IsAuditOf m audit →
-    IsDecidedBelow m a n present m.grid.advisories audit → AreListsOf m a n present audit
-exact_lists m a n present audit of decided = record {
-  lists = decided.lists;
+pub exact_sets : (m : ModelData) (a : AdvicesData) (n present : ℕ) (audit : BlockAuditData) → IsAuditOf m audit →
+    IsDecidedBelow m a n present m.grid.advisories audit → AreSetsOf m a n present audit
+exact_sets m a n present audit of decided = record {
+  sets = decided.sets;
   exact = λ i j k advice cell known.
       let place : IsPlace audit i j k = record { altitude = omega (arith, cell.i, of.altitudes); own = omega (arith, cell.j, of.own_rates); intruder = omega (arith, cell.k, of.intruder_rates) } in
       let both = sorted_exact _ _ _ _ (decided.done i j k advice place known) in

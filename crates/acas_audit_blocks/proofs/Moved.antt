@@ -1,61 +1,45 @@
--- How the lists of a block audit change while an advice is taken over row by row.
+-- How the sets of a block audit change while an advice is taken over row by row.
 use Rattle.std.proofs.Common.{◌≡◌, ℕ, ◌+◌, ◌-◌, ◌<◌, ◌≤◌, ◌⊎◌, inl, inr, List, length, get_or, set, refl, sym, ◌∙◌, ap, subst, arith}
 use Rattle.std.proofs.lemmas.Bool.{cases_eq, cases_lt}
 use Rattle.std.proofs.lemmas.List.{get_or-set_other, get_or-set_same, length-set}
-use Rattle.acas_audit_blocks.specs.Audits.{AreMoved, BlockAuditData, HasLists, HaveSameCells, IsBlockIn, IsMoved, IsPlace, IsRuledIn, cell_count, no_advice, place_of, plane_of, row_of}
+use Rattle.acas_audit_blocks.specs.Audits.{AreMoved, BlockAuditData, HasSets, HaveSameCells, IsBlockIn, IsMoved, IsPlace, IsRuledIn, IsSortedIn, StaysIn, no_sets, place_of, plane_of, row_of, sets_at}
 use Rattle.acas_cells.specs.Blocks.{IsInBlock}
-use Rattle.acas_cells.specs.Sets.{holds}
 use Rattle.acas_cells.specs.declared.block.Block.{Block}
-use Rattle.acas_cells.specs.declared.set.AdviceSet.{AdviceSet}
+use Rattle.acas_audit_blocks.specs.declared.block_audit.CellSets.{CellSets}
 use Rattle.acas_audit_blocks.proofs.Rows.{place_in_row}
-use Rattle.acas_audit_blocks.proofs.Ruled.{one_place, resorted, ruled_joined, ruled_kept, same_count}
+use Rattle.acas_audit_blocks.proofs.Ruled.{count_of_same, one_place, place_of_same, ruled_joined, ruled_kept}
 
 -- ---- lists
 
 -- nothing is moved at no place
-pub moved_none : (advice start end : ℕ) (certified reported : List AdviceSet) → end ≤ start → AreMoved advice start end certified reported certified reported
-moved_none advice start end certified reported none = record {
-  certified_long = refl;
-  reported_long = refl;
+pub moved_none : (advice start end : ℕ) (list : List CellSets) → end ≤ start → AreMoved advice start end list list
+moved_none advice start end list none = record {
+  long = refl;
   inside = λ place from before. absurd (omega (arith, none, from, before));
-  outside = λ place apart. (refl, refl);
+  outside = λ place apart. refl;
 }
 
 -- one place more
-pub moved_next : (advice start place : ℕ) (certified reported certified' reported' : List AdviceSet) (c r : AdviceSet) → start ≤ place →
-    place < length certified → place < length reported → AreMoved advice start place certified reported certified' reported' →
-    IsMoved advice (get_or certified' place no_advice) (get_or reported' place no_advice) c r →
-    AreMoved advice start (place + 1) certified reported (set certified' place c) (set reported' place r)
-moved_next advice start place certified reported certified' reported' c r from in_first in_second before moved = record {
-  certified_long = length-set certified' place c ∙ before.certified_long;
-  reported_long = length-set reported' place r ∙ before.reported_long;
-  inside = λ p after within.
+pub moved_next : (advice start place : ℕ) (old middle : List CellSets) (sets : CellSets) → start ≤ place → place < length old → AreMoved advice start place old middle →
+    IsMoved advice (get_or middle place no_sets) sets → AreMoved advice start (place + 1) old (set middle place sets)
+moved_next advice start place old middle sets from within before moved = record {
+  long = length-set middle place sets ∙ before.long;
+  inside = λ p after below.
       elim (cases_eq p place) [
-        | inl same ↦
-            let stays = before.outside place (λ h. absurd (omega (arith, h.1))) in
-            subst (λ (x : ℕ). IsMoved advice (get_or certified x no_advice) (get_or reported x no_advice) (get_or (set certified' place c) x no_advice) (get_or (set reported' place r) x no_advice)) (sym same)
-            (both_sets stays.0 stays.1
-            (sym (get_or-set_same certified' place c no_advice (omega (arith, in_first, before.certified_long))))
-            (sym (get_or-set_same reported' place r no_advice (omega (arith, in_second, before.reported_long)))) moved)
+        | inl same ↦ subst (λ (x : ℕ). IsMoved advice (get_or old x no_sets) (get_or (set middle place sets) x no_sets)) (sym same) here
         | inr other ↦
-            both_sets refl refl (sym (get_or-set_other certified' place p c no_advice other)) (sym (get_or-set_other reported' place p r no_advice other))
-            (before.inside p after (omega (arith, within, other)))
+            subst (λ (s : CellSets). IsMoved advice (get_or old p no_sets) s) (sym (get_or-set_other middle place p sets no_sets other))
+            (before.inside p after (omega (arith, below, other)))
       ];
   outside = λ p apart.
-      let other : ¬ (p ≡ place) = λ same. apart (omega (arith, same, from), omega (arith, same)) in
-      let stays = before.outside p (λ h. apart (h.0, omega (arith, h.1))) in
-      (get_or-set_other certified' place p c no_advice other ∙ stays.0, get_or-set_other reported' place p r no_advice other ∙ stays.1);
+      get_or-set_other middle place p sets no_sets (λ same. apart (omega (arith, same, from), omega (arith, same)))
+      ∙ before.outside p (λ h. apart (h.0, omega (arith, h.1)));
 }
   where
-    both_sets : {x y x' y' p q p' q' : AdviceSet} → x ≡ p → y ≡ q → x' ≡ p' → y' ≡ q' → IsMoved advice x y x' y' → IsMoved advice p q p' q'
-    both_sets {p = p} {q = q} e f g h m = record {
-      sorted = resorted _ _ _ _ _ _ _ _ (ap (λ (s : AdviceSet). holds s advice) e) (ap (λ (s : AdviceSet). holds s advice) f) (ap (λ (s : AdviceSet). holds s advice) g) (ap (λ (s : AdviceSet). holds s advice) h) m.sorted;
-      others = λ other apart.
-          let stay = m.others other apart in (
-            ap (λ (s : AdviceSet). holds s other) (sym g) ∙ stay.0 ∙ ap (λ (s : AdviceSet). holds s other) e,
-            ap (λ (s : AdviceSet). holds s other) (sym h) ∙ stay.1 ∙ ap (λ (s : AdviceSet). holds s other) f,
-          );
-    }
+    here : IsMoved advice (get_or old place no_sets) (get_or (set middle place sets) place no_sets)
+    here =
+        subst (λ (s : CellSets). IsMoved advice (get_or old place no_sets) s) (sym (get_or-set_same middle place sets no_sets (omega (arith, within, before.long))))
+        (subst (λ (s : CellSets). IsMoved advice s sets) (before.outside place (λ h. absurd (omega (arith, h.1)))) moved)
 
 -- ---- a row of a block
 
@@ -68,50 +52,25 @@ is_within start end p =
     ]
 
 -- an advice that is taken over in the sets of a row is decided for the row
-pub ruled_row : (advice : ℕ) (b : Block) (i j start end : ℕ) (old new : BlockAuditData) → HasLists old → IsBlockIn old b → b.i0 ≤ i → i < b.i1 → b.j0 ≤ j → j < b.j1 →
+pub ruled_row : (advice : ℕ) (b : Block) (i j start end : ℕ) (old new : BlockAuditData) → HasSets old → IsBlockIn old b → b.i0 ≤ i → i < b.i1 → b.j0 ≤ j → j < b.j1 →
     start ≡ place_of old i j b.k0 → end ≡ start + (b.k1 - b.k0) → HaveSameCells old new →
-    AreMoved advice start end old.certified old.reported new.certified new.reported → IsRuledIn (λ i j k. ⊥) advice (row_of b i j) old new
-ruled_row advice b i j start end old new lists block from_i before_i from_j before_j first last same moved = record {
+    AreMoved advice start end old.sets new.sets → IsRuledIn (λ i j k. ⊥) advice (row_of b i j) old new
+ruled_row advice b i j start end old new sets block from_i before_i from_j before_j first last same moved = record {
   same = same;
-  lists = record {
-    certified = moved.certified_long ∙ lists.certified ∙ count;
-    reported = moved.reported_long ∙ lists.reported ∙ count;
-  };
+  sets = moved.long ∙ sets ∙ sym (count_of_same old new same);
   inside = λ x y k h.
       let here = in_row x y k h in
-      resorted _ _ _ _ _ _ _ _ refl refl
-      (ap (λ (s : AdviceSet). holds s advice) (sym (first_at x y k)))
-      (ap (λ (s : AdviceSet). holds s advice) (sym (second_at x y k)))
-      (moved.inside (place_of old x y k) here.0 here.1).sorted;
-  outside = λ x y k place not_in.
-      let stays = moved.outside (place_of old x y k) (λ h. not_in (of_row x y k place h.0 h.1)) in
-      (first_at x y k ∙ stays.0, second_at x y k ∙ stays.1);
+      subst (λ (s : CellSets). IsSortedIn ⊥ advice (sets_at old x y k) s) (sym (new_at x y k)) (moved.inside (place_of old x y k) here.0 here.1).sorted;
+  outside = λ x y k place not_in. new_at x y k ∙ moved.outside (place_of old x y k) (λ h. not_in (of_row x y k place h.0 h.1));
   others = λ x y k other place apart.
       elim (is_within start end (place_of old x y k)) [
-        | inl h ↦
-            let stay = (moved.inside (place_of old x y k) h.0 h.1).others other apart in (
-              ap (λ (s : AdviceSet). holds s other) (first_at x y k) ∙ stay.0,
-              ap (λ (s : AdviceSet). holds s other) (second_at x y k) ∙ stay.1,
-            )
-        | inr out ↦
-            let stays = moved.outside (place_of old x y k) out in (
-              ap (λ (s : AdviceSet). holds s other) (first_at x y k ∙ stays.0),
-              ap (λ (s : AdviceSet). holds s other) (second_at x y k ∙ stays.1),
-            )
+        | inl h ↦ subst (λ (s : CellSets). StaysIn other (sets_at old x y k) s) (sym (new_at x y k)) ((moved.inside (place_of old x y k) h.0 h.1).others other apart)
+        | inr out ↦ subst (λ (s : CellSets). StaysIn other (sets_at old x y k) s) (sym (new_at x y k ∙ moved.outside (place_of old x y k) out)) (refl, refl)
       ];
 }
   where
-    count : cell_count old ≡ cell_count new
-    count = sym (same_count _ _ _ _ _ _ same.altitudes same.own_rates same.intruder_rates)
-
-    place_same : (x y k : ℕ) → place_of new x y k ≡ place_of old x y k
-    place_same x y k = rw (same.own_rates, same.intruder_rates) refl
-
-    first_at : (x y k : ℕ) → get_or new.certified (place_of new x y k) no_advice ≡ get_or new.certified (place_of old x y k) no_advice
-    first_at x y k = ap (λ (p : ℕ). get_or new.certified p no_advice) (place_same x y k)
-
-    second_at : (x y k : ℕ) → get_or new.reported (place_of new x y k) no_advice ≡ get_or new.reported (place_of old x y k) no_advice
-    second_at x y k = ap (λ (p : ℕ). get_or new.reported p no_advice) (place_same x y k)
+    new_at : (x y k : ℕ) → sets_at new x y k ≡ get_or new.sets (place_of old x y k) no_sets
+    new_at x y k = ap (λ (p : ℕ). get_or new.sets p no_sets) (place_of_same old new x y k same)
 
     in_row : (x y k : ℕ) → IsInBlock (row_of b i j) x y k → (start ≤ place_of old x y k) × (place_of old x y k < end)
     in_row x y k h =
@@ -139,8 +98,8 @@ ruled_row advice b i j start end old new lists block from_i before_i from_j befo
 -- ---- blocks, plane by plane and row by row
 
 -- an advice is decided for a block with no cell
-pub ruled_nothing : (advice : ℕ) (b : Block) (old : BlockAuditData) → HasLists old → ((i j k : ℕ) → ¬ IsInBlock b i j k) → IsRuledIn (λ i j k. ⊥) advice b old old
-ruled_nothing advice b old lists none = ruled_kept (λ i j k. ⊥) advice b old lists (λ i j k h e. none i j k h)
+pub ruled_nothing : (advice : ℕ) (b : Block) (old : BlockAuditData) → HasSets old → ((i j k : ℕ) → ¬ IsInBlock b i j k) → IsRuledIn (λ i j k. ⊥) advice b old old
+ruled_nothing advice b old sets none = ruled_kept (λ i j k. ⊥) advice b old sets (λ i j k h e. none i j k h)
 
 -- the cells up to a place on the axis of altitude, and those at it
 pub ruled_next_plane : (advice : ℕ) (b : Block) (i : ℕ) (old middle new : BlockAuditData) → IsBlockIn old b → b.i0 ≤ i → i < b.i1 →

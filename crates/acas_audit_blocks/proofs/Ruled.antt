@@ -1,11 +1,12 @@
--- How the lists of a block audit change while an advice is decided.
+-- How the sets of a block audit change while an advice is decided.
 use Rattle.std.proofs.Common.{◌≡◌, ℕ, ◌+◌, ◌*◌, ◌<◌, ◌⊎◌, inl, inr, ◌==◌, ◌&&◌, ◌||◌, not, Bool, true, false, refl, sym, ◌∙◌, ap, subst, arith}
 use Rattle.std.proofs.lemmas.Bool.Decides.{nat_tests}
 use Rattle.std.proofs.lemmas.Nat.{mul-add-lt, same_from_place}
 use Rattle.acas_spec.specs.Model.{ModelData}
 use Rattle.acas_flight.specs.Contact.{IsEndangeredCell}
-use Rattle.acas_audit_blocks.specs.Audits.{BlockAuditData, HasLists, HaveSameCells, IsBlockIn, IsMoved, IsPlace, IsRuledIn, IsSorted, cell_count, certified_at, danger, no_danger, not_asked, place_of, reported_at}
+use Rattle.acas_audit_blocks.specs.Audits.{BlockAuditData, HasSets, HaveSameCells, IsBlockIn, IsMoved, IsPlace, IsRuledIn, IsSorted, IsSortedIn, cell_count, certified_at, danger, no_danger, not_asked, place_of, reported_at, sets_at}
 use Rattle.acas_audit_blocks.specs.BlockStates.{IsEndangeredBlock}
+use Rattle.acas_audit_blocks.specs.declared.block_audit.CellSets.{CellSets}
 use Rattle.acas_cells.specs.Blocks.{IsInBlock, altitudes, intruder_rates, is_one_cell, own_rates}
 use Rattle.acas_cells.specs.Sets.{holds}
 use Rattle.acas_cells.specs.declared.block.Block.{Block}
@@ -46,12 +47,29 @@ place_in_block a b i j k block inside = record {
   intruder = omega (arith, block.k, inside.before_k);
 }
 
+-- a place of an audit is one of an audit with the same numbers of cells
 pub same_place : (old new : BlockAuditData) (i j k : ℕ) → HaveSameCells old new → IsPlace old i j k → IsPlace new i j k
 same_place old new i j k same place = record {
   altitude = omega (arith, place.altitude, same.altitudes);
   own = omega (arith, place.own, same.own_rates);
   intruder = omega (arith, place.intruder, same.intruder_rates);
 }
+
+-- and the other way round
+pub earlier_place : (old new : BlockAuditData) (i j k : ℕ) → HaveSameCells old new → IsPlace new i j k → IsPlace old i j k
+earlier_place old new i j k same place = record {
+  altitude = omega (arith, place.altitude, same.altitudes);
+  own = omega (arith, place.own, same.own_rates);
+  intruder = omega (arith, place.intruder, same.intruder_rates);
+}
+
+-- there are as many cells as there were
+pub count_of_same : (old new : BlockAuditData) → HaveSameCells old new → cell_count new ≡ cell_count old
+count_of_same old new same = rw (same.altitudes, same.own_rates, same.intruder_rates) refl
+
+-- a cell's sets stand where they stood
+pub place_of_same : (old new : BlockAuditData) (i j k : ℕ) → HaveSameCells old new → place_of new i j k ≡ place_of old i j k
+place_of_same old new i j k same = rw (same.own_rates, same.intruder_rates) refl
 
 pub place_within : (a : BlockAuditData) (i j k : ℕ) → IsPlace a i j k → place_of a i j k < cell_count a
 place_within a i j k place =
@@ -60,17 +78,13 @@ place_within a i j k place =
     mul-add-lt (i * a.own_rates + j) a.intruder_rates k (a.own_rates * a.altitudes) row place.intruder in
     omega (arith, whole)
 
--- two cells at one place of the lists are one
+-- two cells at one place of the list are one
 pub one_place : (a : BlockAuditData) (i j k i' j' k' : ℕ) → IsPlace a i j k → IsPlace a i' j' k' → place_of a i j k ≡ place_of a i' j' k' →
     (i ≡ i') × (j ≡ j') × (k ≡ k')
 one_place a i j k i' j' k' here there same =
     let rows = same_from_place (i * a.own_rates + j) k (i' * a.own_rates + j') k' a.intruder_rates here.intruder there.intruder same in
     let columns = same_from_place i j i' j' a.own_rates here.own there.own rows.0 in
     (columns.0, columns.1, rows.1)
-
--- as many cells where there are as many along each axis
-pub same_count : (x y z p q r : ℕ) → x ≡ p → y ≡ q → z ≡ r → x * y * z ≡ p * q * r
-same_count x y z p q r e f g = rw (e, f, g) refl
 
 -- ---- blocks
 
@@ -91,22 +105,20 @@ ruled_joined D advice b first second old middle new within parts before after = 
     own_rates = after.same.own_rates ∙ before.same.own_rates;
     intruder_rates = after.same.intruder_rates ∙ before.same.intruder_rates;
   };
-  lists = after.lists;
+  sets = after.sets;
   inside = λ i j k h.
       let place = within i j k h in
-      let later = same_place old middle i j k before.same place in
       elim (parts.either i j k h) [
         | inl in_first ↦
-            let stays = after.outside i j k later (parts.apart i j k in_first) in
-            resorted _ _ _ _ _ _ _ _ refl refl (ap (λ (s : AdviceSet). holds s advice) (sym stays.0)) (ap (λ (s : AdviceSet). holds s advice) (sym stays.1)) (before.inside i j k in_first)
+            let stays = after.outside i j k (same_place old middle i j k before.same place) (parts.apart i j k in_first) in
+            subst (λ (s : CellSets). IsSortedIn (D i j k) advice (sets_at old i j k) s) (sym stays) (before.inside i j k in_first)
         | inr in_second ↦
             let stays = before.outside i j k place (λ in_first. parts.apart i j k in_first in_second) in
-            resorted _ _ _ _ _ _ _ _ (ap (λ (s : AdviceSet). holds s advice) stays.0) (ap (λ (s : AdviceSet). holds s advice) stays.1) refl refl (after.inside i j k in_second)
+            subst (λ (s : CellSets). IsSortedIn (D i j k) advice s (sets_at new i j k)) stays (after.inside i j k in_second)
       ];
   outside = λ i j k place not_in.
-      let first_stays = before.outside i j k place (λ h. not_in (parts.in_first i j k h)) in
-      let second_stays = after.outside i j k (same_place old middle i j k before.same place) (λ h. not_in (parts.in_second i j k h)) in
-      (second_stays.0 ∙ first_stays.0, second_stays.1 ∙ first_stays.1);
+      after.outside i j k (same_place old middle i j k before.same place) (λ h. not_in (parts.in_second i j k h))
+      ∙ before.outside i j k place (λ h. not_in (parts.in_first i j k h));
   others = λ i j k other place apart.
       let first_stays = before.others i j k other place apart in
       let second_stays = after.others i j k other (same_place old middle i j k before.same place) apart in
@@ -126,20 +138,20 @@ pub ruled_safe : (D : ℕ → ℕ → ℕ → Type 0) (advice : ℕ) (b : Block)
     IsRuledIn (λ i j k. ⊥) advice b old new → IsRuledIn D advice b old new
 ruled_safe D advice b old new none ruled = record {
   same = ruled.same;
-  lists = ruled.lists;
+  sets = ruled.sets;
   inside = λ i j k h. safe _ _ _ _ (none i j k h) (ruled.inside i j k h);
   outside = ruled.outside;
   others = ruled.others;
 }
 
 -- an advice that stays is decided where each cell in which it waits is in danger
-pub ruled_kept : (D : ℕ → ℕ → ℕ → Type 0) (advice : ℕ) (b : Block) (old : BlockAuditData) → HasLists old →
+pub ruled_kept : (D : ℕ → ℕ → ℕ → Type 0) (advice : ℕ) (b : Block) (old : BlockAuditData) → HasSets old →
     ((i j k : ℕ) → IsInBlock b i j k → holds (reported_at old i j k) advice ≡ true → D i j k) → IsRuledIn D advice b old old
-ruled_kept D advice b old lists in_danger = record {
+ruled_kept D advice b old sets in_danger = record {
   same = record { altitudes = refl; own_rates = refl; intruder_rates = refl };
-  lists = lists;
+  sets = sets;
   inside = λ i j k h. kept (holds (certified_at old i j k) advice) (holds (reported_at old i j k) advice) (in_danger i j k h);
-  outside = λ i j k place not_in. (refl, refl);
+  outside = λ i j k place not_in. refl;
   others = λ i j k other place apart. (refl, refl);
 }
 
@@ -172,9 +184,10 @@ other_not : (b y : Bool) → b ≡ false → (not b && y) ≡ y
 other_not b y e = rw e refl
 
 -- the sets with the advice taken over, where it is there
-pub moved_over : (advice : ℕ) (c r there c' r' : AdviceSet) → ((a : ℕ) → holds there a ≡ (a == advice && holds r a)) →
-    ((a : ℕ) → holds c' a ≡ (holds c a || holds there a)) → ((a : ℕ) → holds r' a ≡ (not (a == advice) && holds r a)) → IsMoved advice c r c' r'
-moved_over advice c r there c' r' only more less = record {
+pub moved_over : (advice : ℕ) (old new : CellSets) (there : AdviceSet) → ((a : ℕ) → holds there a ≡ (a == advice && holds old.reported a)) →
+    ((a : ℕ) → holds new.certified a ≡ (holds old.certified a || holds there a)) → ((a : ℕ) → holds new.reported a ≡ (not (a == advice) && holds old.reported a)) →
+    IsMoved advice old new
+moved_over advice old new there only more less = record {
   sorted = resorted (holds c advice) (holds r advice) _ _ _ _ _ _ refl refl
       (sym (more advice ∙ ap (λ x. holds c advice || x) (only advice) ∙ here_or (advice == advice) (holds c advice) (holds r advice) (same_is advice)))
       (sym (less advice ∙ here_not (advice == advice) (holds r advice) (same_is advice)))
@@ -184,6 +197,12 @@ moved_over advice c r there c' r' only more less = record {
     less other ∙ other_not (other == advice) (holds r other) (other_is other advice apart),
   );
 }
+  where
+    c : AdviceSet
+    c = old.certified
+
+    r : AdviceSet
+    r = old.reported
 
 -- ---- one cell
 

@@ -1,6 +1,6 @@
 //! The audit of many cells at once.
 ghost use Rattle.std.specs.Prelude.{◌≡◌, ◌+◌, ◌<◌, [], IfOk};
-ghost use Rattle.acas_audit_blocks.specs.Audits.{HasLists, IsAuditOf, IsPlace, certified_at, place_of, cell_count, reported_at};
+ghost use Rattle.acas_audit_blocks.specs.Audits.{HasSets, IsAuditOf, IsPlace, cell_count, place_of, sets_at};
 
 use acas_base::Model;
 use acas_cells::AdviceSet;
@@ -8,22 +8,21 @@ use std::alloc::{AllocError, Global};
 
 /// The advices other than clear of conflict that are tabled at the corners of a cell: those under which it is not endangered, and those
 /// under which it is.
-#[derive(Clone, Copy)]
+#[derive(Clone, Copy, Debug)]
 pub struct CellSets {
     pub certified: AdviceSet,
     pub reported: AdviceSet,
 }
 
 /// For the cells of n seconds and a present advisory, which advices each is certified under and which it is reported under. Contracts
-/// see the numbers of cells on the axes of altitude, own rate and intruder rate, and two lists with a set of advices for each cell,
-/// both empty until the cells are decided.
+/// see the numbers of cells on the axes of altitude, own rate and intruder rate, and a list with the two sets of each cell, which is
+/// empty until the cells are decided.
 #[derive(Debug, Drop)]
 pub struct BlockAudit {
     pub(crate) altitudes: u32,
     pub(crate) own_rates: u32,
     pub(crate) intruder_rates: u32,
-    pub(crate) certified: Vec<AdviceSet>,
-    pub(crate) reported: Vec<AdviceSet>,
+    pub(crate) sets: Vec<CellSets>,
 }
 
 impl std::marker::Model for BlockAudit {
@@ -40,22 +39,19 @@ impl BlockAudit {
     /// An audit in which no cell is decided. Only this call takes memory: four bytes for each cell of one n and present advisory.
     pub fn make(alloc: Global, model: &Model) -> Result<BlockAudit, AllocError>
         ensures cells { IfOk result (λ audit. IsAuditOf model.now audit) }
-        ensures certified { IfOk result (λ audit. audit.certified ≡ []) }
-        ensures reported { IfOk result (λ audit. audit.reported ≡ []) }
+        ensures sets { IfOk result (λ audit. audit.sets ≡ []) }
     {
         let grid = model.grid();
         let altitudes = grid.h.len() - 1;
         let own_rates = grid.v0.len() - 1;
         let intruder_rates = grid.v1.len() - 1;
         let cells = (altitudes * own_rates * intruder_rates) as usize;
-        let certified = Vec::with_capacity(alloc, cells)?;
-        let reported = Vec::with_capacity(alloc, cells)?;
+        let sets = Vec::with_capacity(alloc, cells)?;
         Ok(BlockAudit {
             altitudes,
             own_rates,
             intruder_rates,
-            certified,
-            reported,
+            sets,
         })
     }
 
@@ -66,7 +62,7 @@ impl BlockAudit {
         self.altitudes * self.own_rates * self.intruder_rates
     }
 
-    // Where the sets of a cell stand in the lists.
+    // Where the sets of a cell stand in the list.
     pub(crate) fn place_of(&self, i: u32, j: u32, k: u32) -> usize
         requires { IsPlace self.now i j k }
         ensures value { result ≡ place_of self.now i j k }
@@ -77,15 +73,10 @@ impl BlockAudit {
 
     /// The sets of a cell. The cells were decided, and the cell is one of them.
     pub fn sets(&self, i: u32, j: u32, k: u32) -> CellSets
-        requires lists { HasLists self.now }
+        requires sets { HasSets self.now }
         requires place { IsPlace self.now i j k }
-        ensures certified { result.certified ≡ certified_at self.now i j k }
-        ensures reported { result.reported ≡ reported_at self.now i j k }
+        ensures { result ≡ sets_at self.now i j k }
     {
-        let place = self.place_of(i, j, k);
-        CellSets {
-            certified: self.certified[place],
-            reported: self.reported[place],
-        }
+        self.sets[self.place_of(i, j, k)]
     }
 }

@@ -5,7 +5,7 @@ ghost use Rattle.acas_flight.specs.Contact.{IsEndangeredCell};
 ghost use Rattle.acas_cells.specs.Blocks.{IsBlockOf, cells_in};
 ghost use Rattle.acas_cells.specs.DecisionCounts.{most_decisions};
 ghost use Rattle.acas_audit_blocks.specs.Decisions.{AreDecisionsOf, IsDecidedBy};
-ghost use Rattle.acas_audit_blocks.specs.Audits.{AreListsOf, HasLists, IsAuditOf, IsRuledIn, Waits};
+ghost use Rattle.acas_audit_blocks.specs.Audits.{AreSetsOf, HasSets, IsAuditOf, IsRuledIn, Waits};
 
 use crate::block_audit::BlockAudit;
 use crate::clear::block_clear;
@@ -30,7 +30,7 @@ impl BlockAudit {
         requires present { present < model.now.grid.advisories }
         requires room { count.old + most_decisions model.now < 2 ^ 64 }
         ensures audit { IsAuditOf model.now self.new }
-        ensures lists { AreListsOf model.now advices.now n present self.new }
+        ensures sets { AreSetsOf model.now advices.now n present self.new }
         ensures counted { (number : ℕ) × AreDecisionsOf model.now advices.now n present number
             × (count.new ≡ count.old + number) }
         ensures most { count.new ≤ count.old + most_decisions model.now }
@@ -53,7 +53,7 @@ impl BlockAudit {
         count: &mut Decisions,
     )
         requires audit { IsAuditOf model.now self.old }
-        requires lists { HasLists self.old }
+        requires sets { HasSets self.old }
         requires n { n < model.now.grid.horizon }
         requires some { 0 < advice }
         requires advice { advice < model.now.grid.advisories }

@@ -3,7 +3,7 @@ ghost use Rattle.std.specs.Prelude.{◌≡◌, ℕ, ◌+◌, ◌<◌, ◌≤◌,
 ghost use Rattle.acas_units.specs.declared.limits.TheConstants.{GREATEST_ADVISORIES};
 ghost use Rattle.acas_cells.specs.Blocks.{IsInBlock};
 ghost use Rattle.acas_cells.specs.Sets.{holds};
-ghost use Rattle.acas_audit_blocks.specs.Audits.{HasLists, IsBlockIn, cell_count, no_advice, reported_at};
+ghost use Rattle.acas_audit_blocks.specs.Audits.{HasSets, IsBlockIn, cell_count, no_sets, reported_at};
 
 use crate::block_audit::BlockAudit;
 use acas_cells::Block;
@@ -11,7 +11,7 @@ use acas_cells::Block;
 impl BlockAudit {
     // Whether an advice waits in the second set of some cell of a block.
     pub(crate) fn waits(&self, advice: u8, block: &Block) -> bool
-        requires lists { HasLists self.now }
+        requires sets { HasSets self.now }
         requires block { IsBlockIn self.now block.now }
         requires advice { advice < GREATEST_ADVISORIES }
         ensures some { result ≡ true
@@ -30,7 +30,7 @@ impl BlockAudit {
 
     // Whether it waits in some of the cells that are at one place on the axis of altitude.
     fn waits_at(&self, advice: u8, block: &Block, i: u32) -> bool
-        requires lists { HasLists self.now }
+        requires sets { HasSets self.now }
         requires block { IsBlockIn self.now block.now }
         requires from { block.now.i0 ≤ i }
         requires before { i < block.now.i1 }
@@ -49,19 +49,19 @@ impl BlockAudit {
         false
     }
 
-    // Whether it waits in one of so many sets that stand one behind the other.
+    // Whether it waits in one of so many cells, whose sets stand one behind the other.
     fn waits_in_row(&self, advice: u8, start: usize, count: u32) -> bool
-        requires lists { HasLists self.now }
+        requires sets { HasSets self.now }
         requires within { start + count ≤ cell_count self.now }
         ensures some { result ≡ true → (place : ℕ) × (start ≤ place) × (place < start + count)
-            × (holds (get_or self.now.reported place no_advice) advice ≡ true) }
+            × (holds (get_or self.now.sets place no_sets).reported advice ≡ true) }
         ensures none { result ≡ false → (place : ℕ) → start ≤ place → place < start + count
-            → holds (get_or self.now.reported place no_advice) advice ≡ false }
+            → holds (get_or self.now.sets place no_sets).reported advice ≡ false }
     {
         // Opens the number of cells, which fits.
         let _cells = self.cell_count();
         for place in start..start + count as usize {
-            if self.reported[place].has(advice) {
+            if self.sets[place].reported.has(advice) {
                 return true;
             }
         }

@@ -8,7 +8,7 @@ mod names;
 mod numbers;
 mod weights;
 
-pub use acas_spec::{Advisory, Choice, Name, SigmaPoint};
+pub use acas_spec::{Advisory, Choice, SigmaPoint, Text};
 pub use advices::Advices;
 pub use model::Model;
 pub use names::position_of;

@@ -71,6 +71,11 @@ pub fault_by_means-is : (m : ModelData) (t : Table) (n p : ℕ) (x : Vertex) (e 
 fault_by_means-is m t zero p x e upper lower valid known is are = rw (is.upper, is.lower) refl
 fault_by_means-is m t (suc n) p x e upper lower valid known is are = choice_fault-is m t n p x e upper lower valid known is are
 
+-- with a second to go it is that of a choice
+pub fault_by_means-later : (m : ModelData) (n p : ℕ) (x : Vertex) (e : Entry) (upper lower : ℕ → ℤ) → ¬ (n ≡ 0) → choice_fault m upper lower p e ≡ fault_by_means m upper lower n p x e
+fault_by_means-later m zero p x e upper lower later = absurd (later refl)
+fault_by_means-later m (suc n) p x e upper lower later = refl
+
 -- what follows of the layer below, where there is one
 pub OfBelow-map : (P Q : ℕ → Type 0) (n : ℕ) → ((k : ℕ) → P k → Q k) → OfBelow P n → OfBelow Q n
 OfBelow-map P Q zero f h = tt

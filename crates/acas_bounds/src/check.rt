@@ -1,18 +1,15 @@
 //! The check of one entry.
-ghost use Rattle.std.specs.Prelude.{◌≡◌, ◌<◌, ◌+ℤ◌, OnOk, length};
-ghost use Rattle.acas_spec.specs.Model.{choices_at, states, vertices};
+ghost use Rattle.std.specs.Prelude.{◌≡◌, ◌<◌, OnOk, length};
+ghost use Rattle.acas_spec.specs.Model.{states, vertices};
 ghost use Rattle.acas_spec.specs.Table.{Table};
 ghost use Rattle.acas_grid.specs.States as numbers;
-ghost use Rattle.acas_process.specs.Values.{millionths};
-ghost use Rattle.acas_process.specs.Compiled.{least};
 ghost use Rattle.acas_process.specs.Cost.{MayChoose};
-ghost use Rattle.acas_means.specs.Choices.{value_by_mean};
 ghost use Rattle.acas_means.specs.Entries.{IsEntryOf};
 ghost use Rattle.acas_means.specs.Layer.{value_at};
 ghost use Rattle.acas_means.specs.Means.{AreMeansOf};
 ghost use Rattle.acas_means.specs.declared.layer.Side.TheVariants.{Upper, Lower};
 ghost use Rattle.acas_bounds.specs.Checks.{OfBelow, AnswersFault};
-ghost use Rattle.acas_bounds.specs.Means.{AreOfLayer, HasMeans, answer_of, choice_fault, ending_fault, fault_by_means, lower_below, upper_below};
+ghost use Rattle.acas_bounds.specs.Means.{AreOfLayer, HasMeans, answer_of, ending_fault, fault_by_means, lower_below, upper_below};
 ghost use Rattle.acas_bounds.specs.Sound.{bound_fault, values_fault};
 
 use crate::below::{Below, means_under};
@@ -61,57 +58,6 @@ fn check_ending(model: &Model, vertex: u32, pair: Pair) -> Result<(), BoundFault
     check_values(pair, limits)
 }
 
-// The limits of the values at a vertex by the layer below, where an advice is known at this cost: the upper value of the advice, and
-// the least lower value of the choices.
-fn limits_by_choice(
-    model: &Model,
-    present: u8,
-    vertex: u32,
-    advice: u8,
-    cost: i64,
-    below: Below<'_>,
-) -> Limits
-    requires present { present < model.now.grid.advisories }
-    requires vertex { vertex < vertices model.now.grid }
-    requires advice { advice < model.now.grid.advisories }
-    requires below { HasMeans model.now below }
-    ensures needed { let x = numbers.vertex_at model.now.grid vertex in
-        result.needed ≡ upper_below model.now below.entry x advice +ℤ millionths cost }
-    ensures allowed { let lower = lower_below model.now below.entry
-        (numbers.vertex_at model.now.grid vertex) in
-        result.allowed ≡ least (value_by_mean model.now present lower) (choices_at model.now present) }
-{
-    Limits {
-        needed: with_cost(means_under(model, vertex, advice, below).upper, cost),
-        allowed: least_lower(model, present, vertex, below),
-    }
-}
-
-// The check of an entry with a second to go.
-fn check_choice(
-    model: &Model,
-    present: u8,
-    vertex: u32,
-    entry: &Entry,
-    below: Below<'_>,
-) -> Result<(), BoundFault>
-    requires present { present < model.now.grid.advisories }
-    requires vertex { vertex < vertices model.now.grid }
-    requires below { HasMeans model.now below }
-    ensures { let x = numbers.vertex_at model.now.grid vertex in
-        let upper = upper_below model.now below.entry x in
-        let lower = lower_below model.now below.entry x in
-        result ≡ answer_of (choice_fault model.now upper lower present entry.now) }
-{
-    match cost_if_allowed(model, present, entry.advice) {
-        Some(cost) => {
-            let limits = limits_by_choice(model, present, vertex, entry.advice, cost, below);
-            check_values(entry.pair, limits)
-        }
-        None => Err(BoundFault::AdviceNotAllowed),
-    }
-}
-
 // The check of an entry with n seconds to go.
 #[inline(never)]
 fn check(
@@ -131,9 +77,18 @@ fn check(
         result ≡ answer_of (fault_by_means model.now upper lower n present x entry.now) }
 {
     if n == 0 {
-        check_ending(model, vertex, entry.pair)
-    } else {
-        check_choice(model, present, vertex, entry, below)
+        return check_ending(model, vertex, entry.pair);
+    }
+    match cost_if_allowed(model, present, entry.advice) {
+        Some(cost) => {
+            let means = means_under(model, vertex, entry.advice, below);
+            let limits = Limits {
+                needed: with_cost(means.upper, cost),
+                allowed: least_lower(model, present, vertex, below),
+            };
+            check_values(entry.pair, limits)
+        }
+        None => Err(BoundFault::AdviceNotAllowed),
     }
 }
 

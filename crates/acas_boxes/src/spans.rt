@@ -1,5 +1,5 @@
 //! Pairs of whole numbers: the spans of a box.
-ghost use Rattle.std.specs.Prelude.{◌≡◌, ◌*◌, pos, ◌≤ℤ◌, unsigned_abs, IfOk};
+ghost use Rattle.std.specs.Prelude.{◌*◌, pos, ◌≤ℤ◌, unsigned_abs, IfOk};
 ghost use Rattle.toml.specs.View.{table_view};
 ghost use Rattle.acas_units.specs.declared.ticks.TheConstants.{TICKS_PER_FOOT};
 ghost use Rattle.acas_areas.specs.Limits.{IsSmall, interval_of};
@@ -18,25 +18,31 @@ use toml::Table;
 /// How many numbers a span has in a file: its least and its greatest.
 pub const SPAN_ENDS: u32 = 2;
 
-/// The span at a key of the table at a path, from least to greatest.
+/// The span at a key of the table at a path, within another.
 #[tactic(auto, unfolding(crate::specs::Spans::span_at))]
 fn span_at(
     alloc: Global,
     table: &Table,
     path: &[u8],
     key: &str,
-    least: i64,
-    greatest: i64,
+    within: Span,
 ) -> Result<Span, InputFault>
     ensures value { Gives interval_of result
-        (rules.span_at (table_view table.now) path.now key.now least greatest) }
-    ensures low { IfOk result (λ s. least ≤ℤ s.least) }
-    ensures high { IfOk result (λ s. s.greatest ≤ℤ greatest) }
+        (rules.span_at (table_view table.now) path.now key.now within.least within.greatest) }
+    ensures low { IfOk result (λ s. within.least ≤ℤ s.least) }
+    ensures high { IfOk result (λ s. s.greatest ≤ℤ within.greatest) }
 {
     let items = list(alloc, table, path, key, SPAN_ENDS, SPAN_ENDS)?;
     let list_path = path_of_key(alloc, path, key)?;
-    let first = item(alloc, items, list_path.bytes(), 0, least, greatest)?;
-    let second = item(alloc, items, list_path.bytes(), 1, first, greatest)?;
+    let first = item(
+        alloc,
+        items,
+        list_path.bytes(),
+        0,
+        within.least,
+        within.greatest,
+    )?;
+    let second = item(alloc, items, list_path.bytes(), 1, first, within.greatest)?;
     Ok(Span::new(first, second))
 }
 
@@ -47,14 +53,8 @@ pub(crate) fn ranges_at(alloc: Global, table: &Table, path: &[u8]) -> Result<Spa
     ensures low { IfOk result (λ s. LEAST_BOX_RANGE ≤ℤ s.least) }
     ensures high { IfOk result (λ s. s.greatest ≤ℤ GREATEST_BOX_RANGE) }
 {
-    span_at(
-        alloc,
-        table,
-        path,
-        "range",
-        LEAST_BOX_RANGE,
-        GREATEST_BOX_RANGE,
-    )
+    let within = Span::new(LEAST_BOX_RANGE, GREATEST_BOX_RANGE);
+    span_at(alloc, table, path, "range", within)
 }
 
 /// The closing speeds of a box, in ft/s.
@@ -64,14 +64,8 @@ pub(crate) fn closings_at(alloc: Global, table: &Table, path: &[u8]) -> Result<S
     ensures low { IfOk result (λ s. pos LEAST_CLOSING ≤ℤ s.least) }
     ensures high { IfOk result (λ s. s.greatest ≤ℤ pos GREATEST_CLOSING) }
 {
-    span_at(
-        alloc,
-        table,
-        path,
-        "closing",
-        i64::from(LEAST_CLOSING),
-        i64::from(GREATEST_CLOSING),
-    )
+    let within = Span::new(i64::from(LEAST_CLOSING), i64::from(GREATEST_CLOSING));
+    span_at(alloc, table, path, "closing", within)
 }
 
 /// The altitudes of a box, in ticks.
@@ -81,14 +75,8 @@ pub(crate) fn altitudes_at(alloc: Global, table: &Table, path: &[u8]) -> Result<
     ensures small { IfOk result (λ s.
         IsSmall (TICKS_PER_FOOT * unsigned_abs GREATEST_ALTITUDE) (interval_of s)) }
 {
-    let feet = span_at(
-        alloc,
-        table,
-        path,
-        "altitude",
-        LEAST_ALTITUDE,
-        GREATEST_ALTITUDE,
-    )?;
+    let within = Span::new(LEAST_ALTITUDE, GREATEST_ALTITUDE);
+    let feet = span_at(alloc, table, path, "altitude", within)?;
     Ok(Span::new(feet_to_ticks(feet.least), feet_to_ticks(feet.greatest)))
 }
 
@@ -103,5 +91,6 @@ pub(crate) fn rates_at(
     ensures value { Gives interval_of result (rules.rates_at (table_view table.now) path.now key.now) }
     ensures small { IfOk result (λ s. IsSmall (unsigned_abs GREATEST_RATE) (interval_of s)) }
 {
-    span_at(alloc, table, path, key, LEAST_RATE, GREATEST_RATE)
+    let within = Span::new(LEAST_RATE, GREATEST_RATE);
+    span_at(alloc, table, path, key, within)
 }

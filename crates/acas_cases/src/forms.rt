@@ -83,10 +83,9 @@ fn file_row(
     kind: &str,
     taken: usize,
 ) -> Result<Vec<String>, Fault> {
-    Ok(vec![in alloc;
-        String::from_str(alloc, words)?,
-        String::from_str(alloc, name)?,
-        String::from_str(alloc, kind)?,
-        taken.to_string(alloc)?,
-    ]?)
+    let words = String::from_str(alloc, words)?;
+    let name = String::from_str(alloc, name)?;
+    let kind = String::from_str(alloc, kind)?;
+    let taken = taken.to_string(alloc)?;
+    Ok(vec![in alloc; words, name, kind, taken]?)
 }

@@ -52,10 +52,9 @@ pub fn without(alloc: Global, files: &[File], name: &str) -> Result<Vec<File>, F
     let mut all = Vec::new(alloc);
     for file in files {
         if file.name.as_str() != name {
-            all.push(File {
-                name: file.name.clone()?,
-                bytes: file.bytes.clone()?,
-            })?;
+            let name = file.name.clone()?;
+            let bytes = file.bytes.clone()?;
+            all.push(File { name, bytes })?;
         }
     }
     Ok(all)
@@ -84,12 +83,15 @@ pub fn perform(alloc: Global, start: &Start, failing: &[String]) -> Result<End, 
 
 // The folder with the files, and outputs to which nothing was written.
 fn beginning(alloc: Global, start: &Start, failing: &[String]) -> Result<End, Fault> {
+    let folder = folder_of(alloc, start, failing)?;
+    let out = output_of(alloc, start, failing, "write")?;
+    let err = output_of(alloc, start, failing, "error")?;
     Ok(End {
         ends: Vec::new(alloc),
         work: Work::new(),
-        folder: folder_of(alloc, start, failing)?,
-        out: output_of(alloc, start, failing, "write")?,
-        err: output_of(alloc, start, failing, "error")?,
+        folder,
+        out,
+        err,
     })
 }
 
@@ -97,9 +99,11 @@ fn beginning(alloc: Global, start: &Start, failing: &[String]) -> Result<End, Fa
 fn folder_of(alloc: Global, start: &Start, failing: &[String]) -> Result<Endless, Fault> {
     let mut folder = empty_folder(alloc, start.most, failing)?;
     for file in &start.files {
-        folder.put(&file.name, file.bytes.clone()?)?;
+        let bytes = file.bytes.clone()?;
+        folder.put(&file.name, bytes)?;
     }
-    Ok(Endless::new(folder, start.endless.clone()?))
+    let endless = start.endless.clone()?;
+    Ok(Endless::new(folder, endless))
 }
 
 fn empty_folder(alloc: Global, most: u32, failing: &[String]) -> Result<MemoryFolder, Fault> {

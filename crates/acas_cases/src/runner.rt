@@ -144,13 +144,20 @@ fn try_case(
 }
 
 fn start_of(alloc: Global, case: Case<'_>) -> Result<Start, Fault> {
-    let most = case.text_or(alloc, "most", "65536")?.parse::<u32>();
+    let most = case.text_or(alloc, "most", "65536")?;
+    let most = most
+        .parse::<u32>()
+        .map_err(|_| Fault::Text("no number of bytes"))?;
+    let files = files_of(alloc, case)?;
+    let endless = case.text_or(alloc, "endless", "")?;
+    let stuck = case.text_or(alloc, "stuck", "")?;
+    let runs = runs_of(alloc, case)?;
     Ok(Start {
-        files: files_of(alloc, case)?,
-        endless: case.text_or(alloc, "endless", "")?,
-        most: most.map_err(|_| Fault::Text("no number of bytes"))?,
-        stuck: case.text_or(alloc, "stuck", "")?,
-        runs: runs_of(alloc, case)?,
+        files,
+        endless,
+        most,
+        stuck,
+        runs,
     })
 }
 

@@ -24,10 +24,8 @@ pub fn all_made(
         let (name, steps) = recipe.split_first().ok_or(Fault::Text("no name"))?;
         let bytes = made(alloc, &all, steps)?;
         all = without(alloc, &all, name)?;
-        all.push(File {
-            name: name.clone()?,
-            bytes,
-        })?;
+        let name = name.clone()?;
+        all.push(File { name, bytes })?;
     }
     Ok(all)
 }
@@ -119,16 +117,17 @@ fn bytes_of(alloc: Global, text: &str) -> Result<Vec<u8>, Fault> {
 
 // The table that is compiled of a model.
 fn compiled(alloc: Global, model: &[u8]) -> Result<Vec<u8>, Fault> {
-    let model = File {
-        name: String::from_str(alloc, "m")?,
-        bytes: model.to_vec(alloc)?,
-    };
+    let name = String::from_str(alloc, "m")?;
+    let bytes = model.to_vec(alloc)?;
+    let files = vec![in alloc; File { name, bytes }]?;
+    let command = String::from_str(alloc, "acas compile m t")?;
+    let runs = vec![in alloc; command]?;
     let start = Start {
-        files: vec![in alloc; model]?,
+        files,
         endless: String::new(alloc),
         most: 65_536,
         stuck: String::new(alloc),
-        runs: vec![in alloc; String::from_str(alloc, "acas compile m t")?]?,
+        runs,
     };
     let end = perform(alloc, &start, &[])?;
     let table = end

@@ -59,17 +59,13 @@ pub fn blocks_have_areas()
       altitudes = 2;
       own_rates = 3;
       intruder_rates = 4;
-      certified =
-          [];
-      reported = [];
+      sets = [];
     } in place_of a 1 2 3 ≡ 23 }
     ensures places { let a : BlockAuditData = record {
       altitudes = 2;
       own_rates = 3;
       intruder_rates = 4;
-      certified
-          = [];
-      reported = [];
+      sets = [];
     } in cell_count a ≡ 24 }
 {}
 

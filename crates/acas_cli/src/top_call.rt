@@ -75,22 +75,22 @@ pub fn run<F: Folder, O: Sink, E: Sink>(
 {
     let Some(command) = command_of(words) else {
         report_words(err);
-        let cause = Cause::Words;
-        return Status {
-            code: cause.code(),
-            cause,
-        };
+        return ended(Cause::Words);
     };
     let Ok(mut line) = Line::make(alloc) else {
         report_memory(err);
-        let cause = Cause::Memory;
-        return Status {
-            code: cause.code(),
-            cause,
-        };
+        return ended(Cause::Memory);
     };
     let cause = answer(alloc, &command, folder, out, work);
     report(words, &cause, &mut line, err);
+    ended(cause)
+}
+
+// The end of a run by its cause.
+fn ended(cause: Cause) -> Status
+    ensures code { result.code ≡ code_of cause }
+    ensures cause { result.cause ≡ cause }
+{
     Status {
         code: cause.code(),
         cause,
@@ -131,10 +131,18 @@ fn answer<F: Folder, O: Sink>(
         Command::Compile { model, table } => cause_of(compile::<StencilMeans, F, O>(
             alloc, model, table, folder, out, backups, turned,
         )),
+        Command::Migrate {
+            model,
+            table,
+            target,
+        } => cause_of(migrate::<StencilMeans, F, O>(alloc, model, table, target, folder, out)),
         Command::Check { model, table } => cause_of(check::<StencilMeans, F, O>(
             alloc, model, table, folder, out,
         )),
         Command::Risk { model, table } => cause_of(risk::<StencilMeans, F, O>(
+            alloc, model, table, folder, out,
+        )),
+        Command::Safeable { model, table } => cause_of_report(safeable::<StencilMeans, F, O>(
             alloc, model, table, folder, out,
         )),
         Command::Audit {
@@ -156,19 +164,11 @@ fn answer<F: Folder, O: Sink>(
             let may = manoeuvre_of(*accel, *rate);
             cause_of_report(manoeuvre(alloc, model, boxes, &may, folder, out))
         }
-        Command::Safeable { model, table } => cause_of_report(safeable::<StencilMeans, F, O>(
-            alloc, model, table, folder, out,
-        )),
         Command::Replay {
             model,
             table,
             encounter,
         } => cause_of(replay::<StencilMeans, F, O>(alloc, model, table, encounter, folder, out)),
-        Command::Migrate {
-            model,
-            table,
-            target,
-        } => cause_of(migrate::<StencilMeans, F, O>(alloc, model, table, target, folder, out)),
         Command::Drill { number } => drill(alloc, *number, out).cause,
     }
 }

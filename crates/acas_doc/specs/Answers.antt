@@ -20,10 +20,10 @@ Answers view (Ok x) rules = rules ≡ Ok (view x)
 Answers view (Err e) rules = Fails e rules
 
 -- the call gave what the rules give, seen by view, unless memory ran out
-abbrev pub Reads : {X Y : Type 0} → (X → Y) → Result X DocError → Result Y DocFault → Type 0
-Reads view (Ok x) rules = rules ≡ Ok (view x)
-Reads view (Err (errors.Fault f)) rules = rules ≡ Err f
-Reads view (Err errors.Memory) rules = Unit {0}
+abbrev pub Gives : {X Y : Type 0} → (X → Y) → Result X DocError → Result Y DocFault → Type 0
+Gives view (Ok x) rules = rules ≡ Ok (view x)
+Gives view (Err (errors.Fault f)) rules = rules ≡ Err f
+Gives view (Err errors.Memory) rules = Unit {0}
 
 -- a getter's fault, as a fault of a text: the fault of a key carried over, or what says that memory ran out
 abbrev pub text_fault : {E : Type 0} → (DocFault → E) → E → DocError → E

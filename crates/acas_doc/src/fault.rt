@@ -2,7 +2,7 @@
 ghost use Rattle.std.specs.Prelude.{◌≡◌};
 ghost use Rattle.acas_doc.specs.declared.fault.DocError.TheVariants.{Memory};
 
-use crate::key_text::KeyText;
+use acas_spec::Text;
 use std::alloc::AllocFailed;
 
 /// What is wrong with a key.
@@ -25,7 +25,8 @@ pub enum DocKind {
 /// What is wrong, and at which key.
 #[derive(Debug, Drop)]
 pub struct DocFault {
-    pub key: KeyText,
+    /// The path of the key or of an item, as it is printed: `grid.altitude[2]`.
+    pub key: Text,
     pub kind: DocKind,
 }
 

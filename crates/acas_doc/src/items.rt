@@ -3,7 +3,7 @@ ghost use Rattle.std.specs.Prelude.{◌≡◌, ◌<◌, ◌≤ℤ◌, ◌^◌, l
 ghost use Rattle.toml.specs.View.{view, table_view};
 ghost use Rattle.acas_doc.specs.Values.{data_at};
 ghost use Rattle.acas_doc.specs.Keys as keys;
-ghost use Rattle.acas_doc.specs.Answers.{Answers, Reads};
+ghost use Rattle.acas_doc.specs.Answers.{Answers, Gives};
 
 use crate::fault::DocError;
 use crate::path::item_fault;
@@ -43,7 +43,7 @@ pub fn whole_items(
     greatest: i64,
 ) -> Result<Vec<i64>, DocError>
     requires { length items.now < 2 ^ 32 }
-    ensures value { Reads (λ v. v.items) result
+    ensures value { Gives (λ v. v.items) result
         (keys.whole_items path.now least greatest (map view items.now)) }
     ensures count { IfOk result (λ v. length v.items ≡ length items.now) }
 {

@@ -4,12 +4,12 @@ ghost use Rattle.acas_doc.specs.Paths.{key_path, item_path};
 ghost use Rattle.acas_doc.specs.Answers.{Stands};
 
 use crate::fault::{DocError, DocFault, DocKind};
-use crate::key_text::KeyText;
+use acas_spec::Text;
 use std::alloc::{AllocError, Global};
 
 /// The path of a key of the table at a path: the key alone in the document itself, whose path is empty, and else the
 /// table's path, a point and the key.
-pub fn path_of_key(alloc: Global, path: &[u8], key: &str) -> Result<KeyText, AllocError>
+pub fn path_of_key(alloc: Global, path: &[u8], key: &str) -> Result<Text, AllocError>
     ensures { IfOk result (λ t. t ≡ key_path path.now key.now) }
 {
     let mut bytes = Vec::new(alloc);
@@ -18,11 +18,11 @@ pub fn path_of_key(alloc: Global, path: &[u8], key: &str) -> Result<KeyText, All
         bytes.push(b'.')?;
     }
     bytes.extend_from_slice(key.as_bytes())?;
-    Ok(KeyText::new(bytes))
+    Ok(Text::new(bytes))
 }
 
 /// The path of an item of the list at a path: the list's path and the item's place, counted from 0, in brackets.
-pub fn path_of_item(alloc: Global, path: &[u8], place: u32) -> Result<KeyText, AllocError>
+pub fn path_of_item(alloc: Global, path: &[u8], place: u32) -> Result<Text, AllocError>
     ensures { IfOk result (λ t. t ≡ item_path path.now place) }
 {
     let number = place.to_string(alloc)?;
@@ -30,7 +30,7 @@ pub fn path_of_item(alloc: Global, path: &[u8], place: u32) -> Result<KeyText, A
     bytes.push(b'[')?;
     bytes.extend_from_slice(number.as_bytes())?;
     bytes.push(b']')?;
-    Ok(KeyText::new(bytes))
+    Ok(Text::new(bytes))
 }
 
 /// The fault of this kind at a key of the table at a path.

@@ -43,10 +43,13 @@ pub fn drill_model(alloc: Global, number: u32) -> Result<Model, AllocError>
 fn drill_grid(alloc: Global, number: u32) -> Result<Grid, AllocError>
     ensures { IfOk result (λ grid. grid ≡ drilled_grid number) }
 {
+    let h = axis_about_zero(alloc, 100 * TICKS_PER_FOOT, 6 + number % 7)?;
+    let v0 = axis_about_zero(alloc, 500, 2 + number / 7 % 4)?;
+    let v1 = axis_about_zero(alloc, 500, 2 + number / 28 % 4)?;
     Ok(Grid {
-        h: axis_about_zero(alloc, 100 * TICKS_PER_FOOT, 6 + number % 7)?,
-        v0: axis_about_zero(alloc, 500, 2 + number / 7 % 4)?,
-        v1: axis_about_zero(alloc, 500, 2 + number / 28 % 4)?,
+        h,
+        v0,
+        v1,
         advisories: ADVISORIES,
         horizon: 10 + number / 112 % 31,
     })

@@ -3,7 +3,7 @@ ghost use Rattle.std.specs.Prelude.{◌≡◌, ◌++◌, ◌∷◌, [], IfOk, On
 ghost use Rattle.acas_base.specs.View.{lists_of};
 ghost use Rattle.acas_drill_model.specs.DrilledModel.{asks, changes, costs, drilled_advisories, drilled_choices, drilled_sigmas};
 
-use acas_base::{Advisory, Choice, Name, SigmaPoint};
+use acas_base::{Advisory, Choice, SigmaPoint, Text};
 use std::alloc::{AllocError, Global};
 
 /// How many advisories there are.
@@ -34,7 +34,7 @@ fn push_advisory(
 ) -> Result<(), AllocError>
     ensures { OnOk result (list.new.items ≡ list.old.items ++ asks name.now lo hi ∷ []) }
 {
-    let name = Name::new(Vec::from_slice(alloc, name.as_bytes())?);
+    let name = Text::new(Vec::from_slice(alloc, name.as_bytes())?);
     list.push(Advisory { name, lo, hi })?;
     Ok(())
 }

@@ -168,10 +168,12 @@ pub low_extreme_of : (a : Demand) (box : Area) (w : Times) (time y : Fraction) �
 low_extreme_of a box w time y p reduced ahead l = record {
   reduced = reduced;
   ahead = ahead;
-  after = l.after;
-  before = l.before;
-  least = λ q s t some i j. rw (least_gap-border a box q some s, least_gap-border a box q some t) (least_border (low_border_of a box) w time y l p q s t some i j);
-  earliest = λ q s t some i j h. rw (least_gap-border a box q some s, least_gap-border a box q some t) (earliest_border (low_border_of a box) w time y l p q s t reduced.some some i j h);
+  first = record {
+    after = l.after;
+    before = l.before;
+    least = λ q s t some i j. rw (least_gap-border a box q some s, least_gap-border a box q some t) (least_border (low_border_of a box) w time y l p q s t some i j);
+    earliest = λ q s t some i j h. rw (least_gap-border a box q some s, least_gap-border a box q some t) (earliest_border (low_border_of a box) w time y l p q s t reduced.some some i j h);
+  };
 }
 
 pub neg-le_ℤ : (a b : ℤ) → a ≤ℤ b → neg_ℤ b ≤ℤ neg_ℤ a
@@ -181,10 +183,12 @@ pub high_extreme_of : (a : Demand) (box : Area) (w : Times) (time y : Fraction) 
 high_extreme_of a box w time y p reduced ahead l = record {
   reduced = reduced;
   ahead = ahead;
-  after = l.after;
-  before = l.before;
-  greatest = λ q s t some i j. rw (greatest_gap-border a box q some s, greatest_gap-border a box q some t) (neg-le_ℤ _ _ (least_border (high_border_of a box) w time y l p q s t some i j));
-  earliest = λ q s t some i j h. rw (greatest_gap-border a box q some s, greatest_gap-border a box q some t) (neg-lt_ℤ _ _ (earliest_border (high_border_of a box) w time y l p q s t reduced.some some i j h));
+  first = record {
+    after = l.after;
+    before = l.before;
+    least = λ q s t some i j. rw (greatest_gap-border a box q some s, greatest_gap-border a box q some t) (neg-le_ℤ _ _ (neg-le_ℤ _ _ (least_border (high_border_of a box) w time y l p q s t some i j)));
+    earliest = λ q s t some i j h. rw (greatest_gap-border a box q some s, greatest_gap-border a box q some t) (neg-lt_ℤ _ _ (neg-lt_ℤ _ _ (earliest_border (high_border_of a box) w time y l p q s t reduced.some some i j h)));
+  };
 }
 
 -- the gaps at a time

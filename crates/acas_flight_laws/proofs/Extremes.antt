@@ -1,40 +1,15 @@
--- The extremes of an area are one, and depend on the times alone.
-use Rattle.std.proofs.Common.{◌≡◌, ◌↔◌, ℕ, ◌*◌, ◌<◌, ◌≤◌, ⊎_elim, refl, sym, ap, ◌∙◌, arith, [], ◌∷◌, ℤ, pos, neg_ℤ, ◌+ℤ◌, ◌*ℤ◌, ◌≤ℤ◌, ◌<ℤ◌, mul-pos}
+-- The first time at which a gap is least is one, and depends on the times alone.
+use Rattle.std.proofs.Common.{◌≡◌, ◌↔◌, ℕ, ◌*◌, ◌<◌, ◌≤◌, ⊎_elim, refl, sym, ap, ◌∙◌, arith, [], ◌∷◌, ℤ, pos, ◌+ℤ◌, ◌*ℤ◌, ◌≤ℤ◌, ◌<ℤ◌, mul-pos}
 use Rattle.std.proofs.lemmas.Int.{ints}
 use Rattle.std.proofs.lemmas.Bool.{cases_lt}
-use Rattle.acas_frac.specs.Fraction.{Fraction, IsReduced}
+use Rattle.acas_frac.specs.Fraction.{Fraction}
 use Rattle.acas_frac.proofs.Lowest.{IsReduced-same}
-use Rattle.acas_flight.specs.Response.{Demand}
 use Rattle.acas_flight.specs.Window.{Times, IsDuring}
-use Rattle.acas_flight.specs.Clear.{Area, least_gap, greatest_gap}
 use Rattle.acas_flight.specs.Values.{IsAtMost, IsOver}
-use Rattle.acas_flight.specs.Extremes.{IsLowExtreme, IsHighExtreme}
+use Rattle.acas_flight.specs.Extremes.{IsExtreme, IsFirstLeast}
 use Rattle.acas_frac.proofs.IntRing.{at, ◌⊗◌, ring}
-use Rattle.acas_frac.proofs.Orders.{by_above, neg-lt_ℤ}
-use Rattle.acas_flight_curves.proofs.Gaps.{neg-le_ℤ}
+use Rattle.acas_frac.proofs.Orders.{by_above}
 use Rattle.acas_flight_laws.proofs.Endangered.{IsDuring-finer}
-
--- the first of the window's times at which a number is least
-pub record IsFirstLeast (gap : ℕ → ℕ → ℤ) (w : Times) (time : Fraction) : Type 0 where
-  pub reduced : IsReduced time
-  pub ahead : pos 0 ≤ℤ time.num
-  pub after : IsAtMost w.from time
-  pub before : IsAtMost time w.to
-  pub least : (q s t : ℕ) → 0 < q → IsOver q (pos s) time → IsDuring q w t → gap q s ≤ℤ gap q t
-  pub earliest : (q s t : ℕ) → 0 < q → IsOver q (pos s) time → IsDuring q w t → t < s → gap q s <ℤ gap q t
-
-low_first : (a : Demand) (area : Area) (w : Times) (time : Fraction) → IsLowExtreme a area w time → IsFirstLeast (λ q t. least_gap q a area t) w time
-low_first a area w time l = record { reduced = l.reduced; ahead = l.ahead; after = l.after; before = l.before; least = l.least; earliest = l.earliest }
-
-high_first : (a : Demand) (area : Area) (w : Times) (time : Fraction) → IsHighExtreme a area w time → IsFirstLeast (λ q t. neg_ℤ (greatest_gap q a area t)) w time
-high_first a area w time l = record {
-  reduced = l.reduced;
-  ahead = l.ahead;
-  after = l.after;
-  before = l.before;
-  least = λ q s t p i j. neg-le_ℤ (greatest_gap q a area t) (greatest_gap q a area s) (l.greatest q s t p i j);
-  earliest = λ q s t p i j h. neg-lt_ℤ (greatest_gap q a area t) (greatest_gap q a area s) (l.earliest q s t p i j h);
-}
 
 -- ---- a time over a multiple of its denominator
 
@@ -68,52 +43,35 @@ same_place gap w s t q m n p f g es et ds dt =
     no : (a b : ℤ) → a ≤ℤ b → b <ℤ a → ⊥
     no a b h k = omega (arith, ints)
 
-pub first_least-same : (gap : ℕ → ℕ → ℤ) (w : Times) (s t : Fraction) → IsFirstLeast gap w s → IsFirstLeast gap w t → s ≡ t
-first_least-same gap w s t f g = natural s.num f.ahead (λ m em. natural t.num g.ahead (λ n en. by m n em en))
+pub extreme-same : (gap : ℕ → ℕ → ℤ) (w : Times) (s t : Fraction) → IsExtreme gap w s → IsExtreme gap w t → s ≡ t
+extreme-same gap w s t f g = natural s.num f.ahead (λ m em. natural t.num g.ahead (λ n en. by m n em en))
   where
     by : (m n : ℕ) → s.num ≡ pos m → t.num ≡ pos n → s ≡ t
     by m n em en =
         let turn : t.den * s.den ≡ s.den * t.den = omega arith in
         let over : IsOver (s.den * t.den) (pos (n * s.den)) t = rw turn at (over_times s.den n t en) in
-        let during : IsDuring (s.den * t.den) w (n * s.den) = rw turn at (IsDuring-finer t.den s.den w n (during_ends n t w en g.after g.before)) in
-        let cross = same_place gap w s t (s.den * t.den) (m * t.den) (n * s.den) (mul-pos f.reduced.some g.reduced.some) f g
-        (over_times t.den m s em) over (IsDuring-finer s.den t.den w m (during_ends m s w em f.after f.before)) during in
+        let during : IsDuring (s.den * t.den) w (n * s.den) = rw turn at (IsDuring-finer t.den s.den w n (during_ends n t w en g.first.after g.first.before)) in
+        let cross = same_place gap w s t (s.den * t.den) (m * t.den) (n * s.den) (mul-pos f.reduced.some g.reduced.some) f.first g.first
+        (over_times t.den m s em) over (IsDuring-finer s.den t.den w m (during_ends m s w em f.first.after f.first.before)) during in
         IsReduced-same s t f.reduced g.reduced (ap (λ z. z *ℤ pos t.den) em ∙ ap pos cross ∙ ap (λ z. z *ℤ pos s.den) (sym en))
-
-pub low_extreme-same : (a : Demand) (area : Area) (w : Times) (s t : Fraction) → IsLowExtreme a area w s → IsLowExtreme a area w t → s ≡ t
-low_extreme-same a area w s t h k = first_least-same (λ q t. least_gap q a area t) w s t (low_first a area w s h) (low_first a area w t k)
-
-pub high_extreme-same : (a : Demand) (area : Area) (w : Times) (s t : Fraction) → IsHighExtreme a area w s → IsHighExtreme a area w t → s ≡ t
-high_extreme-same a area w s t h k = first_least-same (λ q t. neg_ℤ (greatest_gap q a area t)) w s t (high_first a area w s h) (high_first a area w t k)
 
 -- ---- windows of the same times
 
-module _ (a : Demand) (area : Area) (v w : Times) (time : Fraction) (same : (q t : ℕ) → 0 < q → IsDuring q v t ↔ IsDuring q w t) where
+module _ (gap : ℕ → ℕ → ℤ) (v w : Times) (time : Fraction) (same : (q t : ℕ) → 0 < q → IsDuring q v t ↔ IsDuring q w t) where
   within : 0 < time.den → pos 0 ≤ℤ time.num → IsAtMost v.from time → IsAtMost time v.to → IsAtMost w.from time × IsAtMost time w.to
   within p h after before = natural time.num h (λ n e.
       let j = (same time.den n p).0 (during_ends n time v e after before) in
       rw e (j.0, j.1))
 
-  pub low_extreme-windows : IsLowExtreme a area v time → IsLowExtreme a area w time
-  low_extreme-windows l =
-      let ends = within l.reduced.some l.ahead l.after l.before in
+  pub first_least-windows : 0 < time.den → pos 0 ≤ℤ time.num → IsFirstLeast gap v time → IsFirstLeast gap w time
+  first_least-windows p ahead l =
+      let ends = within p ahead l.after l.before in
       record {
-        reduced = l.reduced;
-        ahead = l.ahead;
         after = ends.0;
         before = ends.1;
-        least = λ q s t p i j. l.least q s t p i ((same q t p).1 j);
-        earliest = λ q s t p i j h. l.earliest q s t p i ((same q t p).1 j) h;
+        least = λ q s t k i j. l.least q s t k i ((same q t k).1 j);
+        earliest = λ q s t k i j h. l.earliest q s t k i ((same q t k).1 j) h;
       }
 
-  pub high_extreme-windows : IsHighExtreme a area v time → IsHighExtreme a area w time
-  high_extreme-windows l =
-      let ends = within l.reduced.some l.ahead l.after l.before in
-      record {
-        reduced = l.reduced;
-        ahead = l.ahead;
-        after = ends.0;
-        before = ends.1;
-        greatest = λ q s t p i j. l.greatest q s t p i ((same q t p).1 j);
-        earliest = λ q s t p i j h. l.earliest q s t p i ((same q t p).1 j) h;
-      }
+  pub extreme-windows : IsExtreme gap v time → IsExtreme gap w time
+  extreme-windows l = record { reduced = l.reduced; ahead = l.ahead; first = first_least-windows l.reduced.some l.ahead l.first }

@@ -6,7 +6,7 @@ mod document;
 mod fault;
 mod named;
 
-pub use acas_doc::{DocError, DocFault, DocKind, KeyText};
+pub use acas_doc::{DocError, DocFault, DocKind};
 pub use document::{INPUT_VERSION, document_of, version_of};
 pub use fault::InputFault;
 pub use named::advisory_at;

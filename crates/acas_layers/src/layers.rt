@@ -36,12 +36,14 @@ impl Layers {
     {
         let grid = model.grid();
         let entries = grid.entries() as usize;
+        let pairs = Vec::with_capacity(alloc, entries)?;
+        let advice = Vec::with_capacity(alloc, entries)?;
         Ok(Layers {
             horizon: grid.horizon,
             states: grid.states() as usize,
             count: 0,
-            pairs: Vec::with_capacity(alloc, entries)?,
-            advice: Vec::with_capacity(alloc, entries)?,
+            pairs,
+            advice,
         })
     }
 

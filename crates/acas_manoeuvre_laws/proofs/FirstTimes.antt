@@ -156,7 +156,7 @@ module _ (r : Race) (from place to best : Instant) (sb : 0 < r.pull) (sa : 0 < r
       before = first-before r from place to best o' o'' x;
       least = λ q s t p i d. let b = at_q falls q s p (pos_inj (s * best.den) (best.num * q) i) in
           gap-le r q parts s t some (b.least (t * parts) (after-from q parts t _ from sf (part-of q _ parts from (omega arith)) d.0) (before-to q parts t _ to sg (part-of q _ parts to (omega arith)) d.1));
-      first = λ q s t p i d l. let b = at_q falls q s p (pos_inj (s * best.den) (best.num * q) i) in
+      earliest = λ q s t p i d l. let b = at_q falls q s p (pos_inj (s * best.den) (best.num * q) i) in
           gap-lt r q parts s t (b.first (t * parts) (after-from q parts t _ from sf (part-of q _ parts from (omega arith)) d.0) (less_over t s parts some l));
     }
 

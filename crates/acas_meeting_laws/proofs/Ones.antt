@@ -9,10 +9,9 @@ use Rattle.acas_frac.specs.Fraction.{Fraction, IsReduced}
 use Rattle.acas_flight.specs.Response.{Demand, demand_of}
 use Rattle.acas_flight.specs.Parts.{CanBeMet}
 use Rattle.acas_flight.specs.Clear.{Area, area_of_box}
-use Rattle.acas_flight.specs.Values.{IsAtMost}
 use Rattle.acas_flight.specs.Window.{Times}
 use Rattle.acas_flight_curves.proofs.Models.{demand_can_be_met}
-use Rattle.acas_flight_laws.proofs.Extremes.{IsFirstLeast, during_ends, first_least-same, natural}
+use Rattle.acas_flight_laws.proofs.Extremes.{extreme-same, first_least-windows}
 use Rattle.acas_passes.specs.Search.{unit}
 use Rattle.acas_pass_laws.proofs.Ends.{found-one}
 use Rattle.acas_rulings.specs.Boxes.{AuditedBox, IsBoxOf}
@@ -26,7 +25,7 @@ use Rattle.acas_ruling_laws.proofs.RangeOnes.{boxes_range-one}
 use Rattle.acas_ruling_laws.proofs.RulingOnes.{same_times_of_box, same_witness}
 use Rattle.acas_manoeuvre.specs.Intruder.{Manoeuvre}
 use Rattle.acas_manoeuvre.specs.Least.{IsFirstLeastTime}
-use Rattle.acas_manoeuvre.specs.Race.{Race, race_gap}
+use Rattle.acas_manoeuvre.specs.Race.{Race, high_race, low_race, race_gap, turned}
 use Rattle.acas_meetings.specs.Hunt.{Course, Finds, Hunt, accel, high_course, low_course, passes, value}
 use Rattle.acas_meetings.specs.Printed.{PrintsCourse, against_of, meeting_fractions}
 use Rattle.acas_meetings.specs.Verdicts.{IsMeetVerdict, IsMeetingOf, IsMet, hunt_between}
@@ -37,28 +36,11 @@ use Rattle.acas_meeting_laws.proofs.Pulls.{found_course-pull}
 
 -- ---- the first time at which a race is nearest is one
 
-as_least : (r : Race) (w : Times) (time : Fraction) → IsReduced time → pos 0 ≤ℤ time.num → IsFirstLeastTime r w time → IsFirstLeast (λ q t. race_gap r q t) w time
-as_least r w time reduced ahead l = record { reduced = reduced; ahead = ahead; after = l.after; before = l.before; least = l.least; earliest = l.first }
-
-in_window : (v w : Times) (time : Fraction) → AreSameTimes v w → 0 < time.den → pos 0 ≤ℤ time.num → IsAtMost v.from time → IsAtMost time v.to → IsAtMost w.from time × IsAtMost time w.to
-in_window v w time same p h after before = natural time.num h (λ n e.
-    let j = (same time.den n p).0 (during_ends n time v e after before) in
-    rw e (j.0, j.1))
-
-first_least-windows : (r : Race) (v w : Times) (time : Fraction) → AreSameTimes v w → 0 < time.den → pos 0 ≤ℤ time.num → IsFirstLeastTime r v time → IsFirstLeastTime r w time
-first_least-windows r v w time same p h l =
-    let ends = in_window v w time same p h l.after l.before in
-    record {
-      after = ends.0;
-      before = ends.1;
-      least = λ q s t k i j. l.least q s t k i ((same q t k).1 j);
-      first = λ q s t k i j o. l.first q s t k i ((same q t k).1 j) o;
-    }
-
 time-one : (r : Race) (v w : Times) (s t : Fraction) → AreSameTimes v w → IsReduced s → IsReduced t → pos 0 ≤ℤ s.num → pos 0 ≤ℤ t.num →
     IsFirstLeastTime r v s → IsFirstLeastTime r w t → s ≡ t
 time-one r v w s t same p q h k i j =
-    first_least-same (λ n x. race_gap r n x) w s t (as_least r w s p h (first_least-windows r v w s same p.some h i)) (as_least r w t q k j)
+    extreme-same (λ n x. race_gap r n x) w s t (record { reduced = p; ahead = h; first = first_least-windows (λ n x. race_gap r n x) v w s same p.some h i })
+    (record { reduced = q; ahead = k; first = j })
 
 -- ---- what is printed of a course is one
 
@@ -95,8 +77,8 @@ printed_one q a c x y p s b i j r t =
 meeting-one : (half : ℕ) (a : Demand) (may : Manoeuvre) (area : Area) (w u : Times) (x y : Meeting) → CanBeMet a → 0 < may.accel → AreSameTimes u w →
     IsMeetingOf half a may area w x → IsMeetingOf half a may area u y → AreLowestOf x → AreLowestOf y → IsSameMeeting x y
 meeting-one half a may area w u x y can some same i j r t =
-    let low = time-one _ u w j.low i.low same j.low_reduced i.low_reduced j.low_ahead i.low_ahead j.at_low i.at_low in
-    let high = time-one _ u w j.high i.high same j.high_reduced i.high_reduced j.high_ahead i.high_ahead j.at_high i.at_high in
+    let low = time-one (low_race a may area) u w j.low i.low same j.low_reduced i.low_reduced j.low_ahead i.low_ahead j.at_low i.at_low in
+    let high = time-one (turned (high_race a may area)) u w j.high i.high same j.high_reduced i.high_reduced j.high_ahead i.high_ahead j.at_high i.at_high in
     let h = hunt_between a may area i.low i.high in
     let hunts : hunt_between a may area j.low j.high ≡ h = ap₂ (λ (l g : Fraction). hunt_between a may area l g) low high in
     let found = subst (λ (g : Hunt). Finds half g j.course) hunts j.found in

@@ -14,8 +14,8 @@ mod numbers;
 mod whole;
 
 pub use acas_base::{Advices, Model};
-pub use acas_doc::{DocFault, DocKind, KeyText};
-pub use acas_spec::{Advisory, Choice, Name, SigmaPoint};
+pub use acas_doc::{DocFault, DocKind};
+pub use acas_spec::{Advisory, Choice, SigmaPoint, Text};
 pub use fault::{AxisName, ModelFault, NamePlace};
 pub use laws::texts_say_their_models;
 pub use numbers::DELAY_VERSION;

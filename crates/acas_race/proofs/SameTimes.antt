@@ -22,5 +22,5 @@ least_time-same r w f g p s e is = record {
   after = above_same f g s e w.from.num (pos w.from.den) is.after;
   before = below_same f g s e w.to.num (pos w.to.den) is.before;
   least = λ q m t o i d. is.least q m t o (over-same q (pos m) f g p e i) d;
-  first = λ q m t o i d l. is.first q m t o (over-same q (pos m) f g p e i) d l;
+  earliest = λ q m t o i d l. is.earliest q m t o (over-same q (pos m) f g p e i) d l;
 }

@@ -62,7 +62,7 @@ on_window r w f g best a b c d is = record {
   after = rw (a, b) is.after;
   before = rw (c, d) is.before;
   least = λ q s t p o i. is.least q s t p o (rw (a, b) at i.0, rw (c, d) at i.1);
-  first = λ q s t p o i l. is.first q s t p o (rw (a, b) at i.0, rw (c, d) at i.1) l;
+  earliest = λ q s t p o i l. is.earliest q s t p o (rw (a, b) at i.0, rw (c, d) at i.1) l;
 }
 
 -- ---- tests

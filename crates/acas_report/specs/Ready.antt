@@ -3,19 +3,19 @@ use Rattle.std.specs.Prelude.{◌≡◌, ℕ, ◌<◌, ◌||◌, true}
 use Rattle.acas_spec.specs.Model.{ModelData}
 use Rattle.acas_base.specs.Advices.{AdvicesData}
 use Rattle.acas_flight.specs.Contact.{IsEndangeredCell}
-use Rattle.acas_audit_blocks.specs.Audits.{BlockAuditData, HasLists, IsAuditOf, certified_at, reported_at}
+use Rattle.acas_audit_blocks.specs.Audits.{BlockAuditData, HasSets, IsAuditOf, certified_at, reported_at}
 use Rattle.acas_cells.specs.Cells.{IsCellOf, cell_at}
 use Rattle.acas_cells.specs.Corners.{is_advised, under}
 use Rattle.acas_rulings.specs.Rulings.{IsRulingOfCell}
 use Rattle.acas_cells.specs.Sets.{holds}
 use Rattle.acas_rulings.specs.declared.ruling.Ruling.TheVariants.{Certified}
 
--- Both lists are there for a model, and each cell of n seconds and a present advisory is certified under each advice of its set in the
--- first, and endangered under each of its set in the second; in one of the two are the advices other than clear of conflict that are
--- tabled at its corners.
+-- The sets of each cell are there for a model. Each cell of n seconds and a present advisory is certified under each advice of the
+-- first, and endangered under each of the second; in one of the two are the advices other than clear of conflict that are tabled at its
+-- corners.
 pub record IsReady (m : ModelData) (a : AdvicesData) (n present : ℕ) (audit : BlockAuditData) : Type 0 where
   pub cells : IsAuditOf m audit
-  pub lists : HasLists audit
+  pub sets : HasSets audit
   pub safe : (i j k advice : ℕ) → IsCellOf m (cell_at n present i j k) → advice < m.grid.advisories →
       holds (certified_at audit i j k) advice ≡ true → IsRulingOfCell m (under (cell_at n present i j k) advice) Certified
   pub endangered : (i j k advice : ℕ) → IsCellOf m (cell_at n present i j k) → advice < m.grid.advisories →

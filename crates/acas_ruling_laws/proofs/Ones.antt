@@ -1,12 +1,12 @@
 -- An area has one witness in a window.
-use Rattle.std.proofs.Common.{◌≡◌, ◌↔◌, ℕ, ◌<◌, arith, mul-pos}
+use Rattle.std.proofs.Common.{◌≡◌, ◌↔◌, ℕ, ◌<◌, arith, mul-pos, neg_ℤ}
 use Rattle.std.specs.List.{All}
 use Rattle.acas_frac.specs.Fraction.{Fraction, IsReduced}
 use Rattle.acas_flight.specs.Response.{Demand}
 use Rattle.acas_flight.specs.Parts.{CanBeMet}
 use Rattle.acas_flight.specs.Window.{Times, IsDuring}
-use Rattle.acas_flight.specs.Clear.{Area}
-use Rattle.acas_flight_laws.proofs.Extremes.{low_extreme-same, high_extreme-same, low_extreme-windows, high_extreme-windows}
+use Rattle.acas_flight.specs.Clear.{Area, greatest_gap, least_gap}
+use Rattle.acas_flight_laws.proofs.Extremes.{extreme-same, extreme-windows}
 use Rattle.acas_passes.specs.Flights.{Flight, value}
 use Rattle.acas_passes.specs.Search.{Search, IsFound, unit, low_flight, high_flight, passes}
 use Rattle.acas_pass_laws.proofs.Ends.{found-one}
@@ -33,8 +33,8 @@ AreSameTimes v w = (q t : ℕ) → 0 < q → IsDuring q v t ↔ IsDuring q w t
 pub witness-one : (half : ℕ) (a : Demand) (area : Area) (w u : Times) (f g : printed.Flight) → CanBeMet a → AreSameTimes u w →
     IsWitnessOf half a area w f → IsWitnessOf half a area u g → All IsReduced (flight_fractions f) → All IsReduced (flight_fractions g) → f ≡ g
 witness-one half a area w u f g can same i j r t =
-    let low = low_extreme-same a area w j.low i.low (low_extreme-windows a area u w j.low same j.at_low) i.at_low in
-    let high = high_extreme-same a area w j.high i.high (high_extreme-windows a area u w j.high same j.at_high) i.at_high in
+    let low = extreme-same (λ q t. least_gap q a area t) w j.low i.low (extreme-windows (λ q t. least_gap q a area t) u w j.low same j.at_low) i.at_low in
+    let high = extreme-same (λ q t. neg_ℤ (greatest_gap q a area t)) w j.high i.high (extreme-windows (λ q t. neg_ℤ (greatest_gap q a area t)) u w j.high same j.at_high) i.at_high in
     let s = search_between a area i.low i.high in
     searched_one half s i.flight j.flight f g can (unit_some a area i.low i.high i.at_low.reduced.some i.at_high.reduced.some)
     i.found (rw (low, high) at j.found) i.prints (rw (low, high) at j.prints) r t

@@ -69,7 +69,7 @@ met m advisory area w is known flyable low high meets =
       is = record { low = low.time; high = high.time; at_low = low.extreme; at_high = high.extreme; flight = c.0; found = c.1; prints = f.prints };
       reduced = f.reduced;
       contact = contact_at m.half s w c.0 f.flight (omega (arith, is.some_half)) search
-          (record { low_after = low.extreme.after; low_before = low.extreme.before; high_after = high.extreme.after; high_before = high.extreme.before }) meets c.1 f.prints f.reduced;
+          (record { low_after = low.extreme.first.after; low_before = low.extreme.first.before; high_after = high.extreme.first.after; high_before = high.extreme.first.before }) meets c.1 f.prints f.reduced;
     }
 
 pub clear_or_witness : (m : ModelData) (advisory : ℕ) (area : Area) (w : Times) → IsModel m → advisory < m.grid.advisories → IsFlyable area → AreEnds w →

@@ -3,12 +3,12 @@
 
 mod examples;
 mod fault;
-mod name;
 mod parts;
 mod place;
+mod text;
 
 pub use examples::{names_are_of_letters_and_digits, names_are_short_and_not_empty};
 pub use fault::BoundFault;
-pub use name::Name;
 pub use parts::{Advisory, Choice, SigmaPoint};
 pub use place::{Point, Vertex};
+pub use text::Text;

@@ -1,10 +1,10 @@
 //! The parts of a model that are lists in its file.
-use crate::name::Name;
+use crate::text::Text;
 
 /// A vertical advisory: the closed interval of own vertical rates that it asks for, in ft/min.
 #[derive(Debug, Drop)]
 pub struct Advisory {
-    pub name: Name,
+    pub name: Text,
     pub lo: i64,
     pub hi: i64,
 }

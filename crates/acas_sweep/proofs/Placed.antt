@@ -13,7 +13,6 @@ use Rattle.acas_process.specs.Compiled.{compiled}
 use Rattle.acas_means.specs.Entries.{IsEntryOf, IsStateEntry}
 use Rattle.acas_step_choices.specs.Best.{entry_at}
 use Rattle.acas_sweep.specs.Entries.{AreWritten, SameElsewhere, listed_entry}
-use Rattle.acas_sweep.specs.Filled.{AreEndings}
 use Rattle.acas_sweep.specs.Turns.{turn}
 use Rattle.acas_sweep.proofs.Turns.{turn-same}
 use Rattle.acas_sweep.proofs.Written.{listed_entry-other, listed_entry-written}
@@ -52,19 +51,14 @@ states_next g P v c pairs advice pairs' advice' known is so_far at_vertex others
 
 -- ---- with no second to go
 
--- the entries that are written at a vertex are all the ending there
-pub endings_of : (m : ModelData) (v : ℕ) (entries : List Entry) (pairs : List Pair) (advice : List ℕ) (e : Entry) → ((p : ℕ) → p < m.grid.advisories → entry_at entries p ≡ e)
-    → IsEntryOf (compiled m) 0 0 (vertex_at m.grid v) e → AreWritten m.grid v m.grid.advisories entries pairs advice → AreEndings m v m.grid.advisories pairs advice
-endings_of m v entries pairs advice e same ending written = record {
-  entry = λ p known.
-      subst (λ (x : Entry). IsEntryOf (compiled m) 0 p (vertex_at m.grid v) x) (sym (written.entry p known ∙ same p known))
-      (record { upper = ending.upper; lower = ending.lower; advice = ending.advice });
-}
-
-pub first_next : (m : ModelData) (v c : ℕ) (pairs : List Pair) (advice : List ℕ) (pairs' : List Pair) (advice' : List ℕ)
+-- the entry that is written at a vertex under each present advisory is the ending there
+pub first_next : (m : ModelData) (v c : ℕ) (entries : List Entry) (e : Entry) (pairs : List Pair) (advice : List ℕ) (pairs' : List Pair) (advice' : List ℕ)
     → v < vertices m.grid → turn m.grid v ≡ c
     → ((s : ℕ) → s < states m.grid → turn m.grid (s % vertices m.grid) < c → IsStateEntry m (compiled m) 0 s (listed_entry pairs advice s))
-    → AreEndings m v m.grid.advisories pairs' advice' → SameElsewhere m.grid v pairs advice pairs' advice'
+    → ((p : ℕ) → p < m.grid.advisories → entry_at entries p ≡ e) → IsEntryOf (compiled m) 0 0 (vertex_at m.grid v) e
+    → AreWritten m.grid v m.grid.advisories entries pairs' advice' → SameElsewhere m.grid v pairs advice pairs' advice'
     → (s : ℕ) → s < states m.grid → turn m.grid (s % vertices m.grid) < c + 1 → IsStateEntry m (compiled m) 0 s (listed_entry pairs' advice' s)
-first_next m v c pairs advice pairs' advice' known is so_far endings others =
-    states_next m.grid (λ (p w : ℕ) (x : Entry). IsEntryOf (compiled m) 0 p (vertex_at m.grid w) x) v c pairs advice pairs' advice' known is so_far endings.entry others
+first_next m v c entries e pairs advice pairs' advice' known is so_far same ending written others =
+    states_next m.grid (λ (p w : ℕ) (x : Entry). IsEntryOf (compiled m) 0 p (vertex_at m.grid w) x) v c pairs advice pairs' advice' known is so_far
+    (λ p below. subst (λ (x : Entry). IsEntryOf (compiled m) 0 p (vertex_at m.grid v) x) (sym (written.entry p below ∙ same p below))
+    (record { upper = ending.upper; lower = ending.lower; advice = ending.advice })) others

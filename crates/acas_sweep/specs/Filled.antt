@@ -1,14 +1,10 @@
 -- A plane that is written vertex by vertex in the order of turns, and at a vertex present advisory by present advisory.
 use Rattle.std.specs.Prelude.{◌≡◌, ℕ, ◌+◌, ◌*◌, ◌<◌, ◌≤◌, ◌⊎◌, List, Option, length, map, unwrap_or}
-use Rattle.acas_spec.specs.Model.{GridData, ModelData, states, vertices}
+use Rattle.acas_spec.specs.Model.{GridData, states, vertices}
 use Rattle.acas_grid.specs.Grid.{state_number}
-use Rattle.acas_grid.specs.States.{vertex_at}
 use Rattle.acas_units.specs.declared.pair.Pair.{Pair}
 use Rattle.acas_plane.specs.Plane.{IsFree, Plane, missing_in}
-use Rattle.acas_process.specs.Compiled.{compiled}
-use Rattle.acas_means.specs.Entries.{IsEntryOf}
 use Rattle.acas_means.specs.Layer.{no_pair}
-use Rattle.acas_sweep.specs.Entries.{listed_entry}
 use Rattle.acas_sweep.specs.Turns.{turn}
 
 -- the pairs that were written, and where none was, the pair that a list holds where it ends
@@ -25,8 +21,3 @@ pub record IsFilledTo (g : GridData) (c p : ℕ) (plane : Plane) : Type 0 where
   pub place_count : length plane.work ≡ states g
   pub missing : missing_in plane.work + (c * g.advisories + p) ≡ states g
   pub free : (w q : ℕ) → w < vertices g → q < g.advisories → IsAhead c p (turn g w) q → IsFree plane.work (state_number g q w)
-
--- the entries at a vertex under the first present advisories are those with no second to go
-pub record AreEndings (m : ModelData) (vertex count : ℕ) (pairs : List Pair) (advice : List ℕ) : Type 0 where
-  pub entry : (p : ℕ) → p < count
-      → IsEntryOf (compiled m) 0 p (vertex_at m.grid vertex) (listed_entry pairs advice (state_number m.grid p vertex))

@@ -7,7 +7,7 @@ ghost use Rattle.acas_step_choices.specs.Best.{AreColumnEntries};
 ghost use Rattle.acas_means.specs.Columns.{columns};
 ghost use Rattle.acas_means.specs.Entries.{IsStateEntry};
 ghost use Rattle.acas_sweep.specs.Entries.{AreOver, AreWritten, IsWhole, SameElsewhere, listed_entry};
-ghost use Rattle.acas_sweep.specs.Filled.{AreEndings, IsFilledTo, pairs_in};
+ghost use Rattle.acas_sweep.specs.Filled.{IsFilledTo, pairs_in};
 ghost use Rattle.acas_sweep.specs.Layers.{layer_backups};
 ghost use Rattle.acas_sweep.specs.Turns.{turn};
 
@@ -19,22 +19,6 @@ use acas_plane::PlaneBlock;
 use acas_step_choices::{Backups, ColumnEntries, VertexEntries, fill_entries};
 use acas_units::GREATEST_ADVISORIES;
 
-// Writes the entries of a vertex with no second to go, under all present advisories.
-fn put_endings(model: &Model, vertex: u32, block: &mut PlaneBlock, advice: &mut [u8])
-    requires vertex { vertex < vertices model.now.grid }
-    requires filled { IsFilledTo model.now.grid (turn model.now.grid vertex) 0 block.old }
-    requires advice { states model.now.grid ≤ length advice.old }
-    ensures endings { AreEndings model.now vertex model.now.grid.advisories (pairs_in block.new.work)
-        advice.new }
-    ensures others { SameElsewhere model.now.grid vertex (pairs_in block.old.work) advice.old
-        (pairs_in block.new.work) advice.new }
-    ensures filled { IsFilledTo model.now.grid (turn model.now.grid vertex + 1) 0 block.new }
-{
-    let _ = model.grid();
-    let entries = [terminal_entry(model, vertex); GREATEST_ADVISORIES as usize];
-    put_vertex(model, vertex, &entries, block, advice);
-}
-
 /// Writes the layer with no second to go.
 pub(crate) fn put_first(model: &Model, block: &mut PlaneBlock, advice: &mut [u8])
     requires filled { IsFilledTo model.now.grid 0 0 block.old }
@@ -44,7 +28,9 @@ pub(crate) fn put_first(model: &Model, block: &mut PlaneBlock, advice: &mut [u8]
     ensures filled { IsFilledTo model.now.grid (vertices model.now.grid) 0 block.new }
 {
     for count in 0..model.grid().vertices() {
-        put_endings(model, vertex_after(model.grid(), count), block, advice);
+        let vertex = vertex_after(model.grid(), count);
+        let entries = [terminal_entry(model, vertex); GREATEST_ADVISORIES as usize];
+        put_vertex(model, vertex, &entries, block, advice);
     }
 }
 

@@ -11,8 +11,18 @@ fn ends(axis: &Axis) -> (u32, i64, i64, i64) {
     (count, axis.value(0), axis.value(1), axis.value(count - 1))
 }
 
-fn choice(advisory: u8, cost: i64) -> Choice {
-    Choice { advisory, cost }
+// What a second under each advisory costs.
+const COSTS: [i64; 7] = [0, 1, 1, 2, 5, 5, 8];
+
+// Whether the choices are all advisories, by their numbers, at those costs.
+fn are_all(choices: &[Choice]) -> bool {
+    let mut all = choices.len() == COSTS.len();
+    for advisory in 0..7u8 {
+        let place = usize::from(advisory);
+        let cost = COSTS[place];
+        all = all && choices.get(place) == Some(&Choice { advisory, cost });
+    }
+    all
 }
 
 // Whether the advisory of a number has this name and this interval of rates, and under it each may be chosen at its cost.
@@ -21,17 +31,8 @@ fn asks(model: &Model, a: u8, name: &str, lo: i64, hi: i64) -> Option<bool> {
         return None;
     }
     let found = model.advisory(a);
-    let each = [
-        choice(0, 0),
-        choice(1, 1),
-        choice(2, 1),
-        choice(3, 2),
-        choice(4, 5),
-        choice(5, 5),
-        choice(6, 8),
-    ];
     let named = found.name.bytes() == name.as_bytes();
-    Some(named && found.lo == lo && found.hi == hi && model.choices(a) == each.as_slice())
+    Some(named && found.lo == lo && found.hi == hi && are_all(model.choices(a)))
 }
 
 // 12345 is 7 * 1763 + 4, 1763 is 4 * 440 + 3, 440 is 4 * 110, and 110 is 31 * 3 + 17. 999999999 is 7 * 142857142 + 5, 142857142 is

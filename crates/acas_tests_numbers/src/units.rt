@@ -2,6 +2,7 @@
 ghost use Rattle.std.specs.Prelude.{◌≤◌, ◌^◌, unsigned_abs};
 
 use acas_units::{Line, Span, feet_to_ticks, print_millionths};
+use std::alloc::{AllocError, Global};
 use std::test::Fail;
 
 // 10^30.
@@ -21,30 +22,50 @@ fn write_number(line: &mut Line, value: i128) {
     line.number(value);
 }
 
+// Numbers of millionths, and how they are printed.
+const MILLIONTHS: [(i128, &str); 11] = [
+    (0, "0.000000"),
+    (1, "0.000001"),
+    (-1, "-0.000001"),
+    (10, "0.000010"),
+    (999_999, "0.999999"),
+    (1_000_000, "1.000000"),
+    (-1_000_000, "-1.000000"),
+    (-1_234_567, "-1.234567"),
+    (20_305_007, "20.305007"),
+    (LARGEST, "1000000000000000000000000.000000"),
+    (-LARGEST, "-1000000000000000000000000.000000"),
+];
+
+// A text and behind it a number of millionths.
+fn with_millionths(alloc: Global, value: i128) -> Result<Vec<u8>, AllocError>
+    requires { unsigned_abs value ≤ 10 ^ 30 }
+{
+    let mut out = Vec::from_slice(alloc, b"cost ")?;
+    print_millionths(&mut out, value)?;
+    Ok(out)
+}
+
 #[test]
-fn numbers_of_millionths(rt: HostRuntime) -> Result<(), Fail> {
-    let rows = [
-        (0, "0.000000"),
-        (1, "0.000001"),
-        (-1, "-0.000001"),
-        (10, "0.000010"),
-        (999_999, "0.999999"),
-        (1_000_000, "1.000000"),
-        (-1_000_000, "-1.000000"),
-        (-1_234_567, "-1.234567"),
-        (20_305_007, "20.305007"),
-        (LARGEST, "1000000000000000000000000.000000"),
-        (-LARGEST, "-1000000000000000000000000.000000"),
-    ];
-    let mut line = Line::make(rt.alloc())?;
-    for (value, text) in rows {
+fn numbers_of_millionths_behind_a_text(rt: HostRuntime) -> Result<(), Fail> {
+    for (value, text) in MILLIONTHS {
         assert!(rt; value.unsigned_abs() <= LARGEST.unsigned_abs());
-        let mut out = Vec::from_slice(rt.alloc(), b"cost ")?;
-        print_millionths(&mut out, value)?;
-        assert_eq!(rt; &out[..5], "cost ".as_bytes(), "before {text}");
-        assert_eq!(rt; &out[5..], text.as_bytes(), "{text}");
+        let out = with_millionths(rt.alloc(), value)?;
+        assert!(rt;
+            out.strip_prefix(b"cost ") == Some(text.as_bytes()),
+            "{text}"
+        );
+    }
+    Ok(())
+}
+
+#[test]
+fn numbers_of_millionths_on_a_line(rt: HostRuntime) -> Result<(), Fail> {
+    let mut line = Line::make(rt.alloc())?;
+    for (value, text) in MILLIONTHS {
+        assert!(rt; value.unsigned_abs() <= LARGEST.unsigned_abs());
         write_millionths(&mut line, value);
-        assert_eq!(rt; line.bytes(), text.as_bytes(), "{text} on a line");
+        assert_eq!(rt; line.bytes(), text.as_bytes(), "{text}");
     }
     Ok(())
 }
@@ -64,13 +85,23 @@ fn whole_numbers_on_a_line(rt: HostRuntime) -> Result<(), Fail> {
         write_number(&mut line, value);
         assert_eq!(rt; line.bytes(), text.as_bytes(), "{text}");
     }
-    line.clear();
+    Ok(())
+}
+
+#[test]
+fn lines_take_bytes(rt: HostRuntime) -> Result<(), Fail> {
+    let mut line = Line::make(rt.alloc())?;
     line.push(b"cell ");
     line.push(b"7");
     assert_eq!(rt; line.bytes(), "cell 7".as_bytes());
     line.clear();
     line.push(&[b'x'; 1_024]);
     assert_eq!(rt; line.bytes().len(), 1_024);
+    Ok(())
+}
+
+#[test]
+fn feet_are_ticks_and_spans_have_ends(rt: HostRuntime) -> Result<(), Fail> {
     for (feet, ticks) in [(0, 0), (1, 120), (-10_000, -1_200_000), (10_000, 1_200_000)] {
         assert_eq!(rt; feet_to_ticks(feet), ticks, "{feet} ft");
     }

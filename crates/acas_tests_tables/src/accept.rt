@@ -43,14 +43,8 @@ fn folder_with(
 // The advices that a table of a model is accepted with.
 fn advices_of(alloc: Global, model: &Model, layers: &Layers, is_second: bool) -> Option<Vec<u8>> {
     let mut folder = folder_with(alloc, model, layers, is_second)?;
-    let advices = accept::<StencilMeans, MemoryFolder>(
-        alloc,
-        model,
-        &MODEL,
-        &mut folder,
-        "t",
-    ).ok()?;
-    list_of(alloc, model, &advices).ok()
+    let found = accept::<StencilMeans, MemoryFolder>(alloc, model, &MODEL, &mut folder, "t");
+    list_of(alloc, model, &found.ok()?).ok()
 }
 
 // The pairs and the advices of all layers that a table of a model is accepted with, one after the other.

@@ -20,13 +20,8 @@ pub struct Layers {
 
 /// A folder of which the reads of these numbers fail, and whose calls take or give at most so many bytes.
 pub fn folder_failing(alloc: Global, reads: &[u64], most: u32) -> Result<MemoryFolder, AllocError> {
-    MemoryFolder::new(
-        alloc,
-        reads.to_vec(alloc)?,
-        Vec::new(alloc),
-        Vec::new(alloc),
-        most.max(1),
-    )
+    let reads = reads.to_vec(alloc)?;
+    MemoryFolder::new(alloc, reads, Vec::new(alloc), Vec::new(alloc), most.max(1))
 }
 
 /// Writes a table of three layers, and gives its length.

@@ -143,10 +143,8 @@ fn a_fault_stays(rt: HostRuntime) -> Result<(), Fail> {
     let mut layers = rising();
     layers.advice[0] = [1; 16];
     let mut folder = folder_failing(alloc, &[], 10)?;
-    folder.put(
-        "t",
-        table_of(alloc, &model, &layers, false).ok_or("a table")?,
-    )?;
+    let wrong = table_of(alloc, &model, &layers, false).ok_or("a table")?;
+    folder.put("t", wrong)?;
     let mut reader = TableReader::start(alloc, &model, &MODEL, &mut folder, "t")?;
     let fault = TableFault::Advice {
         layer: 0,
@@ -154,10 +152,8 @@ fn a_fault_stays(rt: HostRuntime) -> Result<(), Fail> {
         byte: 1,
     };
     assert_eq!(rt; reader.entry(&mut folder, "t"), Err(fault));
-    folder.put(
-        "t",
-        table_of(alloc, &model, &rising(), false).ok_or("a table")?,
-    )?;
+    let right = table_of(alloc, &model, &rising(), false).ok_or("a table")?;
+    folder.put("t", right)?;
     assert_eq!(rt; reader.entry(&mut folder, "t"), Err(fault));
     Ok(())
 }

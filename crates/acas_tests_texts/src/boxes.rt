@@ -53,10 +53,9 @@ fn is_second(found: &AuditBox) -> bool {
 
 #[test]
 fn any_spelling_says_the_boxes(rt: HostRuntime) -> Result<(), Fail> {
-    let alloc = rt.alloc();
-    let model = model_of(alloc, "c").ok_or("a model")?;
+    let model = model_of(rt.alloc(), "c").ok_or("a model")?;
     for text in [PLAIN, OTHER] {
-        let boxes = read_boxes(alloc, &model, text.as_bytes())?;
+        let boxes = read_boxes(rt.alloc(), &model, text.as_bytes())?;
         assert_eq!(rt; boxes.len(), 2);
         assert!(rt; is_first(boxes.at(0)));
         assert!(rt; is_second(boxes.at(1)));

@@ -60,10 +60,9 @@ fn says_seconds(encounter: &Encounter) -> bool {
 
 #[test]
 fn any_spelling_says_the_encounter(rt: HostRuntime) -> Result<(), Fail> {
-    let alloc = rt.alloc();
-    let model = model_of(alloc, "c").ok_or("a model")?;
+    let model = model_of(rt.alloc(), "c").ok_or("a model")?;
     for text in [PLAIN, OTHER] {
-        let encounter = read_encounter(alloc, &model, text.as_bytes())?;
+        let encounter = read_encounter(rt.alloc(), &model, text.as_bytes())?;
         assert!(rt; says_start(&encounter));
         assert!(rt; says_seconds(&encounter));
     }

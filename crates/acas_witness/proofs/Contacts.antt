@@ -81,7 +81,7 @@ pub contact_of : (half : ℕ) (a : Demand) (area : Area) (w : Times) (p : Plan) 
     Prints (unit (search_between a area n.low n.high)) n.found.flight f → All IsReduced (flight_fractions f) → IsFlightInContact half a area w f
 contact_of half a area w p f n fl lowest =
     contact_at half (search_between a area n.low n.high) w n.found.flight f n.thick n.fine
-    (record { low_after = n.at_low.after; low_before = n.at_low.before; high_after = n.at_high.after; high_before = n.at_high.before }) n.can n.found.found fl lowest
+    (record { low_after = n.at_low.first.after; low_before = n.at_low.first.before; high_after = n.at_high.first.after; high_before = n.at_high.first.before }) n.can n.found.found fl lowest
 
 -- the flight's time is one of the window
 pub during_of : (w : Times) (f : Fraction) (q t : ℕ) → 0 < q → pos 0 ≤ℤ f.num → IsOver q (pos t) f → IsDuring q w t → IsDuring f.den w (unsigned_abs f.num)

@@ -26,7 +26,7 @@ not_clear half a area w thick f ends search not =
     let l = low_reached a area w f ends in
     let h = high_reached a area w f ends in
     endangers half (search_between a area l.time h.time) w thick (search l.time h.time l.moment h.moment)
-    (record { low_after = l.extreme.after; low_before = l.extreme.before; high_after = h.extreme.after; high_before = h.extreme.before })
+    (record { low_after = l.extreme.first.after; low_before = l.extreme.first.before; high_after = h.extreme.first.after; high_before = h.extreme.first.before })
     (can_meet half a area w l.time h.time l.extreme h.extreme not)
 
 -- the same of an area within the limits, under an advisory of a model

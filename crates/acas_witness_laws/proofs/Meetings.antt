@@ -48,7 +48,7 @@ above_low half a area w time p u pp i low h q t pq d =
     rw (least_gap-border a area q pq t, low_pull-border a area q pq)
     (over_at_other half s p u q t pp pq
     (rw (least_gap-border a area (p * q) some (u * q), least_gap-border a area (p * q) some (t * p)) at
-    (low.least (p * q) (u * q) (t * p) some (IsOver-finer time p q (pos u) i) (during_other p q t w d)))
+    (low.first.least (p * q) (u * q) (t * p) some (IsOver-finer time p q (pos u) i) (during_other p q t w d)))
     (rw (puck half p (s.pull * p)) (rw (least_gap-border a area p pp u, low_pull-border a area p pp) at h)))
 
 -- ---- the high side: an area whose gap at the high extreme is below the puck is clear
@@ -61,10 +61,10 @@ below_high half a area w time p u pp i high h q t pq d =
     rw (greatest_gap-border a area q pq t, high_pull-border a area q pq, mul-neg_ℤ (pos (s.pull * q)) (pos (half * (q * q * q))))
     (neg-lt_ℤ _ _ (over_at_other half s p u q t pp pq
     (turned_le _ _ (rw (greatest_gap-border a area (p * q) some (u * q), greatest_gap-border a area (p * q) some (t * p)) at
-    (high.greatest (p * q) (u * q) (t * p) some (IsOver-finer time p q (pos u) i) (during_other p q t w d))))
+    (high.first.least (p * q) (u * q) (t * p) some (IsOver-finer time p q (pos u) i) (during_other p q t w d))))
     (rw (puck half p (s.pull * p)) (turned_lt _ _ (rw (greatest_gap-border a area p pp u, high_pull-border a area p pp) at h)))))
   where
-    turned_le : (y z : ℤ) → neg_ℤ z ≤ℤ neg_ℤ y → y ≤ℤ z
+    turned_le : (y z : ℤ) → neg_ℤ (neg_ℤ y) ≤ℤ neg_ℤ (neg_ℤ z) → y ≤ℤ z
     turned_le y z h = omega (arith, ints)
 
     turned_lt : (y z : ℤ) → neg_ℤ z <ℤ neg_ℤ y → y <ℤ z

@@ -45,7 +45,7 @@ pub returns-in-Audit-clause-headline : goal.returns-in-Audit-clause-headline
 returns-in-Audit-clause-headline g c =
     let before : Outside = outside g.F.Folder g.O.Sink c.args.folder.now c.args.out.now in
     let after : Outside = outside g.F.Folder g.O.Sink c.audit.new.folder c.audit.new.out in
-    rw (c.in-Audit.is, c.cause_of_report.ensures)
+    rw (c.in-Audit.is, c.cause_of_report-in-Audit.ensures)
     (audit-worth c.in-Audit.model.now c.in-Audit.table.now c.in-Audit.which (report_ended c.audit.result) before after c.audit.ensures.answers)
 
 pub returns-in-Regions-clause-headline : goal.returns-in-Regions-clause-headline
@@ -77,7 +77,7 @@ pub returns-in-Safeable-clause-headline : goal.returns-in-Safeable-clause-headli
 returns-in-Safeable-clause-headline g c =
     let before : Outside = outside g.F.Folder g.O.Sink c.args.folder.now c.args.out.now in
     let after : Outside = outside g.F.Folder g.O.Sink c.safeable.new.folder c.safeable.new.out in
-    rw (c.in-Safeable.is, c.cause_of_report-in-Safeable.ensures)
+    rw (c.in-Safeable.is, c.cause_of_report.ensures)
     (safeable-worth c.in-Safeable.model.now c.in-Safeable.table.now (report_ended c.safeable.result) before after c.safeable.ensures.answers)
 
 pub returns-in-Replay-clause-headline : goal.returns-in-Replay-clause-headline

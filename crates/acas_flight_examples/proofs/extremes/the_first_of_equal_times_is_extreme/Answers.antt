@@ -33,18 +33,22 @@ pub returns-clause-low : goal.returns-clause-low
 returns-clause-low c = record {
   reduced = one_is_reduced;
   ahead = omega (arith, ints);
-  after = omega (arith, ints);
-  before = omega (arith, ints);
-  least = λ q s t p e d. rw (least_is_none q s, least_is_none q t) (omega (arith, ints));
-  earliest = λ q s t p e d l. absurd (omega (arith, ints, e, d.0));
+  first = record {
+    after = omega (arith, ints);
+    before = omega (arith, ints);
+    least = λ q s t p e d. rw (least_is_none q s, least_is_none q t) (omega (arith, ints));
+    earliest = λ q s t p e d l. absurd (omega (arith, ints, e, d.0));
+  };
 }
 
 pub returns-clause-high : goal.returns-clause-high
 returns-clause-high c = record {
   reduced = one_is_reduced;
   ahead = omega (arith, ints);
-  after = omega (arith, ints);
-  before = omega (arith, ints);
-  greatest = λ q s t p e d. rw (greatest_is_none q s, greatest_is_none q t) (omega (arith, ints));
-  earliest = λ q s t p e d l. absurd (omega (arith, ints, e, d.0));
+  first = record {
+    after = omega (arith, ints);
+    before = omega (arith, ints);
+    least = λ q s t p e d. rw (greatest_is_none q s, greatest_is_none q t) (omega (arith, ints));
+    earliest = λ q s t p e d l. absurd (omega (arith, ints, e, d.0));
+  };
 }

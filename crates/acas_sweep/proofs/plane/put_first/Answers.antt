@@ -1,4 +1,5 @@
-use Rattle.std.proofs.Common.{◌≡◌, ◌%◌, ap, subst, ◌∙◌, arith, ℕ, ◌+◌}
+use Rattle.std.proofs.Common.{◌≡◌, ◌%◌, ap, replicate, subst, ◌∙◌, arith, ℕ, ◌+◌}
+use Rattle.std.proofs.lemmas.List.{get_or-replicate}
 use Rattle.std.proofs.lemmas.Nat.{mod_below}
 use Rattle.acas_spec.specs.Model.{GridData, vertices}
 use Rattle.acas_grid.proofs.Vertices.{some_width}
@@ -11,13 +12,13 @@ use Rattle.acas_sweep.proofs.plane.put_first.Goals as goal
 pub loop-count-preserved : goal.loop-count-preserved
 loop-count-preserved c =
     let m = c.args.model.now in
-    let v = c.vertex_after.result in
+    let v = c.vertex_after-vertex.result in
     let k = c.loop-count.count in
     let same = c.grid-in-loop-count.ensures.value in
-    let turn_is : turn m.grid v ≡ k = rw same at c.vertex_after.ensures.turn in
+    let turn_is : turn m.grid v ≡ k = rw same at c.vertex_after-vertex.ensures.turn in
     record {
-      first = first_next m v k (pairs_in c.loop-count.block.work) c.loop-count.advice (pairs_in c.put_endings.new.block.work) c.put_endings.new.advice (rw same at c.vertex_after.ensures.below) turn_is c.loop-count.invariant.first c.put_endings.ensures.endings c.put_endings.ensures.others;
-      filled = subst (λ (t : ℕ). IsFilledTo m.grid (t + 1) 0 c.put_endings.new.block) turn_is c.put_endings.ensures.filled;
+      first = first_next m v k (replicate 16 c.terminal_entry-entries.result) c.terminal_entry-entries.result (pairs_in c.loop-count.block.work) c.loop-count.advice (pairs_in c.put_vertex.new.block.work) c.put_vertex.new.advice (rw same at c.vertex_after-vertex.ensures.below) turn_is c.loop-count.invariant.first (λ p known. grind (arith, get_or-replicate)) c.terminal_entry-entries.ensures c.put_vertex.ensures.written c.put_vertex.ensures.others;
+      filled = subst (λ (t : ℕ). IsFilledTo m.grid (t + 1) 0 c.put_vertex.new.block) turn_is c.put_vertex.ensures.filled;
     }
 
 pub returns-clause-entries : goal.returns-clause-entries

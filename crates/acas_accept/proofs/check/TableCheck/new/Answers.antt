@@ -13,6 +13,6 @@ returns-clause-check c =
       pairs = grind (arith, common_steps);
       advice = grind (arith, common_steps);
       means = grind (arith, common_steps);
-      leasts = c.in_ok-new.ensures c.in_ok-vec-3.field-0.items;
+      leasts = c.in_ok-leasts.ensures c.in_ok-means.means.items;
       allowed = record { each = λ s some none. absurd (omega (arith, none)) };
     }

@@ -18,7 +18,7 @@ certify-requires-clause-advice t c = omega (arith, c.requires.advice, c.grid.ens
 
 pub returns-then-not-waits-clause-ruled : goal.returns-then-not-waits-clause-ruled
 returns-then-not-waits-clause-ruled t c =
-    ruled_kept (λ i j k. IsEndangeredCell c.args.model.now c.args.n i j k c.args.advice) c.args.advice c.args.block.now c.args.self.now c.requires.lists
+    ruled_kept (λ i j k. IsEndangeredCell c.args.model.now c.args.n i j k c.args.advice) c.args.advice c.args.block.now c.args.self.now c.requires.sets
     (λ i j k h e. absurd (one_answer _ e (c.if-not-waits.ensures.none refl i j k h)))
 
 pub returns-then-not-waits-clause-counted : goal.returns-then-not-waits-clause-counted
@@ -40,7 +40,7 @@ returns-then-block_clear-clause-counted t c = λ a present waits. (
 
 pub returns-then-is_one_cell-clause-ruled : goal.returns-then-is_one_cell-clause-ruled
 returns-then-is_one_cell-clause-ruled t c =
-    ruled_kept (λ i j k. IsEndangeredCell c.args.model.now c.args.n i j k c.args.advice) c.args.advice c.args.block.now c.args.self.now c.requires.lists
+    ruled_kept (λ i j k. IsEndangeredCell c.args.model.now c.args.n i j k c.args.advice) c.args.advice c.args.block.now c.args.self.now c.requires.sets
     (λ i j k h e. danger_everywhere c.args.model.now c.args.n c.args.advice c.args.block.now (sym c.is_one_cell.ensures ∙ c.if-is_one_cell.true) (c.if-block_clear.ensures.danger refl) i j k h)
 
 pub returns-then-is_one_cell-clause-counted : goal.returns-then-is_one_cell-clause-counted
@@ -65,7 +65,7 @@ decide_block-requires t c =
     (some_cells c.halves.result.1 parts.some_second) c.requires.room
     in
     let fall : sides c.halves.result.0 < t = omega (arith, parts.first_smaller, c.decreases) in
-    (fall, (c.requires.audit, (c.requires.lists, (c.requires.n, (c.requires.some, (c.requires.advice, (block, room)))))))
+    (fall, (c.requires.audit, (c.requires.sets, (c.requires.n, (c.requires.some, (c.requires.advice, (block, room)))))))
 
 pub decide_block-requires-2 : goal.decide_block-requires-2
 decide_block-requires-2 t c =
@@ -88,7 +88,7 @@ decide_block-requires-2 t c =
     c.decide_block.ensures.most c.requires.room
     in
     let fall : sides c.halves.result.1 < t = omega (arith, parts.second_smaller, c.decreases) in
-    (fall, (audit, (c.decide_block.ensures.ruled.lists, (c.requires.n, (c.requires.some, (c.requires.advice, (block, room)))))))
+    (fall, (audit, (c.decide_block.ensures.ruled.sets, (c.requires.n, (c.requires.some, (c.requires.advice, (block, room)))))))
 
 pub returns-clause-ruled : goal.returns-clause-ruled
 returns-clause-ruled t c =

@@ -6,10 +6,10 @@ use Rattle.acas_audit_blocks.proofs.block_audit.BlockAudit.certify.Goals as goal
 pub loop-i-init : goal.loop-i-init
 loop-i-init c =
     let b = c.args.block.now in
-    record { ruled = ruled_nothing c.args.advice (record b { i1 = b.i0 }) c.args.self.now c.requires.lists (λ i j k h. omega (arith, h.from_i, h.before_i)) }
+    record { ruled = ruled_nothing c.args.advice (record b { i1 = b.i0 }) c.args.self.now c.requires.sets (λ i j k h. omega (arith, h.from_i, h.before_i)) }
 
-pub certify_at-requires-clause-lists : goal.certify_at-requires-clause-lists
-certify_at-requires-clause-lists c = c.loop-i.invariant.ruled.lists
+pub certify_at-requires-clause-sets : goal.certify_at-requires-clause-sets
+certify_at-requires-clause-sets c = c.loop-i.invariant.ruled.sets
 
 pub certify_at-requires-clause-block : goal.certify_at-requires-clause-block
 certify_at-requires-clause-block c = block_after _ _ c.args.block.now c.loop-i.invariant.ruled.same c.requires.block

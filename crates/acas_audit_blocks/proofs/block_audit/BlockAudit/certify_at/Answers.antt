@@ -7,11 +7,11 @@ pub loop-j-init : goal.loop-j-init
 loop-j-init c =
     let b = c.args.block.now in
     record {
-      ruled = ruled_nothing c.args.advice (record b { i0 = c.args.i; i1 = c.args.i + 1; j1 = b.j0 }) c.args.self.now c.requires.lists (λ i j k h. omega (arith, h.from_j, h.before_j));
+      ruled = ruled_nothing c.args.advice (record b { i0 = c.args.i; i1 = c.args.i + 1; j1 = b.j0 }) c.args.self.now c.requires.sets (λ i j k h. omega (arith, h.from_j, h.before_j));
     }
 
-pub certify_row-requires-clause-lists : goal.certify_row-requires-clause-lists
-certify_row-requires-clause-lists c = c.loop-j.invariant.ruled.lists
+pub certify_row-requires-clause-sets : goal.certify_row-requires-clause-sets
+certify_row-requires-clause-sets c = c.loop-j.invariant.ruled.sets
 
 pub certify_row-requires-clause-block : goal.certify_row-requires-clause-block
 certify_row-requires-clause-block c = block_after _ _ c.args.block.now c.loop-j.invariant.ruled.same c.requires.block

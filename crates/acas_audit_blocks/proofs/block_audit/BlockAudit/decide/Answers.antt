@@ -6,7 +6,7 @@ use Rattle.acas_cells.specs.Blocks.{IsBlockOf, all_cells, cells_in}
 use Rattle.acas_cells.specs.DecisionCounts.{IsSumBelow}
 use Rattle.acas_audit_blocks.specs.Decisions.{AreDecisionsUnder, IsDecidedBy}
 use Rattle.acas_cells.specs.declared.block.Block.{Block}
-use Rattle.acas_audit_blocks.proofs.Decided.{IsDecidedBelow, decided_at_first, decided_next, decided_under, exact_lists, none_at_first, waits_next}
+use Rattle.acas_audit_blocks.proofs.Decided.{IsDecidedBelow, decided_at_first, decided_next, decided_under, exact_sets, none_at_first, waits_next}
 use Rattle.acas_cells.proofs.DecisionCounts.{one_more_at}
 use Rattle.acas_audit_blocks.proofs.block_audit.BlockAudit.decide.Goals as goal
 
@@ -65,12 +65,12 @@ loop-advice-preserved c =
       most = omega (arith, inv.most, c.decide_block.ensures.most, same);
     }
 
-pub returns-clause-lists : goal.returns-clause-lists
-returns-clause-lists c =
+pub returns-clause-sets : goal.returns-clause-sets
+returns-clause-sets c =
     let m = c.args.model.now in
     let count_same : c.behind-model.inside.advisories ≡ m.grid.advisories = ap (λ (g : GridData). g.advisories) (c.behind-model.view_is ∙ c.grid.ensures.value) in
     let ends : c.loop-advice.advice ≡ m.grid.advisories = omega (arith, c.loop-advice-test.false, c.loop-advice.auto.advice-end, c.grid.ensures.valid.grid.some_advisories) in
-    exact_lists m c.args.advices.now c.args.n c.args.present c.loop-advice.self c.loop-advice.invariant.audit
+    exact_sets m c.args.advices.now c.args.n c.args.present c.loop-advice.self c.loop-advice.invariant.audit
     (subst (λ (x : ℕ). IsDecidedBelow m c.args.advices.now c.args.n c.args.present x c.loop-advice.self) ends c.loop-advice.invariant.decided)
 
 pub returns-clause-counted : goal.returns-clause-counted

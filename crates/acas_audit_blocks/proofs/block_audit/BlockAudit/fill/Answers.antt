@@ -4,25 +4,15 @@ use Rattle.acas_audit_blocks.proofs.Filled.{filled_next, filled_to, filled_whole
 use Rattle.acas_audit_blocks.proofs.Ruled.{place_within}
 use Rattle.acas_audit_blocks.proofs.block_audit.BlockAudit.fill.Goals as goal
 
-pub push_sets-requires-clause-certified : goal.push_sets-requires-clause-certified
-push_sets-requires-clause-certified c =
+pub push_sets-requires : goal.push_sets-requires
+push_sets-requires c =
     let s = c.loop-k.self in
     let here : IsPlace s c.loop-i.i c.loop-j.j c.loop-k.k = record {
       altitude = omega (arith, ap (λ (a : BlockAuditData). a.altitudes) c.self.view_is);
       own = omega (arith, ap (λ (a : BlockAuditData). a.own_rates) c.self-in-loop-i.view_is);
       intruder = omega (arith, ap (λ (a : BlockAuditData). a.intruder_rates) c.self-in-loop-j.view_is);
     } in
-    omega (arith, c.loop-k.invariant.filled.certified, place_within s c.loop-i.i c.loop-j.j c.loop-k.k here)
-
-pub push_sets-requires-clause-reported : goal.push_sets-requires-clause-reported
-push_sets-requires-clause-reported c =
-    let s = c.loop-k.self in
-    let here : IsPlace s c.loop-i.i c.loop-j.j c.loop-k.k = record {
-      altitude = omega (arith, ap (λ (a : BlockAuditData). a.altitudes) c.self.view_is);
-      own = omega (arith, ap (λ (a : BlockAuditData). a.own_rates) c.self-in-loop-i.view_is);
-      intruder = omega (arith, ap (λ (a : BlockAuditData). a.intruder_rates) c.self-in-loop-j.view_is);
-    } in
-    omega (arith, c.loop-k.invariant.filled.reported, place_within s c.loop-i.i c.loop-j.j c.loop-k.k here)
+    omega (arith, c.loop-k.invariant.filled.long, place_within s c.loop-i.i c.loop-j.j c.loop-k.k here)
 
 pub loop-k-preserved : goal.loop-k-preserved
 loop-k-preserved c =
@@ -38,9 +28,12 @@ loop-k-preserved c =
         own_rates = c.push_sets.ensures.same.own_rates ∙ c.loop-k.invariant.same.own_rates;
         intruder_rates = c.push_sets.ensures.same.intruder_rates ∙ c.loop-k.invariant.same.intruder_rates;
       };
-      filled = filled_next c.args.model.now c.args.advices.now c.args.n c.args.present c.loop-i.i c.loop-j.j c.loop-k.k s c.push_sets.new.self c.empty.result c.without-set.result
-          c.push_sets.ensures.same here c.loop-k.invariant.filled c.push_sets.ensures.certified c.push_sets.ensures.reported c.empty.ensures.none
-          (λ b. c.without-set.ensures b ∙ ap (λ x. not (b == 0) && x) (c.advices_at.ensures.exact b));
+      filled = filled_next c.args.model.now c.args.advices.now c.args.n c.args.present c.loop-i.i c.loop-j.j c.loop-k.k s c.push_sets.new.self _
+          c.push_sets.ensures.same here c.loop-k.invariant.filled c.push_sets.ensures.sets
+          (record {
+            none = c.empty.ensures.none;
+            tabled = λ b. c.without.ensures b ∙ ap (λ x. not (b == 0) && x) (c.advices_at.ensures.exact b);
+          });
     }
 
 pub loop-j-preserved : goal.loop-j-preserved

@@ -1,7 +1,7 @@
 use Rattle.std.proofs.Common.{◌≡◌, true, sym, ◌∙◌, ap, arith}
 use Rattle.acas_audit_blocks.specs.Audits.{certified_at, reported_at}
+use Rattle.acas_audit_blocks.specs.declared.block_audit.CellSets.{CellSets}
 use Rattle.acas_cells.specs.Sets.{holds}
-use Rattle.acas_cells.specs.declared.set.AdviceSet.{AdviceSet}
 use Rattle.acas_report.proofs.sources.ByBlocksRulings.ruling.Goals as goal
 
 pub sets-sets-requires-clause-place : goal.sets-sets-requires-clause-place
@@ -18,7 +18,7 @@ pub returns-then-has : goal.returns-then-has
 returns-then-has c =
     let name = c.args.name.now in
     let there : holds (certified_at c.args.self.now.0 name.i name.j name.k) name.advice ≡ true =
-    ap (λ (s : AdviceSet). holds s name.advice) (sym c.sets-sets.ensures.certified) ∙ (sym c.has.ensures ∙ c.if-has.true)
+    ap (λ (s : CellSets). holds s.certified name.advice) (sym c.sets-sets.ensures) ∙ (sym c.has.ensures ∙ c.if-has.true)
     in
     c.requires.ready.1.safe name.i name.j name.k name.advice c.requires.cell c.requires.advice there
 
@@ -26,6 +26,6 @@ pub witness_of-requires-clause-danger : goal.witness_of-requires-clause-danger
 witness_of-requires-clause-danger c =
     let name = c.args.name.now in
     let there : holds (reported_at c.args.self.now.0 name.i name.j name.k) name.advice ≡ true =
-    ap (λ (s : AdviceSet). holds s name.advice) (sym c.sets-sets.ensures.reported) ∙ (sym c.has-2.ensures ∙ c.if-has-2.true)
+    ap (λ (s : CellSets). holds s.reported name.advice) (sym c.sets-sets.ensures) ∙ (sym c.has-2.ensures ∙ c.if-has-2.true)
     in
     c.requires.ready.1.endangered name.i name.j name.k name.advice c.requires.cell c.requires.advice there

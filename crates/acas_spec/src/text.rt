@@ -1,30 +1,31 @@
-//! The printed path of a key.
+//! A text, such as the name of an advisory.
 ghost use Rattle.std.specs.Prelude.{◌≡◌};
 
 use std::marker::Model;
 
-/// The path of a key or an item as it is printed, such as `grid.altitude[2]`. Contracts see it as its bytes.
+/// A text. Contracts see it as its bytes.
 #[derive(Debug, Drop)]
-pub struct KeyText {
+pub struct Text {
     bytes: Vec<u8>,
 }
 
-impl Model for KeyText {
+impl Model for Text {
     ghost use Rattle.std.specs.Prelude.{List, ℕ};
 
     ghost Value = { List ℕ };
 
-    ghost view = { λ k. k.bytes.items };
+    ghost view = { λ t. t.bytes.items };
 }
 
-impl KeyText {
-    pub(crate) fn new(bytes: Vec<u8>) -> KeyText
+impl Text {
+    /// The text of these bytes.
+    pub fn new(bytes: Vec<u8>) -> Text
         ensures { result ≡ bytes.items }
     {
-        KeyText { bytes }
+        Text { bytes }
     }
 
-    /// The bytes of the path.
+    /// Its bytes.
     pub fn bytes(&self) -> &[u8]
         ensures { result.now ≡ self.now }
     {
