@@ -75,19 +75,19 @@ pub fn run<F: Folder, O: Sink, E: Sink>(
 {
     let Some(command) = command_of(words) else {
         report_words(err);
-        return ended(Cause::Words);
+        return status_of(Cause::Words);
     };
     let Ok(mut line) = Line::make(alloc) else {
         report_memory(err);
-        return ended(Cause::Memory);
+        return status_of(Cause::Memory);
     };
     let cause = answer(alloc, &command, folder, out, work);
     report(words, &cause, &mut line, err);
-    ended(cause)
+    status_of(cause)
 }
 
 // The end of a run by its cause.
-fn ended(cause: Cause) -> Status
+fn status_of(cause: Cause) -> Status
     ensures code { result.code ≡ code_of cause }
     ensures cause { result.cause ≡ cause }
 {

@@ -109,5 +109,5 @@ pub rule-contact : (half : ℕ) (a : Demand) (may : Manoeuvre) (area : Area) (w 
     IsHunt (hunt_between a may area n.low n.high) → ¬ IsApart half a may area w → IsMeetingInContact half a may area w m
 rule-contact half a may area w m n thick is apart =
     printed-contact half (hunt_between a may area n.low n.high) w n.course m thick is
-    (record { low_after = n.at_low.after; low_before = n.at_low.before; high_after = n.at_high.after; high_before = n.at_high.before })
-    (can-meet (hunt_between a may area n.low n.high) is half w n.at_low n.at_high apart) n.found n.prints
+    (record { low_after = n.at_low.first.after; low_before = n.at_low.first.before; high_after = n.at_high.first.after; high_before = n.at_high.first.before })
+    (can-meet (hunt_between a may area n.low n.high) is half w n.at_low.first n.at_high.first apart) n.found n.prints

@@ -1,5 +1,5 @@
 -- An area has one meeting in a window, and a box one verdict.
-use Rattle.std.proofs.Common.{◌≡◌, ℕ, ◌*◌, ◌<◌, refl, sym, ap, ap₂, subst, arith, List, [], ◌∷◌, ◌++◌, pos, ◌≤ℤ◌, mul-pos}
+use Rattle.std.proofs.Common.{◌≡◌, ℕ, ◌*◌, ◌<◌, refl, sym, ap, ap₂, subst, arith, List, [], ◌∷◌, ◌++◌, mul-pos}
 use Rattle.std.proofs.lemmas.Int.{ints}
 use Rattle.std.proofs.lemmas.List.Elements.{recursion_from_All, All-from_recursion}
 use Rattle.std.specs.List.{All, AllByRecursion}
@@ -11,7 +11,7 @@ use Rattle.acas_flight.specs.Parts.{CanBeMet}
 use Rattle.acas_flight.specs.Clear.{Area, area_of_box}
 use Rattle.acas_flight.specs.Window.{Times}
 use Rattle.acas_flight_curves.proofs.Models.{demand_can_be_met}
-use Rattle.acas_flight_laws.proofs.Extremes.{extreme-same, first_least-windows}
+use Rattle.acas_flight_laws.proofs.Extremes.{extreme-same, extreme-windows}
 use Rattle.acas_passes.specs.Search.{unit}
 use Rattle.acas_pass_laws.proofs.Ends.{found-one}
 use Rattle.acas_rulings.specs.Boxes.{AuditedBox, IsBoxOf}
@@ -24,8 +24,7 @@ use Rattle.acas_ruling_laws.proofs.Prints.{flight-printed_one, segments-printed_
 use Rattle.acas_ruling_laws.proofs.RangeOnes.{boxes_range-one}
 use Rattle.acas_ruling_laws.proofs.RulingOnes.{same_times_of_box, same_witness}
 use Rattle.acas_manoeuvre.specs.Intruder.{Manoeuvre}
-use Rattle.acas_manoeuvre.specs.Least.{IsFirstLeastTime}
-use Rattle.acas_manoeuvre.specs.Race.{Race, high_race, low_race, race_gap, turned}
+use Rattle.acas_manoeuvre.specs.Race.{high_race, low_race, race_gap, turned}
 use Rattle.acas_meetings.specs.Hunt.{Course, Finds, Hunt, accel, high_course, low_course, passes, value}
 use Rattle.acas_meetings.specs.Printed.{PrintsCourse, against_of, meeting_fractions}
 use Rattle.acas_meetings.specs.Verdicts.{IsMeetVerdict, IsMeetingOf, IsMet, hunt_between}
@@ -33,14 +32,6 @@ use Rattle.acas_meetings.specs.declared.meeting.Meeting.{Meeting}
 use Rattle.acas_meetings.specs.declared.verdict.MeetVerdict.{MeetVerdict}
 use Rattle.acas_meetings.specs.declared.verdict.MeetVerdict.TheVariants.{Certified, Reported}
 use Rattle.acas_meeting_laws.proofs.Pulls.{found_course-pull}
-
--- ---- the first time at which a race is nearest is one
-
-time-one : (r : Race) (v w : Times) (s t : Fraction) → AreSameTimes v w → IsReduced s → IsReduced t → pos 0 ≤ℤ s.num → pos 0 ≤ℤ t.num →
-    IsFirstLeastTime r v s → IsFirstLeastTime r w t → s ≡ t
-time-one r v w s t same p q h k i j =
-    extreme-same (λ n x. race_gap r n x) w s t (record { reduced = p; ahead = h; first = first_least-windows (λ n x. race_gap r n x) v w s same p.some h i })
-    (record { reduced = q; ahead = k; first = j })
 
 -- ---- what is printed of a course is one
 
@@ -77,14 +68,16 @@ printed_one q a c x y p s b i j r t =
 meeting-one : (half : ℕ) (a : Demand) (may : Manoeuvre) (area : Area) (w u : Times) (x y : Meeting) → CanBeMet a → 0 < may.accel → AreSameTimes u w →
     IsMeetingOf half a may area w x → IsMeetingOf half a may area u y → AreLowestOf x → AreLowestOf y → IsSameMeeting x y
 meeting-one half a may area w u x y can some same i j r t =
-    let low = time-one (low_race a may area) u w j.low i.low same j.low_reduced i.low_reduced j.low_ahead i.low_ahead j.at_low i.at_low in
-    let high = time-one (turned (high_race a may area)) u w j.high i.high same j.high_reduced i.high_reduced j.high_ahead i.high_ahead j.at_high i.at_high in
+    let low_gap = λ q t. race_gap (low_race a may area) q t in
+    let high_gap = λ q t. race_gap (turned (high_race a may area)) q t in
+    let low = extreme-same low_gap w j.low i.low (extreme-windows low_gap u w j.low same j.at_low) i.at_low in
+    let high = extreme-same high_gap w j.high i.high (extreme-windows high_gap u w j.high same j.at_high) i.at_high in
     let h = hunt_between a may area i.low i.high in
     let hunts : hunt_between a may area j.low j.high ≡ h = ap₂ (λ (l g : Fraction). hunt_between a may area l g) low high in
     let found = subst (λ (g : Hunt). Finds half g j.course) hunts j.found in
     let prints = subst (λ (g : Hunt). PrintsCourse (unit g.search) (accel g) j.course y) hunts j.prints in
     let courses = found-one (value (unit h.search) (accel h)) half (low_course h) (high_course h) (passes h) j.course i.course found i.found in
-    let n = unit_some a area i.low i.high i.low_reduced.some i.high_reduced.some in
+    let n = unit_some a area i.low i.high i.at_low.reduced.some i.at_high.reduced.some in
     printed_one (unit h.search) (accel h) i.course x y n (mul-pos some n) (found_course-pull h can n half i.course i.found) i.prints
     (subst (λ (c : Course). PrintsCourse (unit h.search) (accel h) c y) courses prints) r t
 
@@ -110,7 +103,7 @@ met-one m may b is of some x y i j =
     let f = i.rule.of_area in
     let pair = boxes_range-one m.radius b.states.range b.states.closing x.witness.flight.time x.witness.range y.witness.range x.witness.speed y.witness.speed
     (unit (search_between a area f.low f.high)) f.course.own.time
-    (omega (arith, ints, of.flown.slow)) (unit_some a area f.low f.high f.low_reduced.some f.high_reduced.some) f.prints.own.time i.rule.range carried r.range t.range r.speed t.speed in
+    (omega (arith, ints, of.flown.slow)) (unit_some a area f.low f.high f.at_low.reduced.some f.at_high.reduced.some) f.prints.own.time i.rule.range carried r.range t.range r.speed t.speed in
     same_all x y same pair.0 pair.1
 
 pub verdict-one : (m : ModelData) (may : Manoeuvre) (b : AuditedBox) → IsModel m → IsBoxOf m b → 0 < may.accel → (v u : MeetVerdict) → IsMeetVerdict m may b v → IsMeetVerdict m may b u → v ≡ u

@@ -79,12 +79,8 @@ module _ (m : ModelData) (may : Manoeuvre) (b : AuditedBox) (is : IsModel m) (of
             of_area = record {
               low = low.time;
               high = high.time;
-              low_reduced = low.reduced;
-              high_reduced = high.reduced;
-              low_ahead = low.moment.least;
-              high_ahead = high.moment.least;
-              at_low = low.least;
-              at_high = high.least;
+              at_low = record { reduced = low.reduced; ahead = low.moment.least; first = low.least };
+              at_high = record { reduced = high.reduced; ahead = high.moment.least; first = high.least };
               course = c.0;
               found = c.1;
               prints = prints;

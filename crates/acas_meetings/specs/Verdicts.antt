@@ -1,5 +1,5 @@
 -- What a verdict says of a box under an advisory, against an intruder that may change its rate.
-use Rattle.std.specs.Prelude.{◌≡◌, ℕ, List, ℤ, pos, ◌*ℤ◌, ◌≤ℤ◌}
+use Rattle.std.specs.Prelude.{◌≡◌, ℕ, List, ℤ, pos, ◌*ℤ◌}
 use Rattle.std.specs.List.{All}
 use Rattle.acas_spec.specs.Model.{ModelData}
 use Rattle.acas_frac.specs.Fraction.{Fraction, IsReduced}
@@ -14,7 +14,7 @@ use Rattle.acas_rulings.specs.Printed.{AreParts, segments_of}
 use Rattle.acas_rulings.specs.Ranges.{IsBoxesRange}
 use Rattle.acas_rulings.specs.Witness.{search_between}
 use Rattle.acas_manoeuvre.specs.Intruder.{Manoeuvre}
-use Rattle.acas_manoeuvre.specs.Least.{IsFirstLeastTime}
+use Rattle.acas_manoeuvre.specs.Least.{IsRaceExtreme}
 use Rattle.acas_manoeuvre.specs.Meeting.{IsEndangeredBy, IsMeeting, MeetsDuring}
 use Rattle.acas_manoeuvre.specs.Race.{high_race, low_race, turned}
 use Rattle.acas_meetings.specs.Hunt.{Course, Finds, Hunt, accel}
@@ -52,12 +52,8 @@ hunt_between a may area low high = record { search = search_between a area low h
 pub record IsMeetingOf (half : ℕ) (a : Demand) (may : Manoeuvre) (area : Area) (w : Times) (meeting : Meeting) : Type 0 where
   pub low : Fraction
   pub high : Fraction
-  pub low_reduced : IsReduced low
-  pub high_reduced : IsReduced high
-  pub low_ahead : pos 0 ≤ℤ low.num
-  pub high_ahead : pos 0 ≤ℤ high.num
-  pub at_low : IsFirstLeastTime (low_race a may area) w low
-  pub at_high : IsFirstLeastTime (turned (high_race a may area)) w high
+  pub at_low : IsRaceExtreme (low_race a may area) w low
+  pub at_high : IsRaceExtreme (turned (high_race a may area)) w high
   pub course : Course
   pub found : Finds half (hunt_between a may area low high) course
   pub prints : PrintsCourse (unit (search_between a area low high)) (accel (hunt_between a may area low high)) course meeting

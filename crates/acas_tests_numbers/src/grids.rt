@@ -55,8 +55,7 @@ fn axes_have_from_2_to_129_numbers_that_rise(rt: HostRuntime) -> Result<(), Fail
 }
 
 fn axis_of(alloc: Global, values: &[i64]) -> Option<Axis> {
-    let values = Vec::from_slice(alloc, values).ok()?;
-    Axis::new(values).ok()
+    Axis::new(Vec::from_slice(alloc, values).ok()?).ok()
 }
 
 #[test]
@@ -99,13 +98,10 @@ fn grid_of(
     requires advisories { advisories ≤ 16 }
     requires horizon { horizon ≤ 120 }
 {
-    let h = axis_of(alloc, h)?;
-    let v0 = axis_of(alloc, v0)?;
-    let v1 = axis_of(alloc, v1)?;
     Some(Grid {
-        h,
-        v0,
-        v1,
+        h: axis_of(alloc, h)?,
+        v0: axis_of(alloc, v0)?,
+        v1: axis_of(alloc, v1)?,
         advisories,
         horizon,
     })
@@ -170,12 +166,6 @@ fn vertices_have_numbers(rt: HostRuntime) -> Result<(), Fail> {
     for (i, j, k, number) in rows {
         assert_eq!(rt; number_of(&grid, Vertex { i, j, k }), number);
     }
-    Ok(())
-}
-
-#[test]
-fn vertices_are_those_of_their_numbers(rt: HostRuntime) -> Result<(), Fail> {
-    let grid = four_by_three_by_two(rt.alloc()).ok_or("a grid")?;
     for number in 0..grid.vertices() {
         assert_eq!(rt; number_of(&grid, grid.vertex_of(number)), Some(number));
         assert_eq!(rt; vertex_at(&grid, number), grid.vertex_of(number));
@@ -195,12 +185,6 @@ fn states_have_numbers(rt: HostRuntime) -> Result<(), Fail> {
     for (present, vertex, number) in states {
         assert_eq!(rt; state_number_of(&grid, present, vertex), number);
     }
-    Ok(())
-}
-
-#[test]
-fn states_have_parts(rt: HostRuntime) -> Result<(), Fail> {
-    let grid = four_by_three_by_two(rt.alloc()).ok_or("a grid")?;
     let parts = [
         (0, Some((0, 0, 0, 0))),
         (23, Some((0, 3, 2, 1))),

@@ -17,10 +17,13 @@ fn folder_failing(
     appends: &[u64],
     most: u32,
 ) -> Result<MemoryFolder, AllocError> {
-    let reads = reads.to_vec(alloc)?;
-    let creates = creates.to_vec(alloc)?;
-    let appends = appends.to_vec(alloc)?;
-    MemoryFolder::new(alloc, reads, creates, appends, most.max(1))
+    MemoryFolder::new(
+        alloc,
+        reads.to_vec(alloc)?,
+        creates.to_vec(alloc)?,
+        appends.to_vec(alloc)?,
+        most.max(1),
+    )
 }
 
 fn sink_failing(alloc: Global, writes: &[u64], most: u32) -> Result<MemorySink, AllocError> {
@@ -81,7 +84,7 @@ pub fn emit_all<S: Sink>(sink: &mut S) -> Result<(), Failed> {
 }
 
 #[test]
-fn folders_keep_what_is_written(rt: HostRuntime) -> Result<(), Fail> {
+fn memory_keeps_what_is_written(rt: HostRuntime) -> Result<(), Fail> {
     let alloc = rt.alloc();
     for most in [1, 4_096] {
         let mut folder = folder_failing(alloc, &[], &[], &[], most)?;
@@ -102,14 +105,7 @@ fn folders_keep_what_is_written(rt: HostRuntime) -> Result<(), Fail> {
         assert_eq!(rt; store(&mut folder, "t"), Ok(()));
         assert!(rt; folder.get("t") == Some(b"third".as_slice()));
         assert_eq!(rt; folder.refused(), 0);
-    }
-    Ok(())
-}
-
-#[test]
-fn sinks_keep_what_is_written(rt: HostRuntime) -> Result<(), Fail> {
-    for most in [1, 4_096] {
-        let mut sink = sink_failing(rt.alloc(), &[], most)?;
+        let mut sink = sink_failing(alloc, &[], most)?;
         assert_eq!(rt; emit_all(&mut sink), Ok(()));
         assert_eq!(rt; sink.written(), b"one two three four".as_slice());
         assert_eq!(rt; sink.refused(), 0);

@@ -2,7 +2,6 @@
 ghost use Rattle.std.specs.Prelude.{◌≤◌, ◌^◌, unsigned_abs};
 
 use acas_units::{Line, Span, feet_to_ticks, print_millionths};
-use std::alloc::{AllocError, Global};
 use std::test::Fail;
 
 // 10^30.
@@ -37,35 +36,17 @@ const MILLIONTHS: [(i128, &str); 11] = [
     (-LARGEST, "-1000000000000000000000000.000000"),
 ];
 
-// A text and behind it a number of millionths.
-fn with_millionths(alloc: Global, value: i128) -> Result<Vec<u8>, AllocError>
-    requires { unsigned_abs value ≤ 10 ^ 30 }
-{
-    let mut out = Vec::from_slice(alloc, b"cost ")?;
-    print_millionths(&mut out, value)?;
-    Ok(out)
-}
-
 #[test]
-fn numbers_of_millionths_behind_a_text(rt: HostRuntime) -> Result<(), Fail> {
-    for (value, text) in MILLIONTHS {
-        assert!(rt; value.unsigned_abs() <= LARGEST.unsigned_abs());
-        let out = with_millionths(rt.alloc(), value)?;
-        assert!(rt;
-            out.strip_prefix(b"cost ") == Some(text.as_bytes()),
-            "{text}"
-        );
-    }
-    Ok(())
-}
-
-#[test]
-fn numbers_of_millionths_on_a_line(rt: HostRuntime) -> Result<(), Fail> {
+fn numbers_of_millionths(rt: HostRuntime) -> Result<(), Fail> {
     let mut line = Line::make(rt.alloc())?;
     for (value, text) in MILLIONTHS {
         assert!(rt; value.unsigned_abs() <= LARGEST.unsigned_abs());
+        let mut out = Vec::from_slice(rt.alloc(), b"cost ")?;
+        print_millionths(&mut out, value)?;
+        assert_eq!(rt; &out[..5], "cost ".as_bytes(), "before {text}");
+        assert_eq!(rt; &out[5..], text.as_bytes(), "{text}");
         write_millionths(&mut line, value);
-        assert_eq!(rt; line.bytes(), text.as_bytes(), "{text}");
+        assert_eq!(rt; line.bytes(), text.as_bytes(), "{text} on a line");
     }
     Ok(())
 }
@@ -85,23 +66,13 @@ fn whole_numbers_on_a_line(rt: HostRuntime) -> Result<(), Fail> {
         write_number(&mut line, value);
         assert_eq!(rt; line.bytes(), text.as_bytes(), "{text}");
     }
-    Ok(())
-}
-
-#[test]
-fn lines_take_bytes(rt: HostRuntime) -> Result<(), Fail> {
-    let mut line = Line::make(rt.alloc())?;
+    line.clear();
     line.push(b"cell ");
     line.push(b"7");
     assert_eq!(rt; line.bytes(), "cell 7".as_bytes());
     line.clear();
     line.push(&[b'x'; 1_024]);
     assert_eq!(rt; line.bytes().len(), 1_024);
-    Ok(())
-}
-
-#[test]
-fn feet_are_ticks_and_spans_have_ends(rt: HostRuntime) -> Result<(), Fail> {
     for (feet, ticks) in [(0, 0), (1, 120), (-10_000, -1_200_000), (10_000, 1_200_000)] {
         assert_eq!(rt; feet_to_ticks(feet), ticks, "{feet} ft");
     }

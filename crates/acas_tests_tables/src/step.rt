@@ -226,13 +226,6 @@ fn choices_have_values(rt: HostRuntime) -> Result<(), Fail> {
         assert!(rt; pair == want.map(|(upper, lower)| Pair { upper, lower }));
     }
     assert_eq!(rt; count.count(), 4);
-    Ok(())
-}
-
-#[test]
-fn advisories_have_means(rt: HostRuntime) -> Result<(), Fail> {
-    let four = model_of(rt.alloc(), FOUR).ok_or("a model")?;
-    let last = last_of_four(rt.alloc())?;
     // 54 of 670 ft up to contact, since the pilot descends by 480 ft/min
     assert!(rt; means_of(&four, 7, 2, &last) == Some((402_986, 402_985)));
     assert!(rt; means_of(&four, 7, 0, &last) == Some((373_135, 373_134)));
@@ -308,10 +301,12 @@ fn gives_the_plain_step(alloc: Global, text: &str, below: &[Pair]) -> Option<boo
 #[test]
 fn stencils_give_the_plain_step(rt: HostRuntime) -> Result<(), Fail> {
     let alloc = rt.alloc();
-    let of_four = last_of_four(alloc)?;
-    let of_noisy = last_layer(alloc, 2, &[1_000_000, 0], 4)?;
-    let of_wide = last_layer(alloc, 2, &[0, 0], 4)?;
-    for (text, below) in [(FOUR, &of_four), (NOISY, &of_noisy), (WIDE, &of_wide)] {
+    let rows = [
+        (FOUR, last_of_four(alloc)?),
+        (NOISY, last_layer(alloc, 2, &[1_000_000, 0], 4)?),
+        (WIDE, last_layer(alloc, 2, &[0, 0], 4)?),
+    ];
+    for (text, below) in &rows {
         assert_eq!(rt;
             gives_the_plain_step(alloc, text, below),
             Some(true),

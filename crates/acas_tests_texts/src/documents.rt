@@ -47,27 +47,13 @@ fn values_are_found(rt: HostRuntime) -> Result<(), Fail> {
     assert!(rt; matches!(whole(alloc, &document, b"", "whole", 5, 5), Ok(5)));
     assert!(rt; matches!(text(alloc, &document, b"", "text"), Ok(found) if found == "a"));
     assert!(rt; matches!(table(alloc, &document, b"", "inner"), Ok(found) if found.len() == 1));
-    Ok(())
-}
-
-#[test]
-fn items_are_found(rt: HostRuntime) -> Result<(), Fail> {
-    let document = toml::table_from_str(rt.alloc(), DOCUMENT)?;
-    let items = list(rt.alloc(), &document, b"", "list", 3, 3)?;
-    assert_eq!(rt; items.len(), 3);
-    assert!(rt; matches!(item(rt.alloc(), items, b"list", 0, 0, 7), Ok(7)));
-    let wholes = whole_items(rt.alloc(), &items[..1], b"list", 0, 7)?;
-    assert_eq!(rt; wholes.as_slice(), [7].as_slice());
-    assert!(rt; matches!(text_item(rt.alloc(), items, b"list", 1), Ok(found) if found == "b"));
-    assert!(rt; matches!(table_item(rt.alloc(), items, b"list", 2), Ok(found) if found.len() == 1));
-    Ok(())
-}
-
-#[test]
-fn items_have_faults(rt: HostRuntime) -> Result<(), Fail> {
-    let alloc = rt.alloc();
-    let document = toml::table_from_str(alloc, DOCUMENT)?;
     let items = list(alloc, &document, b"", "list", 3, 3)?;
+    assert_eq!(rt; items.len(), 3);
+    assert!(rt; matches!(item(alloc, items, b"list", 0, 0, 7), Ok(7)));
+    let wholes = whole_items(alloc, &items[..1], b"list", 0, 7)?;
+    assert_eq!(rt; wholes.as_slice(), [7].as_slice());
+    assert!(rt; matches!(text_item(alloc, items, b"list", 1), Ok(found) if found == "b"));
+    assert!(rt; matches!(table_item(alloc, items, b"list", 2), Ok(found) if found.len() == 1));
     let faults = [
         (
             fault_of(item(alloc, items, b"list", 1, 0, 7), "list[1]"),

@@ -19,6 +19,6 @@ returns-clause-words g c =
     let before : Outside = outside g.F.Folder g.O.Sink c.args.folder.now c.args.out.now in
     let after : Outside = outside g.F.Folder g.O.Sink c.answer-cause.new.folder c.answer-cause.new.out in
     let form : Form = form_of_command c.in-Some.command in (
-      λ e. absurd (never_words form before after (subst (λ (cause : Cause). AnswersCall form cause before after) (sym c.ended-2.ensures.cause ∙ e) c.answer-cause.ensures.answers)),
+      λ e. absurd (never_words form before after (subst (λ (cause : Cause). AnswersCall form cause before after) (sym c.status_of-2.ensures.cause ∙ e) c.answer-cause.ensures.answers)),
       λ none. let some = c.in-Some.ensures in let both = sym none ∙ some in absurd (cc both),
     )
