@@ -2,35 +2,36 @@
 import contextlib
 import os
 import pty
-import re
 import shutil
 import subprocess
 import time
 
 TOP = os.path.dirname(os.path.dirname(os.path.abspath(__file__)))
 CRATES = "# crates\nacas_high: acas_low toml\nacas_low: itoa\nacas: acas_high\nacas_other: acas\n"
-# The kit. A crate whose file out/kept is there says nothing below its name. SLOW are the seconds that each other one takes, FAILS is
-# what the summary says of the lowest one.
-KIT = """#!/bin/sh
-[ "$1" = version ] || echo "$(basename "$PWD") $*" >>"$CALLS"
-case $1 in
-  version) echo "a-kit logic ${LOGIC:-dac8208d650f15bf}" ;;
-  all)
-    echo $$ >"$CALLS.kit"
-    for name in acas_low acas_high acas; do
-      mkdir -p ../$name/out
-      if [ -e ../$name/out/kept ]; then echo "== $name"; continue; fi
-      [ -z "$SLOW" ] || sleep "$SLOW"
-      if [ -n "$FAILS" ]; then
-        printf '== acas_low\\nit fails\\n== summary\\nacas_low: failed (%s)\\nacas_high: not run\\n' "$FAILS"
-        exit 1
-      fi
-      printf '== %s\\nproved\\n' "$name"
-      touch ../$name/out/kept
-    done
-    printf '== summary\\nacas_low: ok\\nacas_high: ok\\nacas: ok\\n3 of 3 crates ok\\n' ;;
-  run) mkdir -p out && cp "$PROGRAM" out/acas ;;
+# The kit: its command, which tells its version, the compiler, and what links the program. SLOW are the seconds that each crate takes;
+# FAILS is the exit code of each, or -9 where it is killed.
+RT = """#!/bin/sh
+echo "a-kit logic ${LOGIC:-dac8208d650f15bf}"
+"""
+RATTLE = """#!/bin/sh
+echo "$3" >>"$CALLS"
+echo $$ >"$CALLS.kit"
+[ -z "$SLOW" ] || sleep "$SLOW"
+if [ -n "$FAILS" ]; then
+  echo "it fails"
+  [ "$FAILS" != -9 ] || kill -9 $$
+  exit "$FAILS"
+fi
+for made; do :; done
+case $made in
+  *.o) echo made >"$made" ;;
+  *) mkdir -p "$made" ;;
 esac
+echo proved
+"""
+LINK = """#!/bin/sh
+echo link >>"$CALLS"
+cp "$PROGRAM" out/acas
 """
 # The program. ENDS is the exit code. `compile` and `migrate` write a part of the table first; SLEEPS are seconds that it then takes.
 PROGRAM = """#!/bin/sh
@@ -62,7 +63,7 @@ class Place:
     """A small repository in a folder, and the kit beside it."""
 
     def __init__(self, folder):
-        self.folder, self.kit, self.calls = folder, os.path.join(folder, "kit"), os.path.join(folder, "calls")
+        self.folder, self.kit, self.calls = folder, os.path.join(folder, "kit", "bin"), os.path.join(folder, "calls")
         self.top = os.path.join(folder, "top")
         self.script, self.out = os.path.join(self.top, "acas"), os.path.join(self.top, "crates", "acas", "out")
         for name in ("acas_low", "acas_high", "acas", "acas_other"):
@@ -71,10 +72,10 @@ class Place:
         self.write("crates.txt", CRATES)
         for name in ("tools", "python"):
             os.mkdir(os.path.join(self.top, name))
-        for name in ("acas", "tools/build", "tools/use.py", "python/acas_use.py"):
+        for name in ("acas", "tools/build", "tools/crates.py", "tools/use.py", "python/acas_use.py"):
             shutil.copy(os.path.join(TOP, name), os.path.join(self.top, name))
-        for name, text in (("rt", KIT), ("sha256sum", SUM), ("program", PROGRAM)):
-            self.write(f"../kit/{name}", text)
+        for name, text in (("rt", RT), ("rattle", RATTLE), ("rattle-link", LINK), ("sha256sum", SUM), ("program", PROGRAM)):
+            self.write(f"../kit/bin/{name}", text)
             os.chmod(os.path.join(self.kit, name), 0o755)
 
     def write(self, name, text):
@@ -96,9 +97,9 @@ class Place:
         return subprocess.Popen([script or self.script, *(words or WORDS)], cwd=self.folder, env=environment, text=True, **how)
 
     def called(self):
-        """How the kit was called since this was asked last; its version is asked for besides."""
+        """What the kit was called for since this was asked last: crates, and to link; its version is asked for besides."""
         with contextlib.suppress(OSError), open(self.calls, "r+", encoding="utf-8") as file:
-            lines = [re.sub("--jobs [0-9]+$", "--jobs N", it) for it in file.read().splitlines()]
+            lines = file.read().splitlines()
             file.truncate(0)
             return lines
         return []

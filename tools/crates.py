@@ -1,0 +1,204 @@
+"""The crates that the program needs, how the kit's compiler is called for each, and what it is known by that its library is there."""
+import hashlib
+import os
+import shutil
+import subprocess
+
+TOP = os.path.dirname(os.path.dirname(os.path.abspath(__file__)))
+PROGRAM = "acas"
+# What the proof of a crate takes, in tenths of a processor minute, as a merge gate from nothing showed on 30 November 2026. The order
+# of the crates goes by this, and how long the rest of a build takes is told by it.
+WEIGHTS = {
+    "acas": 28,
+    "acas_accept": 27,
+    "acas_areas": 2,
+    "acas_audit_blocks": 12,
+    "acas_audit_commands": 11,
+    "acas_base": 8,
+    "acas_bounds": 12,
+    "acas_boxes": 18,
+    "acas_cell": 5,
+    "acas_cells": 6,
+    "acas_check_commands": 21,
+    "acas_cli": 29,
+    "acas_cli_words": 11,
+    "acas_command": 16,
+    "acas_count": 3,
+    "acas_doc": 17,
+    "acas_drill": 14,
+    "acas_drill_model": 14,
+    "acas_encounter": 8,
+    "acas_encounter_commands": 15,
+    "acas_flight": 3,
+    "acas_flight_curves": 2,
+    "acas_flight_laws": 2,
+    "acas_flight_windows": 2,
+    "acas_frac": 15,
+    "acas_grid": 8,
+    "acas_grid_units": 6,
+    "acas_hunt_laws": 3,
+    "acas_input": 6,
+    "acas_intruder": 7,
+    "acas_layers": 4,
+    "acas_manoeuvre": 2,
+    "acas_manoeuvre_commands": 11,
+    "acas_manoeuvre_laws": 2,
+    "acas_means": 7,
+    "acas_meeting_search": 13,
+    "acas_meetings": 3,
+    "acas_model": 28,
+    "acas_outside": 23,
+    "acas_pass_laws": 2,
+    "acas_passes": 2,
+    "acas_plane": 4,
+    "acas_policies": 3,
+    "acas_print": 5,
+    "acas_process": 3,
+    "acas_race": 12,
+    "acas_region": 17,
+    "acas_region_commands": 9,
+    "acas_region_curves": 8,
+    "acas_replay": 19,
+    "acas_report": 11,
+    "acas_report_cells": 10,
+    "acas_report_lines": 11,
+    "acas_risk": 19,
+    "acas_risk_commands": 10,
+    "acas_rulings": 5,
+    "acas_safeable": 16,
+    "acas_safeable_commands": 9,
+    "acas_second": 9,
+    "acas_spec": 6,
+    "acas_step": 19,
+    "acas_step_choices": 11,
+    "acas_step_columns": 21,
+    "acas_step_narrow": 10,
+    "acas_step_stencils": 15,
+    "acas_sweep": 13,
+    "acas_table": 24,
+    "acas_table_commands": 29,
+    "acas_table_file": 10,
+    "acas_table_lines": 13,
+    "acas_table_rows": 16,
+    "acas_table_text": 6,
+    "acas_table_text_laws": 2,
+    "acas_table_writer": 10,
+    "acas_units": 9,
+    "acas_witness": 6,
+    "acas_witness_laws": 2,
+    "acas_witness_plans": 11,
+    "acas_witness_response": 15,
+    "acas_witness_search": 14,
+}
+OF_OTHERS, SECONDS = 10, 6
+
+
+def text_of(path):
+    """The text of a file, or nothing where there is none."""
+    try:
+        with open(path, encoding="utf-8", errors="replace") as text:
+            return text.read()
+    except FileNotFoundError:
+        return ""
+
+
+def sum_of(*parts):
+    return hashlib.sha256(repr(parts).encode()).hexdigest()
+
+
+class Kit:
+    """The kit that the command rt is of."""
+
+    def __init__(self):
+        command = shutil.which("rt")
+        self.folder = os.path.dirname(os.path.dirname(os.path.realpath(command)))
+        self.version = subprocess.run([command, "version"], stdout=subprocess.PIPE, check=True).stdout
+
+    def path(self, name):
+        return os.path.join(self.folder, name)
+
+    def building(self, crate):
+        """The words that prove a crate and build it, but for the path that is written."""
+        root = "src/main.rt" if crate.name == PROGRAM else "src/lib.rt"
+        words = [self.path("bin/rattle"), "build", "--crate-name", crate.name, root, "--links", f"{crate.name}="]
+        words += ["--antt-project", self.path("rattle/logic/antt-project.json"), "--logic-built", self.path("logic_built")]
+        for name in ("std", *crate.of_kit):
+            words += ["--extern", f"{name}={self.path(f'rlibs/{name}.rlib')}"]
+        for it in crate.uses:
+            words += ["--extern", f"{it.name}={it.library}"]
+        for folder in (self.path("rlibs"), *(os.path.dirname(it.library) for it in crate.below)):
+            words += ["-L", f"dependency={folder}"]
+        return words + (["--toolchain", self.path("toolchain")] if crate.name == PROGRAM else ["--statements"])
+
+    def linking(self, made, program):
+        """The words that link what was made of the program."""
+        words = [self.path("bin/rattle-link"), "--target", "x86_64-unknown-linux-gnu", "--toolchain", self.path("toolchain"), "-o", program, made]
+        return words + [self.path(f"c/{it}") for it in ("libos_c.a", "liblibc_c.a")]
+
+
+class Crate:
+    """A crate that the program needs, or the program's own."""
+
+    def __init__(self, name, uses, of_kit):
+        self.name, self.uses, self.of_kit, self.above = name, uses, of_kit, []
+        # all crates below it, each once
+        self.below = list(dict.fromkeys(it for use in uses for it in (use, *use.below)))
+        self.folder = os.path.join(TOP, "crates", name)
+        self.out = os.path.join(self.folder, "out", "stated")
+        self.library, self.mark = os.path.join(self.out, f"{name}.rlib"), os.path.join(self.out, "mark")
+        self.log = os.path.join(self.out, "log")
+        # the seconds of its proof, and, once that is known, of the longest chain of crates that begins with it
+        self.weight = self.chain = SECONDS * WEIGHTS.get(name, OF_OTHERS)
+        # once the library is there, a sum of all that it was made from
+        self.made_from = None
+
+    def sources(self):
+        """A sum over the names and the contents of the crate's files."""
+        found = []
+        for part in ("src", "specs", "proofs"):
+            for at, _, files in os.walk(os.path.join(self.folder, part)):
+                for file in files:
+                    path = os.path.join(at, file)
+                    with open(path, "rb") as content:
+                        found.append((os.path.relpath(path, self.folder), content.read()))
+        return sum_of(sorted(found))
+
+    def making(self, kit):
+        """A sum of all that the library is made from as things stand."""
+        return sum_of(kit.version, self.of_kit, self.sources(), [(it.name, it.made_from) for it in self.uses])
+
+    def look(self, kit):
+        """Learns whether the library is there and made from what there is."""
+        making = self.making(kit)
+        if text_of(self.mark) == making and os.path.isdir(self.library):
+            self.made_from = making
+
+    def keep(self, kit, made_from):
+        """Takes the library that was made, and marks it where the sources are as they were before."""
+        self.made_from = made_from
+        if made_from == self.making(kit):
+            with open(self.mark, "w", encoding="utf-8") as mark:
+                mark.write(made_from)
+
+
+def crates():
+    """The crates that the program needs and its own, each behind those that it uses."""
+    lines, found = {}, {}
+    with open(os.path.join(TOP, "crates.txt"), encoding="utf-8") as text:
+        for line in text:
+            name, colon, rest = line.partition("#")[0].partition(":")
+            if colon:
+                lines[name.strip()] = rest.split()
+
+    def visit(name):
+        if name not in found:
+            uses = [visit(it) for it in lines[name] if it in lines]
+            found[name] = Crate(name, uses, [it for it in lines[name] if it not in lines])
+            for it in uses:
+                it.above.append(found[name])
+        return found[name]
+
+    visit(PROGRAM)
+    for crate in reversed(list(found.values())):
+        crate.chain += max((it.chain for it in crate.above), default=0)
+    return list(found.values())
