@@ -3,29 +3,41 @@ ghost use Rattle.std.specs.Prelude.{◌^◌, ◌<◌, ◌≤◌, IsTrue, unsigne
 ghost use Rattle.acas_frac.specs.Fraction.{Fraction};
 
 use acas_frac::{Down, Frac, Rounding, Up, print_frac};
+use std::alloc::Global;
 use std::cmp::Ordering;
 use std::test::Fail;
 
+// 10^37.
+const MOST: i128 = 10_000_000_000_000_000_000_000_000_000_000_000_000;
+
+// A numerator and a denominator, the quotient rounded down, and up.
+const QUOTIENTS: [(i128, i128, i128, i128); 11] = [
+    (-1, 3, -1, 0),
+    (6, 3, 2, 2),
+    (0, 5, 0, 0),
+    (1, 3, 0, 1),
+    (-6, 3, -2, -2),
+    (-7, 2, -4, -3),
+    (7, 2, 3, 4),
+    (-MOST, 1, -MOST, -MOST),
+    (-MOST, MOST, -1, -1),
+    (1 - MOST, MOST, -1, 0),
+    (MOST - 1, MOST, 0, 1),
+];
+
+// Whether a quotient is rounded so down and up, for a den above 0 and both numbers at most 10^37 in size.
+fn is_rounded(num: i128, den: i128, down: i128, up: i128) -> bool {
+    if 0 < den && den <= MOST && num.unsigned_abs() <= MOST.unsigned_abs() {
+        Down::div(num, den) == down && Up::div(num, den) == up
+    } else {
+        false
+    }
+}
+
 #[test]
 fn quotients_are_rounded_down_and_up(rt: HostRuntime) {
-    const MOST: i128 = 10_000_000_000_000_000_000_000_000_000_000_000_000;
-    // a numerator and a denominator, the quotient rounded down, and up
-    let rows = [
-        (-1, 3, -1, 0),
-        (6, 3, 2, 2),
-        (0, 5, 0, 0),
-        (1, 3, 0, 1),
-        (-6, 3, -2, -2),
-        (-7, 2, -4, -3),
-        (7, 2, 3, 4),
-        (-MOST, 1, -MOST, -MOST),
-        (-MOST, MOST, -1, -1),
-        (1 - MOST, MOST, -1, 0),
-        (MOST - 1, MOST, 0, 1),
-    ];
-    for (num, den, down, up) in rows {
-        assert_eq!(rt; Down::div(num, den), down, "{num}/{den}");
-        assert_eq!(rt; Up::div(num, den), up, "{num}/{den}");
+    for (num, den, down, up) in QUOTIENTS {
+        assert!(rt; is_rounded(num, den, down, up), "{num}/{den}");
     }
 }
 
@@ -79,42 +91,43 @@ fn multiple(a: &Frac, factor: i64) -> Option<Frac> {
     }
 }
 
-// The numerator and the denominator.
-fn parts(value: Option<Frac>) -> (i128, i128) {
+// Whether there is a fraction, and it has this numerator and this denominator.
+fn is_of(value: Option<Frac>, num: i128, den: i128) -> bool {
     match value {
-        Some(value) => (value.num(), value.den()),
-        None => (0, 0),
+        Some(value) => value.num() == num && value.den() == den,
+        None => false,
     }
 }
 
+// A numerator and a denominator, and both in lowest terms.
+const LOWEST: [(i64, i64, i128, i128); 8] = [
+    (6, 4, 3, 2),
+    (-6, 4, -3, 2),
+    (6, -4, -3, 2),
+    (-6, -4, 3, 2),
+    (0, -7, 0, 1),
+    (5, 5, 1, 1),
+    (1, 10_000_000_000_000, 1, 10_000_000_000_000),
+    (i64::MIN, 2, -4_611_686_018_427_387_904, 1),
+];
+
 #[test]
 fn fractions_are_in_lowest_terms(rt: HostRuntime) {
-    let rows = [
-        (6, 4, 3, 2),
-        (-6, 4, -3, 2),
-        (6, -4, -3, 2),
-        (-6, -4, 3, 2),
-        (0, -7, 0, 1),
-        (5, 5, 1, 1),
-        (1, 10_000_000_000_000, 1, 10_000_000_000_000),
-        (i64::MIN, 2, -4_611_686_018_427_387_904, 1),
-    ];
-    for (num, den, lowest_num, lowest_den) in rows {
-        assert_eq!(rt;
-            parts(ratio(num, den)),
-            (lowest_num, lowest_den),
+    for (num, den, lowest_num, lowest_den) in LOWEST {
+        assert!(rt;
+            is_of(ratio(num, den), lowest_num, lowest_den),
             "{num}/{den}"
         );
     }
 }
 
-#[test]
-fn fractions_are_added_and_multiplied_exactly(rt: HostRuntime) -> Result<(), Fail> {
-    let half = ratio(1, 2).ok_or("a fraction")?;
-    let third = ratio(-1, 3).ok_or("a fraction")?;
+// What is added and multiplied, and the numerator and the denominator of what comes of it.
+fn results() -> Option<[(Option<Frac>, i128, i128); 12]> {
+    let half = ratio(1, 2)?;
+    let third = ratio(-1, 3)?;
     let large = Frac::whole(1_000_000_000_000);
-    let tiny = ratio(1, 1_000_000).ok_or("a fraction")?;
-    let rows = [
+    let tiny = ratio(1, 1_000_000)?;
+    Some([
         (sum(&half, &third), 1, 6),
         (difference(&half, &third), 5, 6),
         (product(&half, &third), -1, 6),
@@ -131,32 +144,50 @@ fn fractions_are_added_and_multiplied_exactly(rt: HostRuntime) -> Result<(), Fai
         (product(&tiny, &tiny), 1, 1_000_000_000_000),
         (product(&large, &tiny), 1_000_000, 1),
         (sum(&large, &tiny), 1_000_000_000_000_000_001, 1_000_000),
-    ];
-    for (value, num, den) in rows {
-        assert_eq!(rt; parts(value), (num, den));
+    ])
+}
+
+#[test]
+fn fractions_are_added_and_multiplied_exactly(rt: HostRuntime) -> Result<(), Fail> {
+    for (value, num, den) in results().ok_or("fractions")? {
+        assert!(rt; is_of(value, num, den), "{num}/{den}");
     }
     Ok(())
 }
 
+// The numerators and denominators of two fractions, and their order.
+const ORDERS: [(i64, i64, i64, i64, Ordering); 5] = [
+    (1, 2, 1, 3, Ordering::Greater),
+    (-1, 2, -1, 3, Ordering::Less),
+    (2, 4, 1, 2, Ordering::Equal),
+    (-1, 2, 1, 3, Ordering::Less),
+    (0, 9, 0, -4, Ordering::Equal),
+];
+
+fn order_of(a: i64, b: i64, c: i64, d: i64) -> Option<Ordering> {
+    let left = ratio(a, b)?;
+    let right = ratio(c, d)?;
+    Some(left.compare(&right))
+}
+
+// Numerators and denominators, and how they are printed one after the other.
+const PRINTED: [(i64, i64); 5] = [(15, 10), (-15, 10), (4, -2), (0, 3), (-1, 3)];
+
+const TEXT: &str = "t 3/2 -3/2 -2 0 -1/3 ";
+
+fn is_printed(alloc: Global) -> Option<bool> {
+    let mut out = Vec::from_slice(alloc, b"t ").ok()?;
+    for (num, den) in PRINTED {
+        print_frac(&mut out, &ratio(num, den)?).ok()?;
+        out.push(b' ').ok()?;
+    }
+    Some(out.as_slice() == TEXT.as_bytes())
+}
+
 #[test]
-fn fractions_have_an_order_and_a_text(rt: HostRuntime) -> Result<(), Fail> {
-    let rows = [
-        (1, 2, 1, 3, Ordering::Greater),
-        (-1, 2, -1, 3, Ordering::Less),
-        (2, 4, 1, 2, Ordering::Equal),
-        (-1, 2, 1, 3, Ordering::Less),
-        (0, 9, 0, -4, Ordering::Equal),
-    ];
-    for (a, b, c, d, order) in rows {
-        let left = ratio(a, b).ok_or("a fraction")?;
-        let right = ratio(c, d).ok_or("a fraction")?;
-        assert!(rt; left.compare(&right) == order);
+fn fractions_have_an_order_and_a_text(rt: HostRuntime) {
+    for (a, b, c, d, order) in ORDERS {
+        assert!(rt; order_of(a, b, c, d) == Some(order), "{a}/{b} {c}/{d}");
     }
-    let mut out = Vec::from_slice(rt.alloc(), b"t ")?;
-    for (num, den) in [(15, 10), (-15, 10), (4, -2), (0, 3), (-1, 3)] {
-        print_frac(&mut out, &ratio(num, den).ok_or("a fraction")?)?;
-        out.push(b' ')?;
-    }
-    assert!(rt; out.as_slice() == b"t 3/2 -3/2 -2 0 -1/3 ".as_slice());
-    Ok(())
+    assert!(rt; is_printed(rt.alloc()) == Some(true), "{TEXT}");
 }

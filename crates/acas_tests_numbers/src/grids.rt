@@ -2,89 +2,107 @@
 ghost use Rattle.std.specs.Prelude.{◌≤◌};
 
 use acas_grid::{Axis, AxisFault, Grid, Point, Vertex, state_present, state_vertex, vertex_at};
-use std::alloc::{AllocError, Global};
-use std::test::Fail;
+use std::alloc::Global;
 
-// What is wrong with a list of numbers.
-fn fault_of(alloc: Global, values: &[i64]) -> Result<Option<AxisFault>, AllocError> {
-    Ok(Axis::new(Vec::from_slice(alloc, values)?).err())
+// Whether a list of numbers has this fault, or none.
+fn has_fault(alloc: Global, values: &[i64], fault: Option<AxisFault>) -> Option<bool> {
+    let values = Vec::from_slice(alloc, values).ok()?;
+    Some(Axis::new(values).err() == fault)
 }
 
-// What is wrong with `count` numbers that go from 0 by `step`.
-fn fault_of_steps(alloc: Global, count: u8, step: i8) -> Result<Option<AxisFault>, AllocError> {
+// Whether `count` numbers that go from 0 by `step` have this fault, or none.
+fn steps_have_fault(alloc: Global, count: u8, step: i8, fault: Option<AxisFault>) -> Option<bool> {
     let mut values = Vec::new(alloc);
     for place in 0..count {
-        values.push(i64::from(place) * i64::from(step))?;
+        values.push(i64::from(place) * i64::from(step)).ok()?;
     }
-    Ok(Axis::new(values).err())
+    Some(Axis::new(values).err() == fault)
 }
 
+// Lists of numbers, and what is wrong with each.
+const LISTS: [(&[i64], Option<AxisFault>); 9] = [
+    (&[], Some(AxisFault::TooShort)),
+    (&[7], Some(AxisFault::TooShort)),
+    (&[-1, 0], None),
+    (&[0, 0], Some(AxisFault::NotRising { place: 1 })),
+    (&[3, 2, 1], Some(AxisFault::NotRising { place: 1 })),
+    (&[1, 2, 2], Some(AxisFault::NotRising { place: 2 })),
+    (
+        &[1, 2, 3, -4, 5, 0],
+        Some(AxisFault::NotRising { place: 3 }),
+    ),
+    (&[i64::MIN, i64::MAX], None),
+    (
+        &[i64::MAX, i64::MIN],
+        Some(AxisFault::NotRising { place: 1 }),
+    ),
+];
+
+// How many numbers there are and the step between them, and what is wrong with the list.
+const LENGTHS: [(u8, i8, Option<AxisFault>); 6] = [
+    (128, 1, None),
+    (129, 1, None),
+    (130, 1, Some(AxisFault::TooLong)),
+    (129, 0, Some(AxisFault::NotRising { place: 1 })),
+    (130, -1, Some(AxisFault::TooLong)),
+    (1, -1, Some(AxisFault::TooShort)),
+];
+
 #[test]
-fn axes_have_from_2_to_129_numbers_that_rise(rt: HostRuntime) -> Result<(), Fail> {
-    let alloc = rt.alloc();
-    let falls_at = |place| Some(AxisFault::NotRising { place });
-    let lists: [(&[i64], Option<AxisFault>); 9] = [
-        (&[], Some(AxisFault::TooShort)),
-        (&[7], Some(AxisFault::TooShort)),
-        (&[-1, 0], None),
-        (&[0, 0], falls_at(1)),
-        (&[3, 2, 1], falls_at(1)),
-        (&[1, 2, 2], falls_at(2)),
-        (&[1, 2, 3, -4, 5, 0], falls_at(3)),
-        (&[i64::MIN, i64::MAX], None),
-        (&[i64::MAX, i64::MIN], falls_at(1)),
-    ];
-    for (values, want) in lists {
-        assert!(rt; fault_of(alloc, values)? == want, "{values:?}");
+fn axes_have_from_2_to_129_numbers_that_rise(rt: HostRuntime) {
+    for (values, fault) in LISTS {
+        let met = has_fault(rt.alloc(), values, fault);
+        assert!(rt; met == Some(true), "{values:?}");
     }
-    let lengths = [
-        (128, 1, None),
-        (129, 1, None),
-        (130, 1, Some(AxisFault::TooLong)),
-        (129, 0, falls_at(1)),
-        (130, -1, Some(AxisFault::TooLong)),
-        (1, -1, Some(AxisFault::TooShort)),
-    ];
-    for (count, step, want) in lengths {
-        assert!(rt;
-            fault_of_steps(alloc, count, step)? == want,
-            "{count} by {step}"
-        );
+    for (count, step, fault) in LENGTHS {
+        let met = steps_have_fault(rt.alloc(), count, step, fault);
+        assert!(rt; met == Some(true), "{count} by {step}");
     }
-    Ok(())
 }
 
 fn axis_of(alloc: Global, values: &[i64]) -> Option<Axis> {
     Axis::new(Vec::from_slice(alloc, values).ok()?).ok()
 }
 
+const FOUR: &[i64] = &[-30, 0, 40, 100];
+
+const SHORTEST: &[i64] = &[5, 6];
+
+// The numbers of an axis, a number, the nearest on the axis, and the place where its cell begins.
+const NEAREST: [(&[i64], i64, i64, u32); 13] = [
+    (FOUR, i64::MIN, -30, 0),
+    (FOUR, -31, -30, 0),
+    (FOUR, -30, -30, 0),
+    (FOUR, -1, -1, 0),
+    (FOUR, 0, 0, 1),
+    (FOUR, 39, 39, 1),
+    (FOUR, 40, 40, 2),
+    (FOUR, 99, 99, 2),
+    (FOUR, 100, 100, 2),
+    (FOUR, 101, 100, 2),
+    (FOUR, i64::MAX, 100, 2),
+    (SHORTEST, 5, 5, 0),
+    (SHORTEST, 6, 6, 0),
+];
+
+// Whether a number is brought to this one on an axis, and has a cell that begins there.
+fn is_brought_to(alloc: Global, values: &[i64], x: i64, nearest: i64, cell: u32) -> Option<bool> {
+    let axis = axis_of(alloc, values)?;
+    let clamped = axis.clamp(x);
+    Some(clamped == nearest && axis.cell_of(clamped) == cell)
+}
+
+fn length_of(alloc: Global, values: &[i64]) -> Option<u32> {
+    Some(axis_of(alloc, values)?.len())
+}
+
 #[test]
-fn a_number_is_brought_to_an_axis_and_has_a_cell_there(rt: HostRuntime) -> Result<(), Fail> {
-    let axis = axis_of(rt.alloc(), &[-30, 0, 40, 100]).ok_or("an axis")?;
-    assert_eq!(rt; axis.len(), 4);
-    // a number, the nearest on the axis, and the place where its cell begins
-    let rows = [
-        (i64::MIN, -30, 0),
-        (-31, -30, 0),
-        (-30, -30, 0),
-        (-1, -1, 0),
-        (0, 0, 1),
-        (39, 39, 1),
-        (40, 40, 2),
-        (99, 99, 2),
-        (100, 100, 2),
-        (101, 100, 2),
-        (i64::MAX, 100, 2),
-    ];
-    for (x, nearest, cell) in rows {
-        let clamped = axis.clamp(x);
-        assert_eq!(rt; clamped, nearest);
-        assert_eq!(rt; axis.cell_of(clamped), cell, "{x}");
+fn a_number_is_brought_to_an_axis_and_has_a_cell_there(rt: HostRuntime) {
+    assert!(rt; length_of(rt.alloc(), FOUR) == Some(4), "the length");
+    for (values, x, nearest, cell) in NEAREST {
+        let met = is_brought_to(rt.alloc(), values, x, nearest, cell);
+        assert!(rt; met == Some(true), "{x}");
     }
-    let shortest = axis_of(rt.alloc(), &[5, 6]).ok_or("an axis")?;
-    assert_eq!(rt; shortest.cell_of(shortest.clamp(5)), 0);
-    assert_eq!(rt; shortest.cell_of(shortest.clamp(6)), 0);
-    Ok(())
 }
 
 fn grid_of(
@@ -125,10 +143,11 @@ fn state_number_of(grid: &Grid, present: u8, vertex: u32) -> Option<u32> {
     }
 }
 
-// The present advisory and the vertex of a state, if it is one of the grid's.
-fn parts_of(grid: &Grid, state: u32) -> Option<(u8, Vertex)> {
+// The present advisory and the places of the vertex of a state, if it is one of the grid's.
+fn parts_of(grid: &Grid, state: u32) -> Option<(u8, u32, u32, u32)> {
     if state < grid.states() {
-        Some((state_present(grid, state), state_vertex(grid, state)))
+        let vertex = state_vertex(grid, state);
+        Some((state_present(grid, state), vertex.i, vertex.j, vertex.k))
     } else {
         None
     }
@@ -145,81 +164,137 @@ fn four_by_three_by_two(alloc: Global) -> Option<Grid> {
     )
 }
 
-#[test]
-fn vertices_have_numbers(rt: HostRuntime) -> Result<(), Fail> {
-    let grid = four_by_three_by_two(rt.alloc()).ok_or("a grid")?;
-    assert_eq!(rt; grid.h.value(1), -80400);
-    assert_eq!(rt;
-        (grid.vertices(), grid.states(), grid.entries()),
-        (24, 96, 2976)
-    );
-    let rows = [
-        (0, 0, 0, Some(0)),
-        (0, 0, 1, Some(1)),
-        (0, 1, 0, Some(2)),
-        (1, 0, 0, Some(6)),
-        (2, 1, 1, Some(15)),
-        (3, 2, 1, Some(23)),
-        (4, 0, 0, None),
-        (0, 3, 0, None),
-    ];
-    for (i, j, k, number) in rows {
-        assert_eq!(rt; number_of(&grid, Vertex { i, j, k }), number);
-    }
-    for number in 0..grid.vertices() {
-        assert_eq!(rt; number_of(&grid, grid.vertex_of(number)), Some(number));
-        assert_eq!(rt; vertex_at(&grid, number), grid.vertex_of(number));
-    }
-    Ok(())
+fn vertex(i: u32, j: u32, k: u32) -> Vertex {
+    Vertex { i, j, k }
+}
+
+fn has_counts(alloc: Global, vertices: u32, states: u32, entries: u64) -> Option<bool> {
+    let grid = four_by_three_by_two(alloc)?;
+    Some(grid.vertices() == vertices && grid.states() == states && grid.entries() == entries)
+}
+
+fn second_altitude(alloc: Global) -> Option<i64> {
+    Some(four_by_three_by_two(alloc)?.h.value(1))
 }
 
 #[test]
-fn states_have_numbers(rt: HostRuntime) -> Result<(), Fail> {
-    let grid = four_by_three_by_two(rt.alloc()).ok_or("a grid")?;
-    let states = [
-        (0, 23, Some(23)),
-        (1, 0, Some(24)),
-        (3, 23, Some(95)),
-        (4, 0, None),
-    ];
-    for (present, vertex, number) in states {
-        assert_eq!(rt; state_number_of(&grid, present, vertex), number);
+fn a_grid_is_counted(rt: HostRuntime) {
+    assert!(rt; second_altitude(rt.alloc()) == Some(-80400));
+    assert!(rt; has_counts(rt.alloc(), 24, 96, 2976) == Some(true));
+}
+
+// The places of a vertex, and its number, if it is one of the grid's.
+const VERTICES: [(u32, u32, u32, Option<u32>); 8] = [
+    (0, 0, 0, Some(0)),
+    (0, 0, 1, Some(1)),
+    (0, 1, 0, Some(2)),
+    (1, 0, 0, Some(6)),
+    (2, 1, 1, Some(15)),
+    (3, 2, 1, Some(23)),
+    (4, 0, 0, None),
+    (0, 3, 0, None),
+];
+
+// Whether a vertex has this number, or is none of the grid's.
+fn vertex_has_number(alloc: Global, vertex: Vertex, number: Option<u32>) -> Option<bool> {
+    let grid = four_by_three_by_two(alloc)?;
+    Some(number_of(&grid, vertex) == number)
+}
+
+// Whether a number has a vertex, which has that number.
+fn number_has_vertex(alloc: Global, number: u32) -> Option<bool> {
+    let grid = four_by_three_by_two(alloc)?;
+    if number >= grid.vertices() {
+        return None;
     }
-    let parts = [
-        (0, Some((0, 0, 0, 0))),
-        (23, Some((0, 3, 2, 1))),
-        (24, Some((1, 0, 0, 0))),
-        (95, Some((3, 3, 2, 1))),
-        (96, None),
-    ];
-    for (state, want) in parts {
-        let want = want.map(|(present, i, j, k)| (present, Vertex { i, j, k }));
-        assert!(rt; parts_of(&grid, state) == want, "{state}");
-    }
-    Ok(())
+    let vertex = grid.vertex_of(number);
+    Some(number_of(&grid, vertex) == Some(number) && vertex_at(&grid, number) == vertex)
 }
 
 #[test]
-fn a_point_is_brought_into_a_grid_and_has_a_cell_there(rt: HostRuntime) -> Result<(), Fail> {
-    let grid = grid_of(rt.alloc(), &[0, 3600], &[0, 600], &[0, 600], 2, 2).ok_or("a grid")?;
+fn vertices_have_numbers(rt: HostRuntime) {
+    for (i, j, k, number) in VERTICES {
+        let met = vertex_has_number(rt.alloc(), vertex(i, j, k), number);
+        assert!(rt; met == Some(true), "{i} {j} {k}");
+    }
+    for number in 0..24 {
+        let met = number_has_vertex(rt.alloc(), number);
+        assert!(rt; met == Some(true), "{number}");
+    }
+}
+
+// The present advisory and the vertex of a state, and its number, if it is one of the grid's.
+const STATES: [(u8, u32, Option<u32>); 4] = [
+    (0, 23, Some(23)),
+    (1, 0, Some(24)),
+    (3, 23, Some(95)),
+    (4, 0, None),
+];
+
+// A state, and its present advisory and the places of its vertex, if it is one of the grid's.
+const PARTS: [(u32, Option<(u8, u32, u32, u32)>); 5] = [
+    (0, Some((0, 0, 0, 0))),
+    (23, Some((0, 3, 2, 1))),
+    (24, Some((1, 0, 0, 0))),
+    (95, Some((3, 3, 2, 1))),
+    (96, None),
+];
+
+// Whether a state has this number, or is none of the grid's.
+fn state_has_number(alloc: Global, present: u8, vertex: u32, number: Option<u32>) -> Option<bool> {
+    let grid = four_by_three_by_two(alloc)?;
+    Some(state_number_of(&grid, present, vertex) == number)
+}
+
+// Whether a number has this advisory and these places, or none.
+fn number_has_parts(alloc: Global, state: u32, parts: Option<(u8, u32, u32, u32)>) -> Option<bool> {
+    let grid = four_by_three_by_two(alloc)?;
+    Some(parts_of(&grid, state) == parts)
+}
+
+#[test]
+fn states_have_numbers(rt: HostRuntime) {
+    for (present, vertex, number) in STATES {
+        let met = state_has_number(rt.alloc(), present, vertex, number);
+        assert!(rt; met == Some(true), "{present} {vertex}");
+    }
+    for (state, parts) in PARTS {
+        let met = number_has_parts(rt.alloc(), state, parts);
+        assert!(rt; met == Some(true), "{state}");
+    }
+}
+
+fn two_by_two_by_two(alloc: Global) -> Option<Grid> {
+    grid_of(alloc, &[0, 3600], &[0, 600], &[0, 600], 2, 2)
+}
+
+fn three_by_four_by_three(alloc: Global) -> Option<Grid> {
+    grid_of(alloc, &[-5, 0, 5], &[-1, 0, 1, 2], &[0, 10, 20], 16, 120)
+}
+
+fn point(h: i64, v0: i64, v1: i64) -> Point {
+    Point { h, v0, v1 }
+}
+
+// Whether there is a grid, and a point is brought to another in it, which is in the cell that begins at a vertex.
+fn is_brought_into(grid: Option<Grid>, from: Point, to: Point, cell: Vertex) -> Option<bool> {
+    let grid = grid?;
+    let inside = grid.clamp(from);
+    Some(inside == to && grid.locate(inside) == cell)
+}
+
+#[test]
+fn a_point_is_brought_into_a_grid_and_has_a_cell_there(rt: HostRuntime) {
     // One second from 30 ft with the intruder at 600 ft/min would pass the upper end.
-    let beyond = grid.clamp(Point {
-        h: 4800,
-        v0: 0,
-        v1: 600,
-    });
-    assert_eq!(rt; (beyond.h, beyond.v0, beyond.v1), (3600, 0, 600));
-    assert_eq!(rt; grid.locate(beyond), Vertex { i: 0, j: 0, k: 0 });
-    let wide = grid_of(
-        rt.alloc(),
-        &[-5, 0, 5],
-        &[-1, 0, 1, 2],
-        &[0, 10, 20],
-        16,
-        120,
+    let small = two_by_two_by_two(rt.alloc());
+    let met = is_brought_into(
+        small,
+        point(4800, 0, 600),
+        point(3600, 0, 600),
+        vertex(0, 0, 0),
     );
-    let wide = wide.ok_or("a grid")?;
-    let inside = wide.clamp(Point { h: 1, v0: 2, v1: 9 });
-    assert_eq!(rt; wide.locate(inside), Vertex { i: 1, j: 2, k: 0 });
-    Ok(())
+    assert!(rt; met == Some(true), "a point beyond the grid");
+    let wide = three_by_four_by_three(rt.alloc());
+    let met = is_brought_into(wide, point(1, 2, 9), point(1, 2, 9), vertex(1, 2, 0));
+    assert!(rt; met == Some(true), "a point in the grid");
 }

@@ -1,7 +1,7 @@
 //! What is told of boxes and of cells: windows, gaps, whether they are clear, and witnesses.
 ghost use Rattle.std.specs.Prelude.{◌≤◌};
 
-use crate::print::{seen_in, with_no_witness, with_witness};
+use crate::print::{tell, tell_no_witness, tell_witness};
 use crate::rows::span;
 use acas_areas::BoxState;
 use acas_base::Model;
@@ -11,7 +11,6 @@ use acas_units::Span;
 use acas_witness::contact_in;
 use acas_witness_response::{of_box, of_cell};
 use std::alloc::Global;
-use std::test::Fail;
 
 // The altitudes, own and intruder rates at a place of a row.
 fn area_at(row: &[i64], place: usize) -> Option<BoxState>
@@ -23,15 +22,15 @@ fn area_at(row: &[i64], place: usize) -> Option<BoxState>
     Some(BoxState { h, v0, v1 })
 }
 
-// What is told of a box of these ranges and closing speeds.
+// Tells of a box of these ranges and closing speeds.
 fn found_between(
-    alloc: Global,
+    out: &mut Vec<u8>,
     model: &Model,
     range: Span,
     closing: Span,
     area: &BoxState,
     advisory: u8,
-) -> Option<Vec<u8>> {
+) -> Option<()> {
     let radius = model.radius();
     if 0 <= range.least
         && range.greatest <= 3_000_000
@@ -42,57 +41,68 @@ fn found_between(
         && u32::from(advisory) < model.grid().advisories
     {
         let window = window_of_box(model, range, closing);
-        let seen = seen_in(alloc, model, area, &window, advisory)?;
+        tell(out, model, area, &window, advisory)?;
         match contact_in(model, area, &window, advisory) {
-            Some(flight) => with_witness(seen, &of_box(model, range, closing, flight)),
-            None => with_no_witness(seen),
+            Some(flight) => tell_witness(out, &of_box(model, range, closing, flight)),
+            None => tell_no_witness(out),
         }
     } else {
         None
     }
 }
 
-// What is told of a row's box: ranges, closing speeds, an advisory, altitudes, own and intruder rates.
-fn found_in_box(alloc: Global, model: &Model, row: &[i64]) -> Option<Vec<u8>> {
+// Tells of a row's box: ranges, closing speeds, an advisory, altitudes, own and intruder rates.
+fn found_in_box(out: &mut Vec<u8>, model: &Model, row: &[i64]) -> Option<()> {
     let range = span(row, 0, 3_000_000)?;
     let closing = span(row, 2, 5_000)?;
     let advisory = u8::try_from(*row.get(4)?).ok()?;
-    found_between(alloc, model, range, closing, &area_at(row, 5)?, advisory)
+    found_between(out, model, range, closing, &area_at(row, 5)?, advisory)
 }
 
-// What is told of a row's cell: seconds away, an advisory, altitudes, own and intruder rates.
-fn found_in_cell(alloc: Global, model: &Model, row: &[i64]) -> Option<Vec<u8>> {
+// Tells of a row's cell: seconds away, an advisory, altitudes, own and intruder rates.
+fn found_in_cell(out: &mut Vec<u8>, model: &Model, row: &[i64]) -> Option<()> {
     let n = u32::try_from(*row.get(0)?).ok()?;
     let advisory = u8::try_from(*row.get(1)?).ok()?;
     let area = area_at(row, 2)?;
     if n < model.grid().horizon && u32::from(advisory) < model.grid().advisories {
         let window = window_of_cell(model, n);
-        let seen = seen_in(alloc, model, &area, &window, advisory)?;
+        tell(out, model, &area, &window, advisory)?;
         match contact_in(model, &area, &window, advisory) {
-            Some(flight) => with_witness(seen, &of_cell(model, n, flight)),
-            None => with_no_witness(seen),
+            Some(flight) => tell_witness(out, &of_cell(model, n, flight)),
+            None => tell_no_witness(out),
         }
     } else {
         None
     }
 }
 
-// Whether what is told of the box or the cell in the first line of a text has each of the other lines.
-fn are_told(alloc: Global, model: &Model, text: &str) -> Option<bool> {
+// Whether what is told under a model of the box or the cell in the first line of a text has each of the other lines.
+fn are_told(alloc: Global, recipe: &str, text: &str) -> Option<bool> {
     let (row, wanted) = text.split_once("\n")?;
     let row = numbers(alloc, row)?;
-    let told = if row.len() == 8 {
-        found_in_cell(alloc, model, &row)?
+    let model = model_of(alloc, recipe)?;
+    let mut told = Vec::new(alloc);
+    if row.len() == 8 {
+        found_in_cell(&mut told, &model, &row)?;
     } else {
-        found_in_box(alloc, model, &row)?
-    };
+        found_in_box(&mut told, &model, &row)?;
+    }
     has_lines(&told, wanted)
+}
+
+fn has_line(told: &str, wanted: &str) -> bool {
+    for line in told.lines() {
+        if line == wanted {
+            return true;
+        }
+    }
+    false
 }
 
 fn has_lines(told: &[u8], wanted: &str) -> Option<bool> {
     let told = std::str::from_utf8(told).ok()?;
     for line in wanted.lines() {
-        if !told.lines().any(|other| other == line) {
+        if !has_line(told, line) {
             return Some(false);
         }
     }
@@ -196,36 +206,37 @@ time 10 range 50500 speed 5000 ticks -13200 own 0 intruder 0 response 5/128@0 25
 2500 2500 500 500 1 12000 12000 0 0 0 0
 time 4 range 2500 speed 500 ticks 12000 own 0 intruder 0 response 4@0";
 
+// Models, for how many seconds the pilots may hold their rate, and areas.
+const MODELS: [(&str, i64, &str); 4] = [
+    ("d", 0, AREAS),
+    (
+        "d\nversion = 1 => version = 2\nlimit = 960 => limit = 960|delay = 0",
+        0,
+        AREAS,
+    ),
+    (
+        "d\nversion = 1 => version = 2\nlimit = 960 => limit = 960|delay = 5",
+        5,
+        AREAS_AFTER_FIVE,
+    ),
+    (
+        "d\nversion = 1 => version = 2\nlimit = 960 => limit = 960|delay = 10",
+        10,
+        AREAS_AFTER_TEN,
+    ),
+];
+
+fn delay_of(alloc: Global, recipe: &str) -> Option<i64> {
+    Some(model_of(alloc, recipe)?.delay())
+}
+
 #[test]
-fn areas_have_windows_gaps_and_witnesses(rt: HostRuntime) -> Result<(), Fail> {
-    let alloc = rt.alloc();
-    let rows = [
-        ("d", 0, AREAS),
-        (
-            "d\nversion = 1 => version = 2\nlimit = 960 => limit = 960|delay = 0",
-            0,
-            AREAS,
-        ),
-        (
-            "d\nversion = 1 => version = 2\nlimit = 960 => limit = 960|delay = 5",
-            5,
-            AREAS_AFTER_FIVE,
-        ),
-        (
-            "d\nversion = 1 => version = 2\nlimit = 960 => limit = 960|delay = 10",
-            10,
-            AREAS_AFTER_TEN,
-        ),
-    ];
-    for (recipe, delay, areas) in rows {
-        let model = model_of(alloc, recipe).ok_or("a model")?;
-        assert_eq!(rt; model.delay(), delay);
+fn areas_have_windows_gaps_and_witnesses(rt: HostRuntime) {
+    for (recipe, delay, areas) in MODELS {
+        assert!(rt; delay_of(rt.alloc(), recipe) == Some(delay), "{recipe}");
         for area in areas.split("\n\n") {
-            assert!(rt;
-                are_told(alloc, &model, area) == Some(true),
-                "{delay} {area}"
-            );
+            let told = are_told(rt.alloc(), recipe, area);
+            assert!(rt; told == Some(true), "{delay} {area}");
         }
     }
-    Ok(())
 }

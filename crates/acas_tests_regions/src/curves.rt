@@ -6,6 +6,7 @@ use acas_frac::Frac;
 use acas_region::{highest, lowest};
 use acas_region_curves::{approach, held};
 use acas_tests_data::model_of;
+use std::alloc::Global;
 use std::test::Fail;
 
 // The climb of an approach, if the row begins with numbers within its limits.
@@ -48,20 +49,26 @@ const HOLDS: &str = "0 1500 480 0 20 110625/2
 0 1500 480 1/2 1 120
 100 -100 50 1/256 257/256 4825/32";
 
+// Whether a line ends with the climb of its approach.
+fn is_approached(alloc: Global, line: &str) -> Option<bool> {
+    let row = fractions(alloc, line)?;
+    is_at(&row, 4, &approached(&row)?)
+}
+
+// Whether a line ends with the climb after its hold.
+fn is_flown(alloc: Global, line: &str) -> Option<bool> {
+    let row = fractions(alloc, line)?;
+    is_at(&row, 5, &flown(&row)?)
+}
+
 #[test]
-fn approaches_bend_at_the_aim_and_holds_come_before(rt: HostRuntime) -> Result<(), Fail> {
-    let alloc = rt.alloc();
+fn approaches_bend_at_the_aim_and_holds_come_before(rt: HostRuntime) {
     for line in APPROACHES.lines() {
-        let row = fractions(alloc, line).ok_or("numbers")?;
-        let climb = approached(&row).ok_or("a climb")?;
-        assert!(rt; is_at(&row, 4, &climb) == Some(true), "{line}");
+        assert!(rt; is_approached(rt.alloc(), line) == Some(true), "{line}");
     }
     for line in HOLDS.lines() {
-        let row = fractions(alloc, line).ok_or("numbers")?;
-        let climb = flown(&row).ok_or("a climb")?;
-        assert!(rt; is_at(&row, 5, &climb) == Some(true), "{line}");
+        assert!(rt; is_flown(rt.alloc(), line) == Some(true), "{line}");
     }
-    Ok(())
 }
 
 // The least and the greatest climb.
@@ -90,15 +97,19 @@ const CLIMBS: &str = "3 3000 20 -86875/12 198125/6
 1 0 20 110625/2 887500/3
 0 1/8 1/2 -1919/8 1921/8";
 
+// Whether a line ends with the least and the greatest climb.
+fn is_between(alloc: Global, model: &Model, line: &str) -> Option<bool> {
+    let row = fractions(alloc, line)?;
+    let climbs = climbs_of(model, &row)?;
+    Some(is_at(&row, 3, &climbs.least)? && is_at(&row, 4, &climbs.greatest)?)
+}
+
 #[test]
 fn climbs_are_between_two_curves(rt: HostRuntime) -> Result<(), Fail> {
-    let alloc = rt.alloc();
-    let model = model_of(alloc, "d").ok_or("a model")?;
+    let model = model_of(rt.alloc(), "d").ok_or("a model")?;
     for line in CLIMBS.lines() {
-        let row = fractions(alloc, line).ok_or("numbers")?;
-        let climbs = climbs_of(&model, &row).ok_or("climbs")?;
-        assert!(rt; is_at(&row, 3, &climbs.least) == Some(true), "{line}");
-        assert!(rt; is_at(&row, 4, &climbs.greatest) == Some(true), "{line}");
+        let met = is_between(rt.alloc(), &model, line);
+        assert!(rt; met == Some(true), "{line}");
     }
     Ok(())
 }

@@ -4,7 +4,6 @@ use acas_base::Model;
 use acas_frac::{Frac, print_frac};
 use acas_region::{high_extreme, is_clear, low_extreme};
 use acas_rulings::{Segment, Witness};
-use std::alloc::Global;
 
 // A word, and a number after it.
 fn word(out: &mut Vec<u8>, word: &str, value: &Frac) -> Option<()> {
@@ -18,26 +17,21 @@ fn gap(out: &mut Vec<u8>, name: &str, gap: &Extreme) -> Option<()> {
 }
 
 /// The window, the least gap in ticks and its time, the greatest, and whether the area is clear.
-pub fn seen_in(
-    alloc: Global,
+pub fn tell(
+    out: &mut Vec<u8>,
     model: &Model,
     area: &BoxState,
     window: &Window,
     advisory: u8,
-) -> Option<Vec<u8>> {
+) -> Option<()> {
     if u32::from(advisory) >= model.grid().advisories {
         return None;
     }
-    let mut out = Vec::new(alloc);
-    word(&mut out, "window ", &window.from)?;
-    word(&mut out, " ", &window.to)?;
+    word(out, "window ", &window.from)?;
+    word(out, " ", &window.to)?;
+    gap(out, "\nleast ", &low_extreme(model, area, window, advisory))?;
     gap(
-        &mut out,
-        "\nleast ",
-        &low_extreme(model, area, window, advisory),
-    )?;
-    gap(
-        &mut out,
+        out,
         "\ngreatest ",
         &high_extreme(model, area, window, advisory),
     )?;
@@ -46,8 +40,7 @@ pub fn seen_in(
     } else {
         "\nnot clear"
     };
-    out.extend_from_slice(clear.as_bytes()).ok()?;
-    Some(out)
+    out.extend_from_slice(clear.as_bytes()).ok()
 }
 
 fn segment(out: &mut Vec<u8>, segment: &Option<Segment>) -> Option<()> {
@@ -69,23 +62,24 @@ fn response(out: &mut Vec<u8>, witness: &Witness) -> Option<()> {
     segment(out, &witness.flight.second)
 }
 
-/// These lines, and that there is no witness.
-pub fn with_no_witness(seen: Vec<u8>) -> Option<Vec<u8>> {
-    let mut out = seen;
-    out.extend_from_slice(b"\nno contact").ok()?;
-    Some(out)
+/// That there is no witness.
+pub fn tell_no_witness(out: &mut Vec<u8>) -> Option<()> {
+    out.extend_from_slice(b"\nno contact").ok()
 }
 
-/// These lines and that of a witness: the time, the range, the speed, the altitude, the own and the intruder's rate, and the response.
-pub fn with_witness(seen: Vec<u8>, witness: &Witness) -> Option<Vec<u8>> {
-    let mut out = seen;
+/// A witness: the time, the range, the speed, the altitude, the own and the intruder's rate, and the response.
+pub fn tell_witness(out: &mut Vec<u8>, witness: &Witness) -> Option<()> {
     let flight = &witness.flight;
-    word(&mut out, "\ntime ", &flight.time)?;
-    word(&mut out, " range ", &witness.range)?;
-    word(&mut out, " speed ", &witness.speed)?;
-    word(&mut out, " ticks ", &Frac::whole(flight.h))?;
-    word(&mut out, " own ", &flight.v0)?;
-    word(&mut out, " intruder ", &flight.v1)?;
-    response(&mut out, witness)?;
-    Some(out)
+    let words = [
+        ("\ntime ", flight.time),
+        (" range ", witness.range),
+        (" speed ", witness.speed),
+        (" ticks ", Frac::whole(flight.h)),
+        (" own ", flight.v0),
+        (" intruder ", flight.v1),
+    ];
+    for (name, value) in words {
+        word(out, name, &value)?;
+    }
+    response(out, witness)
 }
