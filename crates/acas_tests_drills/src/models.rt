@@ -1,14 +1,23 @@
 //! The models of drills.
 use acas_base::{Choice, Model, SigmaPoint};
 use acas_drill_model::drill_model;
-use acas_grid::Axis;
+use acas_grid::{Axis, Grid};
 use acas_units::GREATEST_DRILL_NUMBER;
 use std::test::Fail;
 
 // How many numbers an axis has, and the first, the second and the last of them.
-fn ends(axis: &Axis) -> (u32, i64, i64, i64) {
-    let count = axis.len();
-    (count, axis.value(0), axis.value(1), axis.value(count - 1))
+type Ends = (u32, i64, i64, i64);
+
+// Whether an axis has so many numbers, of which these are the first, the second and the last.
+fn has_ends(axis: &Axis, (count, first, second, last): Ends) -> bool {
+    let len = axis.len();
+    let lower = axis.value(0) == first && axis.value(1) == second;
+    lower && len == count && axis.value(len - 1) == last
+}
+
+// Whether the altitudes, the own rates and the intruder's have these ends.
+fn has_axes(grid: &Grid, h: Ends, v0: Ends, v1: Ends) -> bool {
+    has_ends(&grid.h, h) && has_ends(&grid.v0, v0) && has_ends(&grid.v1, v1)
 }
 
 // What a second under each advisory costs.
@@ -35,87 +44,102 @@ fn asks(model: &Model, a: u8, name: &str, lo: i64, hi: i64) -> Option<bool> {
     Some(named && found.lo == lo && found.hi == hi && are_all(model.choices(a)))
 }
 
-// 12345 is 7 * 1763 + 4, 1763 is 4 * 440 + 3, 440 is 4 * 110, and 110 is 31 * 3 + 17. 999999999 is 7 * 142857142 + 5, 142857142 is
-// 4 * 35714285 + 2, 35714285 is 4 * 8928571 + 1, 8928571 is 31 * 288018 + 13, and 999999999 is 9000 * 111111 + 999.
+// A number; the ends of the altitudes, the own rates and the intruder's; the horizon, and the cost of contact. 12345 is 7 * 1763 + 4,
+// 1763 is 4 * 440 + 3, 440 is 4 * 110, and 110 is 31 * 3 + 17. 999999999 is 7 * 142857142 + 5, 142857142 is 4 * 35714285 + 2, 35714285
+// is 4 * 8928571 + 1, 8928571 is 31 * 288018 + 13, and 999999999 is 9000 * 111111 + 999.
+const GRIDS: [(u32, Ends, Ends, Ends, u32, i64); 2] = [
+    (
+        12_345,
+        (21, -120_000, -108_000, 120_000),
+        (11, -2_500, -2_000, 2_500),
+        (5, -1_000, -500, 1_000),
+        27,
+        4_345,
+    ),
+    (
+        999_999_999,
+        (23, -132_000, -120_000, 132_000),
+        (9, -2_000, -1_500, 2_000),
+        (7, -1_500, -1_000, 1_500),
+        23,
+        1_999,
+    ),
+];
+
 #[test]
 fn the_grids_of_drills(rt: HostRuntime) -> Result<(), Fail> {
-    // a number; the ends of the altitudes, the own rates and the intruder's; the horizon, and the cost of contact
-    let rows = [
-        (
-            12_345,
-            (21, -120_000, -108_000, 120_000),
-            (11, -2_500, -2_000, 2_500),
-            (5, -1_000, -500, 1_000),
-            27,
-            4_345,
-        ),
-        (
-            999_999_999,
-            (23, -132_000, -120_000, 132_000),
-            (9, -2_000, -1_500, 2_000),
-            (7, -1_500, -1_000, 1_500),
-            23,
-            1_999,
-        ),
-    ];
-    for (number, h, v0, v1, horizon, contact) in rows {
+    for (number, h, v0, v1, horizon, contact) in GRIDS {
         assert!(rt; number <= GREATEST_DRILL_NUMBER);
         let model = drill_model(rt.alloc(), number)?;
         let grid = model.grid();
-        assert_eq!(rt; ends(&grid.h), h);
-        assert_eq!(rt; ends(&grid.v0), v0);
-        assert_eq!(rt; ends(&grid.v1), v1);
-        assert_eq!(rt; grid.horizon, horizon);
-        assert_eq!(rt; model.contact(), contact);
+        assert!(rt; has_axes(grid, h, v0, v1), "{number}");
+        assert!(rt; grid.horizon == horizon, "{number}");
+        assert!(rt; model.contact() == contact, "{number}");
     }
     Ok(())
 }
 
+// An advisory, its name, and the least and the greatest rate that it asks for.
+const ADVISORIES: [(u8, &str, i64, i64); 7] = [
+    (0, "clear", -10_000, 10_000),
+    (1, "no-climb", -10_000, 0),
+    (2, "no-descend", 0, 10_000),
+    (3, "level", -500, 500),
+    (4, "climb", 1_500, 10_000),
+    (5, "descend", -10_000, -1_500),
+    (6, "climb-fast", 2_500, 10_000),
+];
+
 #[test]
 fn the_advisories_of_drills(rt: HostRuntime) -> Result<(), Fail> {
     let model = drill_model(rt.alloc(), 1)?;
-    let rows = [
-        (0, "clear", -10_000, 10_000),
-        (1, "no-climb", -10_000, 0),
-        (2, "no-descend", 0, 10_000),
-        (3, "level", -500, 500),
-        (4, "climb", 1_500, 10_000),
-        (5, "descend", -10_000, -1_500),
-        (6, "climb-fast", 2_500, 10_000),
-    ];
-    for (a, name, lo, hi) in rows {
-        assert_eq!(rt; asks(&model, a, name, lo, hi), Some(true));
+    for (a, name, lo, hi) in ADVISORIES {
+        assert!(rt; asks(&model, a, name, lo, hi) == Some(true), "{name}");
     }
-    assert_eq!(rt; model.grid().advisories, 7);
+    assert!(rt; model.grid().advisories == 7);
     Ok(())
+}
+
+const POINTS: [SigmaPoint; 3] = [
+    SigmaPoint {
+        weight: 2,
+        own: 0,
+        intruder: 0,
+    },
+    SigmaPoint {
+        weight: 1,
+        own: 60,
+        intruder: -60,
+    },
+    SigmaPoint {
+        weight: 1,
+        own: -60,
+        intruder: 60,
+    },
+];
+
+// Whether the pilot has this pull, this limit and this delay.
+fn has_pilot(model: &Model, pull: i64, limit: i64, delay: i64) -> bool {
+    model.pull() == pull && model.limit() == limit && model.delay() == delay
+}
+
+// Whether the puck has this radius and this half of its height.
+fn has_puck(model: &Model, radius: i64, half: i64) -> bool {
+    model.radius() == radius && model.half() == half
+}
+
+// Whether the closing speeds are from the least to the greatest.
+fn has_closing(model: &Model, least: i64, greatest: i64) -> bool {
+    let closing = model.closing();
+    closing.least == least && closing.greatest == greatest
 }
 
 #[test]
 fn the_numbers_of_drills(rt: HostRuntime) -> Result<(), Fail> {
     let model = drill_model(rt.alloc(), 2)?;
-    assert_eq!(rt; (model.pull(), model.limit(), model.delay()), (480, 960, 0));
-    assert_eq!(rt; (model.radius(), model.half()), (500, 12_000));
-    assert_eq!(rt;
-        (model.closing().least, model.closing().greatest),
-        (500, 1_500)
-    );
-    let points = [
-        SigmaPoint {
-            weight: 2,
-            own: 0,
-            intruder: 0,
-        },
-        SigmaPoint {
-            weight: 1,
-            own: 60,
-            intruder: -60,
-        },
-        SigmaPoint {
-            weight: 1,
-            own: -60,
-            intruder: 60,
-        },
-    ];
-    assert_eq!(rt; model.points(), points.as_slice());
+    assert!(rt; has_pilot(&model, 480, 960, 0));
+    assert!(rt; has_puck(&model, 500, 12_000));
+    assert!(rt; has_closing(&model, 500, 1_500));
+    assert!(rt; model.points() == POINTS.as_slice());
     Ok(())
 }
