@@ -113,6 +113,9 @@ class Kit:
         command = shutil.which("rt")
         self.folder = os.path.dirname(os.path.dirname(os.path.realpath(command)))
         self.version = subprocess.run([command, "version"], stdout=subprocess.PIPE, check=True).stdout
+        told = subprocess.run([self.path("bin/rattle"), "build", "--help"], stdout=subprocess.PIPE, check=True).stdout
+        # an older compiler writes all proofs into a library
+        self.stating = ["--statements"] if b"--statements" in told else []
 
     def path(self, name):
         return os.path.join(self.folder, name)
@@ -128,7 +131,7 @@ class Kit:
             words += ["--extern", f"{it.name}={it.library}"]
         for folder in (self.path("rlibs"), *(os.path.dirname(it.library) for it in crate.below)):
             words += ["-L", f"dependency={folder}"]
-        return words + (["--toolchain", self.path("toolchain")] if crate.name == PROGRAM else ["--statements"])
+        return words + (["--toolchain", self.path("toolchain")] if crate.name == PROGRAM else self.stating)
 
     def linking(self, made, program):
         """The words that link what was made of the program."""

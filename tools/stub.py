@@ -14,6 +14,7 @@ RT = """#!/bin/sh
 echo "a-kit logic ${LOGIC:-dac8208d650f15bf}"
 """
 RATTLE = """#!/bin/sh
+[ "$2" != --help ] || exit 0
 echo "$3" >>"$CALLS"
 echo $$ >"$CALLS.kit"
 [ -z "$SLOW" ] || sleep "$SLOW"
