@@ -1,5 +1,5 @@
 -- An area has one meeting in a window, and a box one verdict.
-use Rattle.std.proofs.Common.{◌≡◌, ℕ, ◌*◌, ◌<◌, refl, sym, ap, ap₂, subst, arith, List, [], ◌∷◌, ◌++◌, mul-pos}
+use Rattle.std.proofs.Common.{◌≡◌, ℕ, ◌*◌, ◌<◌, refl, sym, ap, ap₂, subst, arith, List, [], ◌∷◌, ◌++◌, ℤ, mul-pos}
 use Rattle.std.proofs.lemmas.Int.{ints}
 use Rattle.std.proofs.lemmas.List.Elements.{recursion_from_All, All-from_recursion}
 use Rattle.std.specs.List.{All, AllByRecursion}
@@ -68,8 +68,8 @@ printed_one q a c x y p s b i j r t =
 meeting-one : (half : ℕ) (a : Demand) (may : Manoeuvre) (area : Area) (w u : Times) (x y : Meeting) → CanBeMet a → 0 < may.accel → AreSameTimes u w →
     IsMeetingOf half a may area w x → IsMeetingOf half a may area u y → AreLowestOf x → AreLowestOf y → IsSameMeeting x y
 meeting-one half a may area w u x y can some same i j r t =
-    let low_gap = λ q t. race_gap (low_race a may area) q t in
-    let high_gap = λ q t. race_gap (turned (high_race a may area)) q t in
+    let low_gap : ℕ → ℕ → ℤ = λ q t. race_gap (low_race a may area) q t in
+    let high_gap : ℕ → ℕ → ℤ = λ q t. race_gap (turned (high_race a may area)) q t in
     let low = extreme-same low_gap w j.low i.low (extreme-windows low_gap u w j.low same j.at_low) i.at_low in
     let high = extreme-same high_gap w j.high i.high (extreme-windows high_gap u w j.high same j.at_high) i.at_high in
     let h = hunt_between a may area i.low i.high in
