@@ -1,16 +1,16 @@
 -- The course that is found in an area that is not apart.
 use Rattle.std.proofs.Common.{◌≡◌, ℕ, ◌*◌, ◌<◌, ◌≤◌, sym, unsigned_abs}
-use Rattle.acas_frac.specs.Fraction.{Fraction, IsReduced}
+use Rattle.acas_frac.specs.Fraction.{Fraction}
 use Rattle.acas_flight.specs.Response.{Demand}
 use Rattle.acas_flight.specs.Window.{Times, IsDuring}
 use Rattle.acas_flight.specs.Clear.{Area}
-use Rattle.acas_areas.specs.Limits.{IsEnd, IsTime}
+use Rattle.acas_areas.specs.Limits.{IsTime}
 use Rattle.acas_passes.specs.Search.{IsTimed, unit}
 use Rattle.acas_pass_laws.proofs.Neighbours.{unit_some}
 use Rattle.acas_manoeuvre.specs.Intruder.{Manoeuvre}
 use Rattle.acas_passes.specs.Value.{thinnest}
 use Rattle.acas_manoeuvre.specs.Apart.{IsApart}
-use Rattle.acas_manoeuvre.specs.Least.{IsFirstLeastTime}
+use Rattle.acas_manoeuvre.specs.Least.{IsRaceExtreme}
 use Rattle.acas_manoeuvre.specs.Race.{high_race, low_race, turned}
 use Rattle.acas_meetings.specs.Hunt.{CanMeet, IsHunt}
 use Rattle.acas_meetings.specs.Verdicts.{hunt_between}
@@ -30,26 +30,22 @@ pub found_by : (p : Pursuit) (f : Flown) → IsFoundCourse p f → IsFoundBy p.s
 found_by p f found = record { course = found.course; found = found.found; plan = found.flown.plan; turn = found.flown.turn }
 
 module _ (half : ℕ) (a : Demand) (may : Manoeuvre) (area : Area) (w : Times) (low high : Fraction) (p : Pursuit) (same : p.survey.half ≡ half) (of : hunt_of p ≡ hunt_between a may area low high)
-    (at_low : IsFirstLeastTime (low_race a may area) w low) (at_high : IsFirstLeastTime (turned (high_race a may area)) w high) (apart : ¬ IsApart half a may area w) where
+    (at_low : IsRaceExtreme (low_race a may area) w low) (at_high : IsRaceExtreme (turned (high_race a may area)) w high) (apart : ¬ IsApart half a may area w) where
   fine : IsHunt (hunt_between a may area low high)
   fine = renamed (λ n x. IsHunt x) half p.survey.half (hunt_of p) (hunt_between a may area low high) same of (hunt_fine p)
 
   can : CanMeet half (hunt_between a may area low high)
-  can = can-meet (hunt_between a may area low high) fine half w at_low at_high apart
+  can = can-meet (hunt_between a may area low high) fine half w at_low.first at_high.first apart
 
   -- so the pursuit can meet
   pub pursuit_can : CanMeet p.survey.half (hunt_of p)
   pursuit_can = renamed CanMeet p.survey.half half (hunt_between a may area low high) (hunt_of p) (sym same) (sym of) can
 
   -- and what it finds is the course of the area
-  pub course_from : (f : Flown) → IsFoundCourse p f → IsEnd low → IsEnd high → IsReduced low → IsReduced high → IsCourseIn half a may area w f
-  course_from f found low_end high_end low_reduced high_reduced = record {
+  pub course_from : (f : Flown) → IsFoundCourse p f → IsCourseIn half a may area w f
+  course_from f found = record {
     low = low;
     high = high;
-    low_end = low_end;
-    high_end = high_end;
-    low_reduced = low_reduced;
-    high_reduced = high_reduced;
     at_low = at_low;
     at_high = at_high;
     thick = renamed (λ n x. thinnest ≤ 2 * n) half p.survey.half (hunt_of p) (hunt_between a may area low high) same of p.survey.thick;
@@ -61,7 +57,7 @@ module _ (half : ℕ) (a : Demand) (may : Manoeuvre) (area : Area) (w : Times) (
 module _ (half : ℕ) (a : Demand) (may : Manoeuvre) (area : Area) (w : Times) (f : Flown) (n : IsCourseIn half a may area w f) where
   -- both times are in the window
   pub timed : IsTimed (hunt_between a may area n.low n.high).search w
-  timed = record { low_after = n.at_low.after; low_before = n.at_low.before; high_after = n.at_high.after; high_before = n.at_high.before }
+  timed = record { low_after = n.at_low.first.after; low_before = n.at_low.first.before; high_after = n.at_high.first.after; high_before = n.at_high.first.before }
 
   pub some : 0 < unit (hunt_between a may area n.low n.high).search
   some = unit_some (hunt_between a may area n.low n.high).search n.fine.search

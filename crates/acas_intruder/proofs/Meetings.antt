@@ -69,8 +69,8 @@ met m may b w f meeting window n prints range near reduced =
         of_area = record {
           low = n.low;
           high = n.high;
-          at_low = record { reduced = n.low_reduced; ahead = n.low_end.least; first = n.at_low };
-          at_high = record { reduced = n.high_reduced; ahead = n.high_end.least; first = n.at_high };
+          at_low = n.at_low;
+          at_high = n.at_high;
           course = n.found.course;
           found = n.found.found;
           prints = prints;

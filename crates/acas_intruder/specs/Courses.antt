@@ -1,14 +1,13 @@
 -- The course that is found in an area, as flown, and what is printed of its turn.
 use Rattle.std.specs.Prelude.{ℕ, ◌*◌, ◌≤◌, ℤ}
-use Rattle.acas_frac.specs.Fraction.{Fraction, IsReduced, whole_of}
+use Rattle.acas_frac.specs.Fraction.{Fraction, whole_of}
 use Rattle.acas_flight.specs.Response.{Demand}
 use Rattle.acas_flight.specs.Window.{Times}
 use Rattle.acas_flight.specs.Clear.{Area}
-use Rattle.acas_areas.specs.Limits.{IsEnd}
 use Rattle.acas_passes.specs.Search.{unit}
 use Rattle.acas_passes.specs.Value.{thinnest}
 use Rattle.acas_manoeuvre.specs.Intruder.{Manoeuvre}
-use Rattle.acas_manoeuvre.specs.Least.{IsFirstLeastTime}
+use Rattle.acas_manoeuvre.specs.Least.{IsRaceExtreme}
 use Rattle.acas_manoeuvre.specs.Race.{high_race, low_race, turned}
 use Rattle.acas_meetings.specs.Hunt.{CanMeet, Course, Finds, Hunt, IsHunt}
 use Rattle.acas_meetings.specs.Verdicts.{hunt_between}
@@ -30,12 +29,8 @@ pub record IsFoundBy (half : ℕ) (h : Hunt) (f : Flown) : Type 0 where
 pub record IsCourseIn (half : ℕ) (a : Demand) (may : Manoeuvre) (area : Area) (w : Times) (f : Flown) : Type 0 where
   pub low : Fraction
   pub high : Fraction
-  pub low_end : IsEnd low
-  pub high_end : IsEnd high
-  pub low_reduced : IsReduced low
-  pub high_reduced : IsReduced high
-  pub at_low : IsFirstLeastTime (low_race a may area) w low
-  pub at_high : IsFirstLeastTime (turned (high_race a may area)) w high
+  pub at_low : IsRaceExtreme (low_race a may area) w low
+  pub at_high : IsRaceExtreme (turned (high_race a may area)) w high
   pub thick : thinnest ≤ 2 * half
   pub fine : IsHunt (hunt_between a may area low high)
   pub can : CanMeet half (hunt_between a may area low high)

@@ -3,7 +3,7 @@ use Rattle.std.proofs.Common.{◌≡◌, ℕ, ◌-◌, ◌*◌, ◌<◌, ◌⊎�
 use Rattle.std.proofs.lemmas.Int.{ints}
 use Rattle.std.proofs.lemmas.Bool.{cases_lt, cases_Bool}
 use Rattle.acas_units.specs.declared.limits.TheConstants.{WINDOW_SECONDS}
-use Rattle.acas_frac.specs.Fraction.{Fraction, IsReduced}
+use Rattle.acas_frac.specs.Fraction.{Fraction}
 use Rattle.acas_frac.proofs.IntRing.{at, num, ◌⊗◌, ring}
 use Rattle.acas_frac.proofs.Orders.{cases_lt_ℤ, le_of_lt_ℤ, mul_nonneg, unsigned_abs-high, unsigned_abs-low}
 use Rattle.acas_frac.proofs.Reduced.{some_reduced}
@@ -21,7 +21,7 @@ use Rattle.acas_passes.specs.Search.{IsMoment}
 use Rattle.acas_manoeuvre.specs.Intruder.{Manoeuvre, RatesFit}
 use Rattle.acas_manoeuvre.specs.Race.{Race, high_race, low_race, race_gap, race_tick, turned}
 use Rattle.acas_manoeuvre.specs.Apart.{IsApart, StaysAbove}
-use Rattle.acas_manoeuvre.specs.Least.{IsFirstLeastTime}
+use Rattle.acas_manoeuvre.specs.Least.{IsFirstLeastTime, IsRaceExtreme}
 use Rattle.acas_manoeuvre.specs.Turns.{Instant, IsEarlyTurn, IsFirstOf, IsLateTurn, IsLooked, IsSoonerOrSame, IsTurnTime, ahead, at_goal, falling, fraction_of, on_the_way, race_number, too_slow, turned_before, turning, turns_after}
 use Rattle.acas_manoeuvre_laws.proofs.FirstTimes.{first_least_time}
 use Rattle.acas_manoeuvre_laws.proofs.Stays.{below-turned, stays-over}
@@ -127,14 +127,14 @@ moment_of r w time e p l = record {
 pub record HasLeastTime (r : Race) (w : Times) : Type 0 where
   pub time : Fraction
   pub moment : IsMoment time
-  pub reduced : IsReduced time
-  pub least : IsFirstLeastTime r w time
+  pub extreme : IsRaceExtreme r w time
 
 in_lowest_terms : (r : Race) (w : Times) (p : Instant) → AreEnds w → 0 < p.den → IsFirstLeastTime r w (fraction_of p) → HasLeastTime r w
 in_lowest_terms r w p e s l =
     let f = some_reduced (pos p.num) p.den s in
     let least = least_time-same r w f.fraction (fraction_of p) f.reduced.some s f.same l in
-    record { time = f.fraction; moment = moment_of r w f.fraction e f.reduced.some least; reduced = f.reduced; least = least }
+    let moment = moment_of r w f.fraction e f.reduced.some least in
+    record { time = f.fraction; moment = moment; extreme = record { reduced = f.reduced; ahead = moment.least; first = least } }
 
 least_time : (r : Race) (w : Times) → 0 < r.pull → 0 < r.accel → r.rate ≤ℤ r.goal → AreEnds w → HasLeastTime r w
 least_time r w sb sa up e = natural w.from.num e.from.least (λ m em. natural w.to.num e.to.least (λ n en. by m n em en))
@@ -174,8 +174,8 @@ stays_or_not half r w l = natural l.time.num l.moment.least (λ n e. at_time n e
     at_time n e =
         let over : IsOver l.time.den (pos n) l.time = rw e refl in
         elim (cases_lt_ℤ (pos (half * race_tick r l.time.den)) (race_gap r l.time.den n)) [
-          | inl above ↦ inl (stays-over half r w l.time l.least l.time.den n l.moment.some over above)
-          | inr near ↦ inr (λ s. no _ _ (s l.time.den n l.moment.some (during_ends n l.time w e l.least.after l.least.before)) near)
+          | inl above ↦ inl (stays-over half r w l.time l.extreme.first l.time.den n l.moment.some over above)
+          | inr near ↦ inr (λ s. no _ _ (s l.time.den n l.moment.some (during_ends n l.time w e l.extreme.first.after l.extreme.first.before)) near)
         ]
 
 -- so it is decided whether an area is apart

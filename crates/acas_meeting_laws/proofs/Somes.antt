@@ -58,8 +58,8 @@ module _ (m : ModelData) (may : Manoeuvre) (b : AuditedBox) (is : IsModel m) (of
       let thick : thinnest ≤ 2 * m.half = omega (arith, is.some_half) in
       let h = hunt_between (demand_of m b.advisory) may (area_of_box b.states) low.time high.time in
       let hunt : IsHunt h = hunt_of m b.advisory may (area_of_box b.states) low.time high.time is of.advisory (flyable_box b.states fits order) some fast fit low.moment high.moment in
-      let timed : IsTimed h.search w = record { low_after = low.least.after; low_before = low.least.before; high_after = high.least.after; high_before = high.least.before } in
-      let can = can-meet h hunt m.half w low.least high.least near in
+      let timed : IsTimed h.search w = record { low_after = low.extreme.first.after; low_before = low.extreme.first.before; high_after = high.extreme.first.after; high_before = high.extreme.first.before } in
+      let can = can-meet h hunt m.half w low.extreme.first high.extreme.first near in
       let c = finds m.half h hunt can in
       let from = found_course h hunt w timed m.half thick can c.0 c.1 in
       let p = unit_some h.search hunt.search in
@@ -79,8 +79,8 @@ module _ (m : ModelData) (may : Manoeuvre) (b : AuditedBox) (is : IsModel m) (of
             of_area = record {
               low = low.time;
               high = high.time;
-              at_low = record { reduced = low.reduced; ahead = low.moment.least; first = low.least };
-              at_high = record { reduced = high.reduced; ahead = high.moment.least; first = high.least };
+              at_low = low.extreme;
+              at_high = high.extreme;
               course = c.0;
               found = c.1;
               prints = prints;

@@ -1,8 +1,7 @@
 //! The first time of a window at which a curve is nearest the intruder.
-ghost use Rattle.acas_frac.specs.Fraction.{IsReduced};
 ghost use Rattle.acas_areas.specs.Limits.{IsEnd};
 ghost use Rattle.acas_areas.specs.View.{times_of};
-ghost use Rattle.acas_manoeuvre.specs.Least.{IsFirstLeastTime};
+ghost use Rattle.acas_manoeuvre.specs.Least.{IsFirstLeastTime, IsRaceExtreme};
 ghost use Rattle.acas_manoeuvre.specs.Turns.{fraction_of};
 ghost use Rattle.acas_race.specs.View.{instant_at, race_in};
 
@@ -21,9 +20,8 @@ pub(crate) fn nearest(contest: &Contest, window: &Window) -> Moment
 
 /// The same time, in lowest terms.
 pub(crate) fn nearest_time(contest: &Contest, window: &Window) -> Frac
-    ensures least { IsFirstLeastTime (race_in contest.now) (times_of window.now) result }
+    ensures extreme { IsRaceExtreme (race_in contest.now) (times_of window.now) result }
     ensures end { IsEnd result }
-    ensures reduced { IsReduced result }
 {
     let at = nearest(contest, window);
     let time = time_of(at.num, at.den);

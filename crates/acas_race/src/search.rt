@@ -1,11 +1,10 @@
 //! The times between which a meeting is searched.
 ghost use Rattle.std.specs.Prelude.{◌<◌};
-ghost use Rattle.acas_frac.specs.Fraction.{IsReduced};
 ghost use Rattle.acas_flight.specs.Response.{demand_of};
 ghost use Rattle.acas_areas.specs.Limits.{IsEnd};
 ghost use Rattle.acas_areas.specs.View.{area_of, times_of};
 ghost use Rattle.acas_manoeuvre.specs.Intruder.{RatesFit};
-ghost use Rattle.acas_manoeuvre.specs.Least.{IsFirstLeastTime};
+ghost use Rattle.acas_manoeuvre.specs.Least.{IsRaceExtreme};
 ghost use Rattle.acas_manoeuvre.specs.Race.{high_race, low_race, turned};
 ghost use Rattle.acas_manoeuvre.specs.View.{may_of};
 
@@ -27,18 +26,16 @@ pub struct SearchTimes {
 pub fn search_times(on: &Conflict<'_>) -> SearchTimes
     requires advisory { on.now.advisory < on.now.model.now.grid.advisories }
     requires fits { RatesFit (may_of on.now.may.now) (area_of on.now.area.now).intruder }
-    ensures low { IsFirstLeastTime
+    ensures low { IsRaceExtreme
         (low_race (demand_of on.now.model.now on.now.advisory) (may_of on.now.may.now)
         (area_of on.now.area.now))
         (times_of on.now.window.now) result.low }
-    ensures high { IsFirstLeastTime
+    ensures high { IsRaceExtreme
         (turned (high_race (demand_of on.now.model.now on.now.advisory) (may_of on.now.may.now)
         (area_of on.now.area.now)))
         (times_of on.now.window.now) result.high }
     ensures low_end { IsEnd result.low }
     ensures high_end { IsEnd result.high }
-    ensures low_reduced { IsReduced result.low }
-    ensures high_reduced { IsReduced result.high }
 {
     let asked = asked_by(on.model, on.advisory);
     SearchTimes {

@@ -17,7 +17,7 @@ returns-clause-course c =
     let t = c.search_times-times in
     course_from m.half (demand_of m c.args.on.now.advisory) (may_of c.args.on.now.may.now) (area_of c.args.on.now.area.now) (times_of c.args.on.now.window.now) t.result.low t.result.high c.pursuit_of.result
     c.pursuit_of.ensures.half c.pursuit_of.ensures.hunt t.ensures.low t.ensures.high c.requires.not_apart
-    c.meet.result c.meet.ensures t.ensures.low_end t.ensures.high_end t.ensures.low_reduced t.ensures.high_reduced
+    c.meet.result c.meet.ensures
 
 pub returns-clause-during : goal.returns-clause-during
 returns-clause-during c =
