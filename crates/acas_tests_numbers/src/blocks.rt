@@ -4,28 +4,14 @@ ghost use Rattle.std.specs.Prelude.{◌≡◌, ◌<◌};
 use acas_plane::{PlaneBlock, Turned};
 use acas_units::Pair;
 use std::alloc::Global;
-use std::test::Fail;
 
-// What is done with a block before it is let go.
-#[derive(Clone, Copy, Debug)]
-struct Stage {
-    // The places that this number divides are written; with 0 none is.
-    step: u32,
-    // Whether a full plane is turned then.
-    turns: bool,
-    // The places of the next plane that are written, in the same way.
-    next_step: u32,
-}
+// What is done with a block before it is let go: the places that this number divides are written (with 0 none is), whether a full plane
+// is turned then, and the places of the next plane that are written, in the same way.
+type Stage = (u32, bool, u32);
 
-// What was seen of a block at the end.
-#[derive(Clone, Copy, Debug, PartialEq, Eq)]
-struct Seen {
-    missing: u32,
-    // The sum of the upper values of the finished plane, and the last of them.
-    sum: i64,
-    last: i64,
-    turned: u64,
-}
+// What is seen of a block at the end: how many places are missing, the sum of the upper values of the finished plane and the last of
+// them, and how many states were turned.
+type Seen = (u32, i64, i64, u64);
 
 // The number of a place counted from 1, and its negative.
 fn pair_of(place: u32) -> Pair {
@@ -82,93 +68,57 @@ fn seen_at(alloc: Global, states: u32, stage: Stage) -> Option<Seen> {
     }
     let mut block = PlaneBlock::make(alloc, states).ok()?;
     let mut turned = Turned::new();
-    write_places(&mut block, states, stage.step);
-    if stage.turns {
+    let (step, turns, next_step) = stage;
+    write_places(&mut block, states, step);
+    if turns {
         turn_full(&mut block, states, &mut turned);
     }
-    write_places(&mut block, states, stage.next_step);
+    write_places(&mut block, states, next_step);
     let (sum, last) = sum_of(&block);
-    Some(Seen {
-        missing: block.missing(),
-        sum,
-        last,
-        turned: turned.count(),
-    })
-}
-
-fn at_stage(step: u32, turns: bool, next_step: u32) -> Stage {
-    Stage {
-        step,
-        turns,
-        next_step,
-    }
-}
-
-fn found(missing: u32, sum: i64, last: i64, turned: u64) -> Seen {
-    Seen {
-        missing,
-        sum,
-        last,
-        turned,
-    }
+    Some((block.missing(), sum, last, turned.count()))
 }
 
 // Nothing is written; every second place; all; all, and turned; that, and every second place of the next plane.
-fn stages() -> [Stage; 5] {
-    [
-        at_stage(0, false, 0),
-        at_stage(2, false, 0),
-        at_stage(1, false, 0),
-        at_stage(1, true, 0),
-        at_stage(1, true, 2),
-    ]
-}
+const NOTHING: Stage = (0, false, 0);
 
-// The states of a block, and what is seen of it at each stage.
-fn rows() -> [(u32, [Seen; 5]); 3] {
-    [
-        (
-            1,
-            [
-                found(1, 0, 0, 0),
-                found(0, 0, 0, 0),
-                found(0, 0, 0, 0),
-                found(1, 1, 1, 1),
-                found(0, 1, 1, 1),
-            ],
-        ),
-        (
-            2,
-            [
-                found(2, 0, 0, 0),
-                found(1, 0, 0, 0),
-                found(0, 0, 0, 0),
-                found(2, 3, 2, 2),
-                found(1, 3, 2, 2),
-            ],
-        ),
-        (
-            4_000_000,
-            [
-                found(4_000_000, 0, 0, 0),
-                found(2_000_000, 0, 0, 0),
-                found(0, 0, 0, 0),
-                found(4_000_000, 8_000_002_000_000, 4_000_000, 4_000_000),
-                found(2_000_000, 8_000_002_000_000, 4_000_000, 4_000_000),
-            ],
-        ),
-    ]
-}
+const HALF: Stage = (2, false, 0);
+
+const FULL: Stage = (1, false, 0);
+
+const TURNED: Stage = (1, true, 0);
+
+const TURNED_HALF: Stage = (1, true, 2);
+
+// The greatest number of states here, and the sum of the numbers from 1 to it.
+const MOST: u32 = 4_000_000;
+
+const SUM: i64 = 8_000_002_000_000;
+
+// The states of a block, a stage, and what is seen of the block there.
+const SEEN: [(u32, Stage, Seen); 15] = [
+    (1, NOTHING, (1, 0, 0, 0)),
+    (1, HALF, (0, 0, 0, 0)),
+    (1, FULL, (0, 0, 0, 0)),
+    (1, TURNED, (1, 1, 1, 1)),
+    (1, TURNED_HALF, (0, 1, 1, 1)),
+    (2, NOTHING, (2, 0, 0, 0)),
+    (2, HALF, (1, 0, 0, 0)),
+    (2, FULL, (0, 0, 0, 0)),
+    (2, TURNED, (2, 3, 2, 2)),
+    (2, TURNED_HALF, (1, 3, 2, 2)),
+    (MOST, NOTHING, (4_000_000, 0, 0, 0)),
+    (MOST, HALF, (2_000_000, 0, 0, 0)),
+    (MOST, FULL, (0, 0, 0, 0)),
+    (MOST, TURNED, (4_000_000, SUM, 4_000_000, 4_000_000)),
+    (MOST, TURNED_HALF, (2_000_000, SUM, 4_000_000, 4_000_000)),
+];
 
 #[test]
-fn blocks_are_let_go_in_each_state(rt: HostRuntime) -> Result<(), Fail> {
-    for (states, wanted) in rows() {
-        for (stage, want) in stages().into_iter().zip(wanted) {
-            assert!(rt;
-                seen_at(rt.alloc(), states, stage) == Some(want),
-                "{states} {stage:?}"
-            );
-        }
+fn blocks_are_let_go_in_each_state(rt: HostRuntime) {
+    for (states, stage, seen) in SEEN {
+        assert!(rt;
+            seen_at(rt.alloc(), states, stage) == Some(seen),
+            "{states} states"
+        );
     }
-    Ok(())
 }

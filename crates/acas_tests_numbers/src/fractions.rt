@@ -5,13 +5,12 @@ ghost use Rattle.acas_frac.specs.Fraction.{Fraction};
 use acas_frac::{Down, Frac, Rounding, Up, print_frac};
 use std::alloc::Global;
 use std::cmp::Ordering;
-use std::test::Fail;
 
 // 10^37.
 const MOST: i128 = 10_000_000_000_000_000_000_000_000_000_000_000_000;
 
 // A numerator and a denominator, the quotient rounded down, and up.
-const QUOTIENTS: [(i128, i128, i128, i128); 11] = [
+const QUOTIENTS: &[(i128, i128, i128, i128)] = &[
     (-1, 3, -1, 0),
     (6, 3, 2, 2),
     (0, 5, 0, 0),
@@ -34,15 +33,21 @@ fn is_rounded(num: i128, den: i128, down: i128, up: i128) -> bool {
     }
 }
 
+fn are_rounded() -> bool {
+    for &(num, den, down, up) in QUOTIENTS {
+        if !is_rounded(num, den, down, up) {
+            return false;
+        }
+    }
+    true
+}
+
 #[test]
 fn quotients_are_rounded_down_and_up(rt: HostRuntime) {
-    for (num, den, down, up) in QUOTIENTS {
-        assert!(rt; is_rounded(num, den, down, up), "{num}/{den}");
-    }
+    assert!(rt; are_rounded());
 }
 
 // The value num/den, for a den that is not 0 and at most 10^13 in size.
-#[tactic(auto, using(acas_frac::proofs::Lowest::small_reduces))]
 fn ratio(num: i64, den: i64) -> Option<Frac> {
     if den == 0 || den.unsigned_abs() > 10_000_000_000_000 {
         return None;
@@ -100,7 +105,7 @@ fn is_of(value: Option<Frac>, num: i128, den: i128) -> bool {
 }
 
 // A numerator and a denominator, and both in lowest terms.
-const LOWEST: [(i64, i64, i128, i128); 8] = [
+const LOWEST: &[(i64, i64, i128, i128)] = &[
     (6, 4, 3, 2),
     (-6, 4, -3, 2),
     (6, -4, -3, 2),
@@ -111,14 +116,18 @@ const LOWEST: [(i64, i64, i128, i128); 8] = [
     (i64::MIN, 2, -4_611_686_018_427_387_904, 1),
 ];
 
+fn are_lowest() -> bool {
+    for &(num, den, lowest_num, lowest_den) in LOWEST {
+        if !is_of(ratio(num, den), lowest_num, lowest_den) {
+            return false;
+        }
+    }
+    true
+}
+
 #[test]
 fn fractions_are_in_lowest_terms(rt: HostRuntime) {
-    for (num, den, lowest_num, lowest_den) in LOWEST {
-        assert!(rt;
-            is_of(ratio(num, den), lowest_num, lowest_den),
-            "{num}/{den}"
-        );
-    }
+    assert!(rt; are_lowest());
 }
 
 // What is added and multiplied, and the numerator and the denominator of what comes of it.
@@ -147,12 +156,18 @@ fn results() -> Option<[(Option<Frac>, i128, i128); 12]> {
     ])
 }
 
-#[test]
-fn fractions_are_added_and_multiplied_exactly(rt: HostRuntime) -> Result<(), Fail> {
-    for (value, num, den) in results().ok_or("fractions")? {
-        assert!(rt; is_of(value, num, den), "{num}/{den}");
+fn are_exact() -> Option<bool> {
+    for (value, num, den) in results()? {
+        if !is_of(value, num, den) {
+            return Some(false);
+        }
     }
-    Ok(())
+    Some(true)
+}
+
+#[test]
+fn fractions_are_added_and_multiplied_exactly(rt: HostRuntime) {
+    assert!(rt; are_exact() == Some(true));
 }
 
 // The numerators and denominators of two fractions, and their order.
@@ -175,19 +190,24 @@ const PRINTED: [(i64, i64); 5] = [(15, 10), (-15, 10), (4, -2), (0, 3), (-1, 3)]
 
 const TEXT: &str = "t 3/2 -3/2 -2 0 -1/3 ";
 
-fn is_printed(alloc: Global) -> Option<bool> {
-    let mut out = Vec::from_slice(alloc, b"t ").ok()?;
+fn print_all(out: &mut Vec<u8>) -> Option<()> {
     for (num, den) in PRINTED {
-        print_frac(&mut out, &ratio(num, den)?).ok()?;
+        print_frac(out, &ratio(num, den)?).ok()?;
         out.push(b' ').ok()?;
     }
-    Some(out.as_slice() == TEXT.as_bytes())
+    Some(())
+}
+
+fn is_printed(alloc: Global) -> Option<bool> {
+    let mut out = Vec::from_slice(alloc, b"t ").ok()?;
+    let all = print_all(&mut out).is_some();
+    Some(all && out.as_slice() == TEXT.as_bytes())
 }
 
 #[test]
 fn fractions_have_an_order_and_a_text(rt: HostRuntime) {
     for (a, b, c, d, order) in ORDERS {
-        assert!(rt; order_of(a, b, c, d) == Some(order), "{a}/{b} {c}/{d}");
+        assert!(rt; order_of(a, b, c, d) == Some(order));
     }
-    assert!(rt; is_printed(rt.alloc()) == Some(true), "{TEXT}");
+    assert!(rt; is_printed(rt.alloc()) == Some(true));
 }

@@ -51,12 +51,10 @@ const LENGTHS: [(u8, i8, Option<AxisFault>); 6] = [
 #[test]
 fn axes_have_from_2_to_129_numbers_that_rise(rt: HostRuntime) {
     for (values, fault) in LISTS {
-        let met = has_fault(rt.alloc(), values, fault);
-        assert!(rt; met == Some(true), "{values:?}");
+        assert!(rt; has_fault(rt.alloc(), values, fault) == Some(true));
     }
     for (count, step, fault) in LENGTHS {
-        let met = steps_have_fault(rt.alloc(), count, step, fault);
-        assert!(rt; met == Some(true), "{count} by {step}");
+        assert!(rt; steps_have_fault(rt.alloc(), count, step, fault) == Some(true));
     }
 }
 
@@ -85,23 +83,18 @@ const NEAREST: [(&[i64], i64, i64, u32); 13] = [
     (SHORTEST, 6, 6, 0),
 ];
 
-// Whether a number is brought to this one on an axis, and has a cell that begins there.
+// Whether a number is brought to this one on an axis, and has a cell that begins there; and whether the axis is as long as the list.
 fn is_brought_to(alloc: Global, values: &[i64], x: i64, nearest: i64, cell: u32) -> Option<bool> {
     let axis = axis_of(alloc, values)?;
     let clamped = axis.clamp(x);
-    Some(clamped == nearest && axis.cell_of(clamped) == cell)
-}
-
-fn length_of(alloc: Global, values: &[i64]) -> Option<u32> {
-    Some(axis_of(alloc, values)?.len())
+    let long = axis.len() as usize == values.len();
+    Some(long && clamped == nearest && axis.cell_of(clamped) == cell)
 }
 
 #[test]
 fn a_number_is_brought_to_an_axis_and_has_a_cell_there(rt: HostRuntime) {
-    assert!(rt; length_of(rt.alloc(), FOUR) == Some(4), "the length");
     for (values, x, nearest, cell) in NEAREST {
-        let met = is_brought_to(rt.alloc(), values, x, nearest, cell);
-        assert!(rt; met == Some(true), "{x}");
+        assert!(rt; is_brought_to(rt.alloc(), values, x, nearest, cell) == Some(true));
     }
 }
 
@@ -164,23 +157,9 @@ fn four_by_three_by_two(alloc: Global) -> Option<Grid> {
     )
 }
 
-fn vertex(i: u32, j: u32, k: u32) -> Vertex {
-    Vertex { i, j, k }
-}
-
-fn has_counts(alloc: Global, vertices: u32, states: u32, entries: u64) -> Option<bool> {
-    let grid = four_by_three_by_two(alloc)?;
-    Some(grid.vertices() == vertices && grid.states() == states && grid.entries() == entries)
-}
-
-fn second_altitude(alloc: Global) -> Option<i64> {
-    Some(four_by_three_by_two(alloc)?.h.value(1))
-}
-
-#[test]
-fn a_grid_is_counted(rt: HostRuntime) {
-    assert!(rt; second_altitude(rt.alloc()) == Some(-80400));
-    assert!(rt; has_counts(rt.alloc(), 24, 96, 2976) == Some(true));
+fn is_counted(grid: &Grid) -> bool {
+    let altitudes = grid.h.len() == 4 && grid.h.value(1) == -80400;
+    altitudes && grid.vertices() == 24 && grid.states() == 96 && grid.entries() == 2976
 }
 
 // The places of a vertex, and its number, if it is one of the grid's.
@@ -195,32 +174,28 @@ const VERTICES: [(u32, u32, u32, Option<u32>); 8] = [
     (0, 3, 0, None),
 ];
 
-// Whether a vertex has this number, or is none of the grid's.
-fn vertex_has_number(alloc: Global, vertex: Vertex, number: Option<u32>) -> Option<bool> {
-    let grid = four_by_three_by_two(alloc)?;
-    Some(number_of(&grid, vertex) == number)
-}
-
 // Whether a number has a vertex, which has that number.
-fn number_has_vertex(alloc: Global, number: u32) -> Option<bool> {
-    let grid = four_by_three_by_two(alloc)?;
+fn number_has_vertex(grid: &Grid, number: u32) -> bool {
     if number >= grid.vertices() {
-        return None;
+        return false;
     }
     let vertex = grid.vertex_of(number);
-    Some(number_of(&grid, vertex) == Some(number) && vertex_at(&grid, number) == vertex)
+    number_of(grid, vertex) == Some(number) && vertex_at(grid, number) == vertex
 }
 
-#[test]
-fn vertices_have_numbers(rt: HostRuntime) {
+// Whether vertices have their numbers, and the 24 numbers their vertices.
+fn vertices_have_numbers(grid: &Grid) -> bool {
     for (i, j, k, number) in VERTICES {
-        let met = vertex_has_number(rt.alloc(), vertex(i, j, k), number);
-        assert!(rt; met == Some(true), "{i} {j} {k}");
+        if number_of(grid, Vertex { i, j, k }) != number {
+            return false;
+        }
     }
     for number in 0..24 {
-        let met = number_has_vertex(rt.alloc(), number);
-        assert!(rt; met == Some(true), "{number}");
+        if !number_has_vertex(grid, number) {
+            return false;
+        }
     }
+    true
 }
 
 // The present advisory and the vertex of a state, and its number, if it is one of the grid's.
@@ -240,28 +215,34 @@ const PARTS: [(u32, Option<(u8, u32, u32, u32)>); 5] = [
     (96, None),
 ];
 
-// Whether a state has this number, or is none of the grid's.
-fn state_has_number(alloc: Global, present: u8, vertex: u32, number: Option<u32>) -> Option<bool> {
-    let grid = four_by_three_by_two(alloc)?;
-    Some(state_number_of(&grid, present, vertex) == number)
+// Whether states have their numbers, and numbers the parts of their states.
+fn states_have_numbers(grid: &Grid) -> bool {
+    for (present, vertex, number) in STATES {
+        if state_number_of(grid, present, vertex) != number {
+            return false;
+        }
+    }
+    for (state, parts) in PARTS {
+        if parts_of(grid, state) != parts {
+            return false;
+        }
+    }
+    true
 }
 
-// Whether a number has this advisory and these places, or none.
-fn number_has_parts(alloc: Global, state: u32, parts: Option<(u8, u32, u32, u32)>) -> Option<bool> {
+// Whether a grid is counted, and its vertices and its states have their numbers.
+fn is_numbered(alloc: Global) -> Option<[bool; 3]> {
     let grid = four_by_three_by_two(alloc)?;
-    Some(parts_of(&grid, state) == parts)
+    Some([
+        is_counted(&grid),
+        vertices_have_numbers(&grid),
+        states_have_numbers(&grid),
+    ])
 }
 
 #[test]
-fn states_have_numbers(rt: HostRuntime) {
-    for (present, vertex, number) in STATES {
-        let met = state_has_number(rt.alloc(), present, vertex, number);
-        assert!(rt; met == Some(true), "{present} {vertex}");
-    }
-    for (state, parts) in PARTS {
-        let met = number_has_parts(rt.alloc(), state, parts);
-        assert!(rt; met == Some(true), "{state}");
-    }
+fn a_grid_is_counted_and_its_vertices_and_states_have_numbers(rt: HostRuntime) {
+    assert!(rt; is_numbered(rt.alloc()) == Some([true; 3]));
 }
 
 fn two_by_two_by_two(alloc: Global) -> Option<Grid> {
@@ -277,24 +258,25 @@ fn point(h: i64, v0: i64, v1: i64) -> Point {
 }
 
 // Whether there is a grid, and a point is brought to another in it, which is in the cell that begins at a vertex.
-fn is_brought_into(grid: Option<Grid>, from: Point, to: Point, cell: Vertex) -> Option<bool> {
+fn is_brought_into(
+    grid: Option<Grid>,
+    from: Point,
+    to: Point,
+    cell: (u32, u32, u32),
+) -> Option<bool> {
     let grid = grid?;
     let inside = grid.clamp(from);
-    Some(inside == to && grid.locate(inside) == cell)
+    let vertex = grid.locate(inside);
+    Some(inside == to && (vertex.i, vertex.j, vertex.k) == cell)
 }
 
 #[test]
 fn a_point_is_brought_into_a_grid_and_has_a_cell_there(rt: HostRuntime) {
     // One second from 30 ft with the intruder at 600 ft/min would pass the upper end.
     let small = two_by_two_by_two(rt.alloc());
-    let met = is_brought_into(
-        small,
-        point(4800, 0, 600),
-        point(3600, 0, 600),
-        vertex(0, 0, 0),
-    );
+    let met = is_brought_into(small, point(4800, 0, 600), point(3600, 0, 600), (0, 0, 0));
     assert!(rt; met == Some(true), "a point beyond the grid");
     let wide = three_by_four_by_three(rt.alloc());
-    let met = is_brought_into(wide, point(1, 2, 9), point(1, 2, 9), vertex(1, 2, 0));
+    let met = is_brought_into(wide, point(1, 2, 9), point(1, 2, 9), (1, 2, 0));
     assert!(rt; met == Some(true), "a point in the grid");
 }

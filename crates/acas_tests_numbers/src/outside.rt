@@ -7,7 +7,6 @@ use acas_outside::{
 };
 use acas_print::PrintBuffer;
 use std::alloc::{AllocError, Global};
-use std::test::Fail;
 
 // A folder of which the reads, creates and appends of these numbers fail.
 fn folder_failing(
@@ -30,8 +29,33 @@ fn sink_failing(alloc: Global, writes: &[u64], most: u32) -> Result<MemorySink, 
     MemorySink::new(alloc, writes.to_vec(alloc)?, most.max(1))
 }
 
-/// A read of a file from a place on: how many bytes it gives, and up to eight bytes.
-pub fn read_at<F: Folder>(folder: &mut F, name: &str, at: u64) -> Result<(usize, [u8; 8]), ReadMiss>
+/// A call of a folder, and what is to come of it.
+#[derive(Clone, Copy)]
+pub enum Call<'b> {
+    /// A read of a file from a place on: how many bytes it gives, and up to eight bytes.
+    Read(u64, Result<(usize, [u8; 8]), ReadMiss>),
+    /// A read of a whole file of at most so many bytes, up to 100: whether it has these.
+    ReadWhole(u32, &'b [u8], Result<bool, ReadFault>),
+    /// A new file of two pieces: whether it is written.
+    WriteTwo(bool),
+    /// Another file in its place: whether it is stored.
+    Store(bool),
+}
+
+/// Whether that comes of a call under a name.
+pub fn answers<F: Folder>(alloc: Global, folder: &mut F, name: &str, call: Call<'_>) -> bool
+    requires { IsTrue (F.serves folder.old name.now) }
+{
+    match call {
+        Call::Read(at, want) => read_at(folder, name, at) == want,
+        Call::ReadWhole(limit, bytes, want) => reads_whole(alloc, folder, name, limit, bytes)
+            == want,
+        Call::WriteTwo(want) => write_two(folder, name).is_ok() == want,
+        Call::Store(want) => store_file(folder, name, b"third").is_ok() == want,
+    }
+}
+
+fn read_at<F: Folder>(folder: &mut F, name: &str, at: u64) -> Result<(usize, [u8; 8]), ReadMiss>
     requires { IsTrue (F.serves folder.old name.now) }
 {
     let mut into = *b"--------";
@@ -39,27 +63,6 @@ pub fn read_at<F: Folder>(folder: &mut F, name: &str, at: u64) -> Result<(usize,
     Ok((count, into))
 }
 
-/// Whether a read of a file from its begin gives nothing, for this cause.
-pub fn is_missed<F: Folder>(folder: &mut F, name: &str, miss: ReadMiss) -> bool
-    requires { IsTrue (F.serves folder.old name.now) }
-{
-    read_at(folder, name, 0) == Err(miss)
-}
-
-/// Whether a read of a file from a place on gives so many bytes, and these.
-pub fn is_given<F: Folder>(
-    folder: &mut F,
-    name: &str,
-    at: u64,
-    count: usize,
-    bytes: [u8; 8],
-) -> bool
-    requires { IsTrue (F.serves folder.old name.now) }
-{
-    read_at(folder, name, at) == Ok((count, bytes))
-}
-
-// Whether a file of at most so many bytes, up to 100, has these.
 fn reads_whole<F: Folder>(
     alloc: Global,
     folder: &mut F,
@@ -73,37 +76,13 @@ fn reads_whole<F: Folder>(
     Ok(whole.as_slice() == bytes)
 }
 
-/// Whether that is what comes of a read of a whole file.
-pub fn is_read<F: Folder>(
-    alloc: Global,
-    folder: &mut F,
-    name: &str,
-    limit: u32,
-    bytes: &[u8],
-    want: Result<bool, ReadFault>,
-) -> bool
-    requires { IsTrue (F.serves folder.old name.now) }
-{
-    reads_whole(alloc, folder, name, limit, bytes) == want
-}
-
-/// Makes a file of two pieces: each call finds the name held.
-#[tactic(auto, using(acas_outside::proofs::Grown::held_stored, acas_outside::proofs::Grown::held_grown))]
-pub fn write_two<F: Folder>(folder: &mut F, name: &str) -> Result<(), Failed>
+// Makes a file of two pieces: each call finds the name held.
+fn write_two<F: Folder>(folder: &mut F, name: &str) -> Result<(), Failed>
     requires { IsTrue (F.serves folder.old name.now) }
 {
     folder.create(name)?;
     write_piece(folder, name, b"first ")?;
-    write_piece(folder, name, b"second")?;
-    Ok(())
-}
-
-/// Stores a file.
-pub fn store<F: Folder>(folder: &mut F, name: &str) -> Result<(), Failed>
-    requires { IsTrue (F.serves folder.old name.now) }
-{
-    store_file(folder, name, b"third")?;
-    Ok(())
+    write_piece(folder, name, b"second")
 }
 
 /// Writes pieces by each way to do so.
@@ -113,60 +92,89 @@ pub fn emit_all<S: Sink>(sink: &mut S) -> Result<(), Failed> {
         sink,
         &[b" two".as_slice(), b"".as_slice(), b" three".as_slice()],
     )?;
-    emit_four(sink, b" f", b"o", b"u", b"r")?;
-    Ok(())
+    emit_four(sink, b" f", b"o", b"u", b"r")
 }
 
-fn holds(folder: &MemoryFolder, name: &str, bytes: &[u8]) -> bool {
-    folder.get(name) == Some(bytes)
+// A name, a call, what is to come of it, and what the name holds afterwards.
+type Held = (&'static str, Call<'static>, Option<&'static [u8]>);
+
+fn holds(folder: &MemoryFolder, name: &str, bytes: Option<&[u8]>) -> bool {
+    folder.get(name) == bytes
 }
 
-// Whether a file of two pieces is made and held, and no other.
-fn is_made(folder: &mut MemoryFolder) -> bool {
-    write_two(folder, "t").is_ok()
-        && holds(folder, "t", b"first second")
-        && folder.get("u").is_none()
+// Whether that comes of calls one after the other, and no memory was refused.
+fn is_held(alloc: Global, folder: &mut MemoryFolder, calls: &[Held]) -> bool {
+    for &(name, call, held) in calls {
+        if !answers(alloc, folder, name, call) || !holds(folder, name, held) {
+            return false;
+        }
+    }
+    folder.refused() == 0
 }
 
-// Whether another file is held in its place, and nothing was refused.
-fn is_replaced(folder: &mut MemoryFolder) -> bool {
-    store(folder, "t").is_ok() && holds(folder, "t", b"third") && folder.refused() == 0
+// The same, where there is a folder.
+fn are_held(
+    alloc: Global,
+    folder: Result<MemoryFolder, AllocError>,
+    calls: &[Held],
+) -> Option<bool> {
+    let mut folder = folder.ok()?;
+    Some(is_held(alloc, &mut folder, calls))
 }
 
-// A name and a limit, and whether the file of two pieces is read there.
-const READS: [(&str, u32, Result<bool, ReadFault>); 3] = [
-    ("u", 12, Err(ReadFault::Absent)),
-    ("t", 12, Ok(true)),
-    ("t", 11, Err(ReadFault::TooLong)),
+// A file of two pieces, and a file in its place.
+const KEPT: &[Held] = &[
+    ("t", Call::WriteTwo(true), Some(b"first second")),
+    ("u", Call::ReadWhole(12, b"", Err(ReadFault::Absent)), None),
+    (
+        "t",
+        Call::ReadWhole(12, b"first second", Ok(true)),
+        Some(b"first second"),
+    ),
+    (
+        "t",
+        Call::ReadWhole(11, b"", Err(ReadFault::TooLong)),
+        Some(b"first second"),
+    ),
+    ("t", Call::Store(true), Some(b"third")),
 ];
 
 #[test]
-fn memory_keeps_files(rt: HostRuntime) -> Result<(), Fail> {
+fn memory_keeps_files(rt: HostRuntime) {
     for most in [1, 4_096] {
-        let mut folder = folder_failing(rt.alloc(), &[], &[], &[], most)?;
-        assert!(rt; is_made(&mut folder), "a file of two pieces");
-        for (name, limit, want) in READS {
-            let met = is_read(rt.alloc(), &mut folder, name, limit, b"first second", want);
-            assert!(rt; met, "{name} {limit}");
-        }
-        assert!(rt; is_replaced(&mut folder), "a file in its place");
+        let folder = folder_failing(rt.alloc(), &[], &[], &[], most);
+        assert!(rt; are_held(rt.alloc(), folder, KEPT) == Some(true));
     }
-    Ok(())
 }
 
-// Whether a sink that takes so many bytes a write keeps all that is written.
-fn is_kept(alloc: Global, most: u32) -> Option<bool> {
-    let mut sink = sink_failing(alloc, &[], most).ok()?;
-    let done = emit_all(&mut sink).is_ok();
-    let written = sink.written() == b"one two three four".as_slice();
-    Some(done && written && sink.refused() == 0)
+// Writes that fail, the most bytes a write takes, whether all is written, and what is.
+const EMITTED: &[(&[u64], u32, bool, &[u8])] = &[
+    (&[], 1, true, b"one two three four"),
+    (&[], 4_096, true, b"one two three four"),
+    (&[1], 2, false, b"on"),
+];
+
+// Whether such a sink takes all, or not, and keeps these bytes; a second time it takes all, and no memory was refused.
+fn is_emitted(alloc: Global, writes: &[u64], most: u32, done: bool, bytes: &[u8]) -> Option<bool> {
+    let mut sink = sink_failing(alloc, writes, most).ok()?;
+    let all = emit_all(&mut sink).is_ok();
+    let kept = sink.written() == bytes;
+    let again = emit_all(&mut sink).is_ok();
+    Some(all == done && kept && again && sink.refused() == 0)
+}
+
+fn are_emitted(alloc: Global) -> bool {
+    for &(writes, most, done, bytes) in EMITTED {
+        if is_emitted(alloc, writes, most, done, bytes) != Some(true) {
+            return false;
+        }
+    }
+    true
 }
 
 #[test]
-fn memory_keeps_a_stream(rt: HostRuntime) {
-    for most in [1, 4_096] {
-        assert!(rt; is_kept(rt.alloc(), most) == Some(true), "{most}");
-    }
+fn memory_keeps_streams(rt: HostRuntime) {
+    assert!(rt; are_emitted(rt.alloc()));
 }
 
 // A folder of one file, of which the first three reads fail.
@@ -176,49 +184,50 @@ fn folder_failing_reads(alloc: Global) -> Result<MemoryFolder, AllocError> {
     Ok(folder)
 }
 
-#[test]
-fn listed_reads_fail(rt: HostRuntime) -> Result<(), Fail> {
-    let mut folder = folder_failing_reads(rt.alloc())?;
-
-    // A listed read of a name that is not held is a miss.
-    assert!(rt; is_missed(&mut folder, "u", ReadMiss::Absent));
-    assert!(rt; is_missed(&mut folder, "t", ReadMiss::Failed));
-    let met = is_read(
-        rt.alloc(),
-        &mut folder,
+// A listed read of a name that is not held is a miss.
+const READS: &[Held] = &[
+    ("u", Call::Read(0, Err(ReadMiss::Absent)), None),
+    (
         "t",
-        12,
-        b"",
-        Err(ReadFault::Failed),
-    );
-    assert!(rt; met, "a whole file");
-    assert!(rt; is_given(&mut folder, "t", 6, 4, *b"seco----"));
-    assert!(rt; is_given(&mut folder, "t", 12, 0, *b"--------"));
-    Ok(())
-}
+        Call::Read(0, Err(ReadMiss::Failed)),
+        Some(b"first second"),
+    ),
+    (
+        "t",
+        Call::ReadWhole(12, b"", Err(ReadFault::Failed)),
+        Some(b"first second"),
+    ),
+    (
+        "t",
+        Call::Read(6, Ok((4, *b"seco----"))),
+        Some(b"first second"),
+    ),
+    (
+        "t",
+        Call::Read(12, Ok((0, *b"--------"))),
+        Some(b"first second"),
+    ),
+];
 
 #[test]
-fn listed_creates_and_appends_fail(rt: HostRuntime) -> Result<(), Fail> {
-    let mut folder = folder_failing(rt.alloc(), &[], &[0, 2], &[1], 4)?;
-    assert!(rt; write_two(&mut folder, "t").is_err());
-    assert!(rt; folder.get("t").is_none());
-    assert!(rt; write_two(&mut folder, "t").is_err());
-    assert!(rt; holds(&folder, "t", b"firs"));
-    assert!(rt; store(&mut folder, "t").is_err());
-    assert!(rt; holds(&folder, "t", b"firs"));
-    Ok(())
+fn listed_reads_fail(rt: HostRuntime) {
+    let folder = folder_failing_reads(rt.alloc());
+    assert!(rt; are_held(rt.alloc(), folder, READS) == Some(true));
 }
+
+const WRITES: &[Held] = &[
+    ("t", Call::WriteTwo(false), None),
+    ("t", Call::WriteTwo(false), Some(b"firs")),
+    ("t", Call::Store(false), Some(b"firs")),
+];
 
 #[test]
-fn listed_writes_fail(rt: HostRuntime) -> Result<(), Fail> {
-    let mut sink = sink_failing(rt.alloc(), &[1], 2)?;
-    assert!(rt; emit_all(&mut sink).is_err());
-    assert!(rt; sink.written() == b"on".as_slice());
-    assert!(rt; emit_all(&mut sink).is_ok());
-    Ok(())
+fn listed_creates_and_appends_fail(rt: HostRuntime) {
+    let folder = folder_failing(rt.alloc(), &[], &[0, 2], &[1], 4);
+    assert!(rt; are_held(rt.alloc(), folder, WRITES) == Some(true));
 }
 
-const MESSAGES: [(ReadFault, &str); 4] = [
+const MESSAGES: &[(ReadFault, &str)] = &[
     (ReadFault::Absent, "the file is absent"),
     (ReadFault::Failed, "a read of the file failed"),
     (ReadFault::TooLong, "the file is too long"),
@@ -230,12 +239,18 @@ fn has_message(alloc: Global, fault: ReadFault, message: &str) -> Option<bool> {
     Some(text.as_str() == message)
 }
 
+fn have_messages(alloc: Global) -> bool {
+    for &(fault, message) in MESSAGES {
+        if has_message(alloc, fault, message) != Some(true) {
+            return false;
+        }
+    }
+    true
+}
+
 #[test]
 fn read_faults_have_messages(rt: HostRuntime) {
-    for (fault, message) in MESSAGES {
-        let met = has_message(rt.alloc(), fault, message);
-        assert!(rt; met == Some(true), "{message}");
-    }
+    assert!(rt; have_messages(rt.alloc()));
 }
 
 // Prints so many pieces of 40,000 bytes, and writes out what waits.
@@ -252,7 +267,7 @@ fn print_pieces<S: Sink>(alloc: Global, sink: &mut S, count: u32) -> Option<bool
 
 // Writes that fail, a count of pieces, whether all are written out, and how many bytes are. A block holds one of these pieces, so the
 // second write goes out with the last flush.
-const GATHERED: [(&[u64], u32, bool, usize); 5] = [
+const GATHERED: &[(&[u64], u32, bool, usize)] = &[
     (&[], 0, true, 0),
     (&[], 2, true, 80_000),
     (&[0], 1, false, 0),
@@ -273,10 +288,16 @@ fn is_gathered(
     Some(all == done && sink.written().len() == written)
 }
 
+fn are_gathered(alloc: Global) -> bool {
+    for &(writes, count, done, written) in GATHERED {
+        if is_gathered(alloc, writes, count, done, written) != Some(true) {
+            return false;
+        }
+    }
+    true
+}
+
 #[test]
 fn pieces_are_gathered(rt: HostRuntime) {
-    for (writes, count, done, written) in GATHERED {
-        let met = is_gathered(rt.alloc(), writes, count, done, written);
-        assert!(rt; met == Some(true), "{count} {written}");
-    }
+    assert!(rt; are_gathered(rt.alloc()));
 }

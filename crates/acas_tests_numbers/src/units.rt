@@ -3,12 +3,10 @@ ghost use Rattle.std.specs.Prelude.{◌≤◌, ◌^◌, unsigned_abs};
 
 use acas_units::{Line, Span, feet_to_ticks, print_millionths};
 use std::alloc::Global;
-use std::test::Fail;
 
 // 10^30.
 const LARGEST: i128 = 1_000_000_000_000_000_000_000_000_000_000;
 
-#[tactic(auto, using(acas_units::proofs::Lengths::length_millionths_le))]
 fn write_millionths(line: &mut Line, value: i128)
     requires { unsigned_abs value ≤ 10 ^ 30 }
 {
@@ -16,7 +14,6 @@ fn write_millionths(line: &mut Line, value: i128)
     line.millionths(value);
 }
 
-#[tactic(auto, using(acas_units::proofs::Lengths::length_signed_decimal_le))]
 fn write_number(line: &mut Line, value: i128) {
     line.clear();
     line.number(value);
@@ -37,28 +34,31 @@ const MILLIONTHS: [(i128, &str); 11] = [
     (-LARGEST, "-1000000000000000000000000.000000"),
 ];
 
-// Whether the bytes before a printed number stay, and whether it is printed so.
-fn is_printed(alloc: Global, value: i128, text: &str) -> Option<(bool, bool)>
+// Whether a number is printed so behind bytes, which stay.
+fn is_printed(alloc: Global, value: i128, text: &str) -> Option<bool>
     requires { unsigned_abs value ≤ 10 ^ 30 }
 {
     let mut out = Vec::from_slice(alloc, b"cost ").ok()?;
     print_millionths(&mut out, value).ok()?;
-    let kept = &out[..5] == b"cost ".as_slice();
-    Some((kept, &out[5..] == text.as_bytes()))
+    Some(&out[..5] == b"cost ".as_slice() && &out[5..] == text.as_bytes())
 }
 
-#[test]
-fn numbers_of_millionths(rt: HostRuntime) -> Result<(), Fail> {
-    let mut line = Line::make(rt.alloc())?;
-    for (value, text) in MILLIONTHS {
-        assert!(rt; value.unsigned_abs() <= LARGEST.unsigned_abs());
-        let (kept, printed) = is_printed(rt.alloc(), value, text).ok_or("a text")?;
-        assert!(rt; kept, "before {text}");
-        assert!(rt; printed, "{text}");
-        write_millionths(&mut line, value);
-        assert!(rt; line.bytes() == text.as_bytes(), "{text} on a line");
+// Whether it is printed so, and on a line.
+fn is_written(alloc: Global, line: &mut Line, value: i128, text: &str) -> bool {
+    if value.unsigned_abs() > LARGEST.unsigned_abs() {
+        return false;
     }
-    Ok(())
+    write_millionths(line, value);
+    line.bytes() == text.as_bytes() && is_printed(alloc, value, text) == Some(true)
+}
+
+fn millionths_are_written(alloc: Global, line: &mut Line) -> bool {
+    for (value, text) in MILLIONTHS {
+        if !is_written(alloc, line, value, text) {
+            return false;
+        }
+    }
+    true
 }
 
 const NUMBERS: [(i128, &str); 6] = [
@@ -70,26 +70,41 @@ const NUMBERS: [(i128, &str); 6] = [
     (i128::MIN, "-170141183460469231731687303715884105728"),
 ];
 
-#[test]
-fn whole_numbers_on_a_line(rt: HostRuntime) -> Result<(), Fail> {
-    let mut line = Line::make(rt.alloc())?;
+fn numbers_are_written(line: &mut Line) -> bool {
     for (value, text) in NUMBERS {
-        write_number(&mut line, value);
-        assert!(rt; line.bytes() == text.as_bytes(), "{text}");
+        write_number(line, value);
+        if line.bytes() != text.as_bytes() {
+            return false;
+        }
     }
-    Ok(())
+    true
+}
+
+// Whether two pieces are written, and one that fills the line.
+fn pieces_are_written(line: &mut Line) -> bool {
+    line.clear();
+    line.push(b"cell ");
+    line.push(b"7");
+    let two = line.bytes() == b"cell 7".as_slice();
+    line.clear();
+    line.push(&[b'x'; 1_024]);
+    two && line.bytes().len() == 1_024
+}
+
+// Whether a line is empty at first, and what is written on it stands there.
+fn on_a_line(alloc: Global) -> Option<[bool; 4]> {
+    let mut line = Line::make(alloc).ok()?;
+    Some([
+        line.bytes().is_empty(),
+        millionths_are_written(alloc, &mut line),
+        numbers_are_written(&mut line),
+        pieces_are_written(&mut line),
+    ])
 }
 
 #[test]
-fn pieces_on_a_line(rt: HostRuntime) -> Result<(), Fail> {
-    let mut line = Line::make(rt.alloc())?;
-    line.push(b"cell ");
-    line.push(b"7");
-    assert!(rt; line.bytes() == "cell 7".as_bytes());
-    line.clear();
-    line.push(&[b'x'; 1_024]);
-    assert!(rt; line.bytes().len() == 1_024);
-    Ok(())
+fn a_line_takes_millionths_and_numbers_and_pieces(rt: HostRuntime) {
+    assert!(rt; on_a_line(rt.alloc()) == Some([true; 4]));
 }
 
 const FEET: [(i64, i64); 4] = [(0, 0), (1, 120), (-10_000, -1_200_000), (10_000, 1_200_000)];
@@ -97,7 +112,7 @@ const FEET: [(i64, i64); 4] = [(0, 0), (1, 120), (-10_000, -1_200_000), (10_000,
 #[test]
 fn feet_are_ticks(rt: HostRuntime) {
     for (feet, ticks) in FEET {
-        assert!(rt; feet_to_ticks(feet) == ticks, "{feet} ft");
+        assert!(rt; feet_to_ticks(feet) == ticks);
     }
 }
 

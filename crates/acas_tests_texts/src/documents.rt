@@ -1,11 +1,11 @@
 //! The keys of small documents, and what is said of each.
+use acas_base::Text;
 use acas_doc::{
     DocError, DocKind, fault_at, item, list, only_keys, path_of_item, path_of_key, table,
     table_item, text, text_item, whole, whole_items,
 };
-use std::alloc::Global;
-use std::test::Fail;
-use toml::Table;
+use std::alloc::{AllocError, Global};
+use toml::{Table, Value};
 
 const DOCUMENT: &str = r#"
 whole = 5
@@ -18,145 +18,229 @@ truth = true
 x = 1
 "#;
 
-// The key and the kind of a fault.
-fn fault_of<T: Drop>(answer: Result<T, DocError>, key: &str) -> Option<DocKind> {
+// Whether the answer is a fault of this kind, at this key.
+fn has_fault<T: Drop>(answer: Result<T, DocError>, key: &str, kind: DocKind) -> bool {
     match answer {
-        Err(DocError::Fault(fault)) => {
-            if fault.key.bytes() == key.as_bytes() {
-                Some(fault.kind)
-            } else {
-                None
-            }
+        Err(DocError::Fault(fault)) => fault.key.bytes() == key.as_bytes() && fault.kind == kind,
+        _ => false,
+    }
+}
+
+fn is_whole(found: Result<i64, DocError>, want: i64) -> bool {
+    match found {
+        Ok(found) => found == want,
+        Err(_) => false,
+    }
+}
+
+fn is_text(found: Result<&str, DocError>, want: &str) -> bool {
+    match found {
+        Ok(found) => found == want,
+        Err(_) => false,
+    }
+}
+
+// Whether a table is found, and has so many keys.
+fn is_table(found: Result<&Table, DocError>, count: usize) -> bool {
+    match found {
+        Ok(found) => found.len() == count,
+        Err(_) => false,
+    }
+}
+
+fn are_wholes(found: Result<Vec<i64>, DocError>, wholes: &[i64]) -> bool {
+    match found {
+        Ok(found) => found.as_slice() == wholes,
+        Err(_) => false,
+    }
+}
+
+fn values_are_found(alloc: Global, document: &Table) -> [bool; 3] {
+    [
+        is_whole(whole(alloc, document, b"", "whole", 5, 5), 5),
+        is_text(text(alloc, document, b"", "text"), "a"),
+        is_table(table(alloc, document, b"", "inner"), 1),
+    ]
+}
+
+// Whether the items of the list are found.
+fn items_are_found(alloc: Global, items: &[Value]) -> Option<[bool; 4]> {
+    if items.len() != 3 {
+        return None;
+    }
+    Some([
+        is_whole(item(alloc, items, b"list", 0, 0, 7), 7),
+        are_wholes(whole_items(alloc, &items[..1], b"list", 0, 7), &[7]),
+        is_text(text_item(alloc, items, b"list", 1), "b"),
+        is_table(table_item(alloc, items, b"list", 2), 1),
+    ])
+}
+
+const SEVEN: DocKind = DocKind::OutOfRange {
+    value: 7,
+    least: 8,
+    greatest: 9,
+};
+
+// Whether the items of the list have their faults.
+fn items_have_faults(alloc: Global, items: &[Value]) -> Option<[bool; 5]> {
+    if items.len() != 3 {
+        return None;
+    }
+    let kind = DocKind::WrongKind;
+    Some([
+        has_fault(item(alloc, items, b"list", 1, 0, 7), "list[1]", kind),
+        has_fault(item(alloc, items, b"list", 0, 8, 9), "list[0]", SEVEN),
+        has_fault(whole_items(alloc, items, b"list", 0, 7), "list[1]", kind),
+        has_fault(text_item(alloc, items, b"list", 2), "list[2]", kind),
+        has_fault(table_item(alloc, items, b"list", 0), "list[0]", kind),
+    ])
+}
+
+fn is_list(alloc: Global, document: &Table) -> bool {
+    match list(alloc, document, b"", "list", 3, 3) {
+        Ok(items) => items_are_found(alloc, items) == Some([true; 4])
+            && items_have_faults(alloc, items) == Some([true; 5]),
+        Err(_) => false,
+    }
+}
+
+const TOO_SMALL: DocKind = DocKind::OutOfRange {
+    value: 5,
+    least: 6,
+    greatest: 9,
+};
+
+const TOO_LARGE: DocKind = DocKind::OutOfRange {
+    value: 5,
+    least: 0,
+    greatest: 4,
+};
+
+// A key, the least and the greatest number that is wanted there, and what is wrong.
+const WHOLES: [(&str, i64, i64, DocKind); 9] = [
+    ("none", 0, 9, DocKind::Missing),
+    ("text", 0, 9, DocKind::WrongKind),
+    ("real", 0, 9, DocKind::WrongKind),
+    ("date", 0, 9, DocKind::WrongKind),
+    ("truth", 0, 9, DocKind::WrongKind),
+    ("list", 0, 9, DocKind::WrongKind),
+    ("inner", 0, 9, DocKind::WrongKind),
+    ("whole", 6, 9, TOO_SMALL),
+    ("whole", 0, 4, TOO_LARGE),
+];
+
+fn wholes_have_faults(alloc: Global, document: &Table) -> bool {
+    for (key, least, greatest, kind) in WHOLES {
+        let answer = whole(alloc, document, b"", key, least, greatest);
+        if !has_fault(answer, key, kind) {
+            return false;
         }
-        _ => None,
     }
+    true
 }
 
-const fn out_of_range(value: i64, least: i64, greatest: i64) -> DocKind {
-    DocKind::OutOfRange {
-        value,
-        least,
-        greatest,
-    }
-}
+const TOO_SHORT: DocKind = DocKind::OutOfRange {
+    value: 3,
+    least: 4,
+    greatest: 9,
+};
 
-#[test]
-fn values_are_found(rt: HostRuntime) -> Result<(), Fail> {
-    let alloc = rt.alloc();
-    let document = toml::table_from_str(alloc, DOCUMENT)?;
-    assert!(rt; matches!(whole(alloc, &document, b"", "whole", 5, 5), Ok(5)));
-    assert!(rt; matches!(text(alloc, &document, b"", "text"), Ok(found) if found == "a"));
-    assert!(rt; matches!(table(alloc, &document, b"", "inner"), Ok(found) if found.len() == 1));
-    let items = list(alloc, &document, b"", "list", 3, 3)?;
-    assert_eq!(rt; items.len(), 3);
-    assert!(rt; matches!(item(alloc, items, b"list", 0, 0, 7), Ok(7)));
-    let wholes = whole_items(alloc, &items[..1], b"list", 0, 7)?;
-    assert_eq!(rt; wholes.as_slice(), [7].as_slice());
-    assert!(rt; matches!(text_item(alloc, items, b"list", 1), Ok(found) if found == "b"));
-    assert!(rt; matches!(table_item(alloc, items, b"list", 2), Ok(found) if found.len() == 1));
-    let faults = [
-        (
-            fault_of(item(alloc, items, b"list", 1, 0, 7), "list[1]"),
-            DocKind::WrongKind,
-        ),
-        (
-            fault_of(item(alloc, items, b"list", 0, 8, 9), "list[0]"),
-            out_of_range(7, 8, 9),
-        ),
-        (
-            fault_of(whole_items(alloc, items, b"list", 0, 7), "list[1]"),
-            DocKind::WrongKind,
-        ),
-        (
-            fault_of(text_item(alloc, items, b"list", 2), "list[2]"),
-            DocKind::WrongKind,
-        ),
-        (
-            fault_of(table_item(alloc, items, b"list", 0), "list[0]"),
-            DocKind::WrongKind,
-        ),
-    ];
-    for (found, want) in faults {
-        assert!(rt; found == Some(want));
-    }
-    Ok(())
-}
+const TOO_LONG: DocKind = DocKind::OutOfRange {
+    value: 3,
+    least: 0,
+    greatest: 2,
+};
 
-#[test]
-fn whole_numbers_have_faults(rt: HostRuntime) -> Result<(), Fail> {
-    let document = toml::table_from_str(rt.alloc(), DOCUMENT)?;
-    let rows = [
-        ("none", 0, 9, DocKind::Missing),
-        ("text", 0, 9, DocKind::WrongKind),
-        ("real", 0, 9, DocKind::WrongKind),
-        ("date", 0, 9, DocKind::WrongKind),
-        ("truth", 0, 9, DocKind::WrongKind),
-        ("list", 0, 9, DocKind::WrongKind),
-        ("inner", 0, 9, DocKind::WrongKind),
-        ("whole", 6, 9, out_of_range(5, 6, 9)),
-        ("whole", 0, 4, out_of_range(5, 0, 4)),
-    ];
-    for (key, least, greatest, kind) in rows {
-        let answer = whole(rt.alloc(), &document, b"", key, least, greatest);
-        assert!(rt; fault_of(answer, key) == Some(kind), "{key}");
-    }
-    Ok(())
-}
-
-#[test]
-fn other_faults_are_named(rt: HostRuntime) -> Result<(), Fail> {
-    let alloc = rt.alloc();
-    let document = toml::table_from_str(alloc, DOCUMENT)?;
-    let found = [
-        (
-            fault_of(text(alloc, &document, b"a", "whole"), "a.whole"),
-            DocKind::WrongKind,
+fn faults_are_named(alloc: Global, document: &Table) -> [bool; 5] {
+    let kind = DocKind::WrongKind;
+    [
+        has_fault(text(alloc, document, b"a", "whole"), "a.whole", kind),
+        has_fault(table(alloc, document, b"a[1]", "list"), "a[1].list", kind),
+        has_fault(
+            list(alloc, document, b"a", "list", 4, 9),
+            "a.list",
+            TOO_SHORT,
         ),
-        (
-            fault_of(table(alloc, &document, b"a[1]", "list"), "a[1].list"),
-            DocKind::WrongKind,
+        has_fault(
+            list(alloc, document, b"a", "list", 0, 2),
+            "a.list",
+            TOO_LONG,
         ),
-        (
-            fault_of(list(alloc, &document, b"a", "list", 4, 9), "a.list"),
-            out_of_range(3, 4, 9),
-        ),
-        (
-            fault_of(list(alloc, &document, b"a", "list", 0, 2), "a.list"),
-            out_of_range(3, 0, 2),
-        ),
-        (
-            fault_of::<()>(Err(fault_at(alloc, b"a.b", "c", DocKind::Missing)), "a.b.c"),
+        has_fault::<()>(
+            Err(fault_at(alloc, b"a.b", "c", DocKind::Missing)),
+            "a.b.c",
             DocKind::Missing,
         ),
-    ];
-    for (kind, want) in found {
-        assert!(rt; kind == Some(want));
-    }
-    let key = path_of_key(alloc, b"", "horizon")?;
-    assert_eq!(rt; key.bytes(), b"horizon".as_slice());
-    let item = path_of_item(alloc, b"grid", 12)?;
-    assert_eq!(rt; item.bytes(), b"grid[12]".as_slice());
-    Ok(())
+    ]
+}
+
+// Whether the values of the document and the items of its list are found, and have their faults.
+fn is_found(alloc: Global) -> Option<[bool; 4]> {
+    let document = toml::table_from_str(alloc, DOCUMENT).ok()?;
+    Some([
+        values_are_found(alloc, &document) == [true; 3],
+        is_list(alloc, &document),
+        wholes_have_faults(alloc, &document),
+        faults_are_named(alloc, &document) == [true; 5],
+    ])
 }
 
 #[test]
-fn the_least_unknown_key_is_named(rt: HostRuntime) -> Result<(), Fail> {
-    let alloc = rt.alloc();
-    let rows = [
-        ("b = 1\na = 1\n", "a", "t.b"),
-        ("z = 1\nc = 1\nb = 1\na = 1\n", "a z", "t.b"),
-        ("\"b c\" = 1\na = 1\n", "b c a", "t.b c"),
-        ("'x\"y' = 1\n", "x y", "t.x\"y"),
-        ("\"a\\nb\" = 1\n", "a b", "t.a\nb"),
-        ("\"\" = 1\n", "a", "t."),
-    ];
-    for (document, known, key) in rows {
-        let keys: Table = toml::table_from_str(alloc, document)?;
-        let answer = only_keys(alloc, &keys, b"t", known);
-        assert!(rt; fault_of(answer, key) == Some(DocKind::UnknownKey), "{key}");
+fn values_are_found_and_faults_are_named(rt: HostRuntime) {
+    assert!(rt; is_found(rt.alloc()) == Some([true; 4]));
+}
+
+fn is_path(path: Result<Text, AllocError>, bytes: &[u8]) -> bool {
+    match path {
+        Ok(path) => path.bytes() == bytes,
+        Err(_) => false,
     }
-    let keys = toml::table_from_str(alloc, "b = 1\na = 1\n")?;
-    assert!(rt; only_keys(alloc, &keys, b"t", "a b c").is_ok());
-    assert!(rt; fault_of(only_keys(alloc, &keys, b"", "b"), "a") == Some(DocKind::UnknownKey));
-    Ok(())
+}
+
+#[test]
+fn keys_and_items_have_paths(rt: HostRuntime) {
+    assert!(rt; is_path(path_of_key(rt.alloc(), b"", "horizon"), b"horizon"));
+    assert!(rt; is_path(path_of_item(rt.alloc(), b"grid", 12), b"grid[12]"));
+}
+
+// The path of a table, its text, its known keys, and the unknown key that is named, if one is.
+const KEYS: &[(&[u8], &str, &str, Option<&str>)] = &[
+    (b"t", "b = 1\na = 1\n", "a", Some("t.b")),
+    (b"t", "z = 1\nc = 1\nb = 1\na = 1\n", "a z", Some("t.b")),
+    (b"t", "\"b c\" = 1\na = 1\n", "b c a", Some("t.b c")),
+    (b"t", "'x\"y' = 1\n", "x y", Some("t.x\"y")),
+    (b"t", "\"a\\nb\" = 1\n", "a b", Some("t.a\nb")),
+    (b"t", "\"\" = 1\n", "a", Some("t.")),
+    (b"t", "b = 1\na = 1\n", "a b c", None),
+    (b"", "b = 1\na = 1\n", "b", Some("a")),
+];
+
+fn is_named(
+    alloc: Global,
+    path: &[u8],
+    text: &str,
+    known: &str,
+    key: Option<&str>,
+) -> Option<bool> {
+    let keys: Table = toml::table_from_str(alloc, text).ok()?;
+    let answer = only_keys(alloc, &keys, path, known);
+    match key {
+        Some(key) => Some(has_fault(answer, key, DocKind::UnknownKey)),
+        None => Some(answer.is_ok()),
+    }
+}
+
+fn are_named(alloc: Global) -> bool {
+    for &(path, text, known, key) in KEYS {
+        if is_named(alloc, path, text, known, key) != Some(true) {
+            return false;
+        }
+    }
+    true
+}
+
+#[test]
+fn the_least_unknown_key_is_named(rt: HostRuntime) {
+    assert!(rt; are_named(rt.alloc()));
 }

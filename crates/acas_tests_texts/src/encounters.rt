@@ -1,9 +1,7 @@
 //! The text of an encounter, in two spellings and with each fault that it can have.
-use crate::rows::zeros;
+use crate::faults::three_advisories;
 use acas_encounter::{Encounter, Start, read_encounter};
-use acas_tests_data::model_of;
 use std::alloc::Global;
-use std::test::Fail;
 
 /// Three seconds.
 pub const PLAIN: &str = r#"version = 1
@@ -58,15 +56,17 @@ fn says_seconds(encounter: &Encounter) -> bool {
         && says_second(encounter, 2, 2000, -2000)
 }
 
+fn says_encounter(alloc: Global, text: &str) -> Option<bool> {
+    let model = three_advisories(alloc)?;
+    let encounter = read_encounter(alloc, &model, text.as_bytes()).ok()?;
+    Some(says_start(&encounter) && says_seconds(&encounter))
+}
+
 #[test]
-fn any_spelling_says_the_encounter(rt: HostRuntime) -> Result<(), Fail> {
-    let model = model_of(rt.alloc(), "c").ok_or("a model")?;
+fn any_spelling_says_the_encounter(rt: HostRuntime) {
     for text in [PLAIN, OTHER] {
-        let encounter = read_encounter(rt.alloc(), &model, text.as_bytes())?;
-        assert!(rt; says_start(&encounter));
-        assert!(rt; says_seconds(&encounter));
+        assert!(rt; says_encounter(rt.alloc(), text) == Some(true));
     }
-    Ok(())
 }
 
 /// The document, its keys, its version and its advisory.
@@ -149,21 +149,30 @@ intruder_accel = [1, 7, -2000] => intruder_accel = [] : key intruder_accel value
 
 /// An encounter of so many seconds in which nothing accelerates, as a text.
 pub fn lasting(alloc: Global, seconds: u32) -> Option<String> {
-    let list = zeros(alloc, seconds)?;
-    let list = list.as_str();
+    let zeros = "0,".repeat(alloc, seconds as usize).ok()?;
+    let zeros = zeros.as_str();
     let front = "version = 1\nadvisory = \"clear\"\nrange = 0\nclosing = 1\naltitude = 0\nown = 0";
-    format!(in alloc; "{front}\nintruder = 0\nown_accel = {list}\nintruder_accel = {list}\n").ok()
+    format!(in alloc;
+        "{front}\nintruder = 0\nown_accel = [{zeros}]\nintruder_accel = [{zeros}]\n"
+    ).ok()
+}
+
+fn says_last(encounter: &Encounter, seconds: u32) -> bool {
+    let last = seconds.saturating_sub(1);
+    encounter.seconds() == seconds && says_second(encounter, last, 0, 0)
+}
+
+// Whether an encounter of so many seconds is read, and nothing accelerates in its last one.
+fn lasts(alloc: Global, seconds: u32) -> Option<bool> {
+    let text = lasting(alloc, seconds)?;
+    let model = three_advisories(alloc)?;
+    let encounter = read_encounter(alloc, &model, text.as_bytes()).ok()?;
+    Some(says_last(&encounter, seconds))
 }
 
 #[test]
-fn encounters_last_up_to_600_seconds(rt: HostRuntime) -> Result<(), Fail> {
-    let alloc = rt.alloc();
-    let model = model_of(alloc, "c").ok_or("a model")?;
+fn encounters_last_up_to_600_seconds(rt: HostRuntime) {
     for seconds in [1, 600] {
-        let text = lasting(alloc, seconds).ok_or("a text")?;
-        let encounter = read_encounter(alloc, &model, text.as_bytes())?;
-        assert_eq!(rt; encounter.seconds(), seconds);
-        assert!(rt; says_second(&encounter, seconds - 1, 0, 0));
+        assert!(rt; lasts(rt.alloc(), seconds) == Some(true));
     }
-    Ok(())
 }

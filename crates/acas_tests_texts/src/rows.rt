@@ -1,105 +1,138 @@
 //! Rows of changes to a text, and what is said of it then: a line each, `OLD => NEW : WORDS`.
-use crate::faults::{Kind, said};
+use crate::faults::{Kind, is_said};
 use crate::{boxes, encounters, models, versions};
 use acas_tests_data::changed;
 use std::alloc::Global;
-use std::test::Fail;
-
-/// The text of a list of so many zeros.
-pub fn zeros(alloc: Global, count: u32) -> Option<String> {
-    let mut text = String::from_str(alloc, "[").ok()?;
-    for _ in 0..count {
-        text.push_str("0,").ok()?;
-    }
-    text.push_str("]").ok()?;
-    Some(text)
-}
 
 // Whether a row holds of a text.
 fn holds(alloc: Global, kind: Kind, text: &str, row: &str) -> Option<bool> {
     let (change, want) = row.split_once(" : ")?;
     let text = changed(alloc, text, change)?;
-    let words = said(alloc, kind, text.as_bytes())?;
-    Some(words.as_str() == want)
+    is_said(alloc, kind, text.as_bytes(), want)
 }
 
-#[test]
-fn the_first_fault_is_named(rt: HostRuntime) -> Result<(), Fail> {
-    let alloc = rt.alloc();
-    let second = changed(alloc, models::PLAIN, "version = 1 => version = 2").ok_or("a text")?;
-    let late = changed(alloc, &second, "limit = 960 => limit = 960|delay = 11").ok_or("a text")?;
-    let rows = [
-        (Kind::Model, models::PLAIN, versions::VERSIONS),
-        (Kind::Model, second.as_str(), versions::DELAYS),
-        (Kind::Model, late.as_str(), versions::ORDER),
-        (Kind::Boxes, boxes::PLAIN, boxes::KEYS),
-        (Kind::Boxes, boxes::PLAIN, boxes::SPANS),
-        (Kind::Boxes, boxes::PLAIN, boxes::WINDOWS),
-        (Kind::Encounter, encounters::PLAIN, encounters::KEYS),
-        (Kind::Encounter, encounters::PLAIN, encounters::NUMBERS),
-        (Kind::Encounter, encounters::PLAIN, encounters::LISTS),
-    ];
-    for (kind, text, lines) in rows {
-        for row in lines.lines() {
-            assert!(rt; holds(alloc, kind, text, row) == Some(true), "{row}");
+// Whether each row holds of a text.
+fn all_hold(alloc: Global, kind: Kind, text: &str, rows: &str) -> bool {
+    for row in rows.lines() {
+        if holds(alloc, kind, text, row) != Some(true) {
+            return false;
         }
     }
-    Ok(())
+    true
+}
+
+// What a text is read as, the text, and rows of changes.
+const ROWS: &[(Kind, &str, &str)] = &[
+    (Kind::Model, models::PLAIN, versions::VERSIONS),
+    (Kind::Boxes, boxes::PLAIN, boxes::KEYS),
+    (Kind::Boxes, boxes::PLAIN, boxes::SPANS),
+    (Kind::Boxes, boxes::PLAIN, boxes::WINDOWS),
+    (Kind::Encounter, encounters::PLAIN, encounters::KEYS),
+    (Kind::Encounter, encounters::PLAIN, encounters::NUMBERS),
+    (Kind::Encounter, encounters::PLAIN, encounters::LISTS),
+];
+
+fn first_faults_are_named(alloc: Global) -> bool {
+    for &(kind, text, rows) in ROWS {
+        if !all_hold(alloc, kind, text, rows) {
+            return false;
+        }
+    }
+    true
 }
 
 #[test]
-fn other_texts_are_refused(rt: HostRuntime) -> Result<(), Fail> {
-    let alloc = rt.alloc();
-    let rows: [(Kind, &[u8], &str); 5] = [
-        (Kind::Model, b"version = \xFF\n", "not toml"),
-        (Kind::Boxes, b"version = 1\nbox = [\xFF]\n", "not toml"),
-        (Kind::Boxes, b"version = 1\n", "key box missing"),
-        (Kind::Boxes, b"version = 1\nbox = 1\n", "key box wrong kind"),
-        (Kind::Encounter, b"version = \xFF\n", "not toml"),
-    ];
-    for (kind, text, want) in rows {
-        let words = said(alloc, kind, text).ok_or("words")?;
-        assert_eq!(rt; words.as_str(), want);
-    }
-    Ok(())
+fn the_first_fault_is_named(rt: HostRuntime) {
+    assert!(rt; first_faults_are_named(rt.alloc()));
 }
 
-// What is said of a list `box` of so many zeros.
-fn said_of_boxes(alloc: Global, count: u32) -> Option<String> {
-    let list = zeros(alloc, count)?;
-    let text = format!(in alloc; "version = 1\nbox = {list}\n").ok()?;
-    said(alloc, Kind::Boxes, text.as_bytes())
+// Whether the rows of a delay hold, where none is said.
+fn delays_are_named(alloc: Global) -> Option<bool> {
+    let second = versions::second_version(alloc)?;
+    Some(all_hold(alloc, Kind::Model, &second, versions::DELAYS))
 }
 
-// What is said of an encounter of so many seconds.
-fn said_of_seconds(alloc: Global, seconds: u32) -> Option<String> {
-    let text = encounters::lasting(alloc, seconds)?;
-    said(alloc, Kind::Encounter, text.as_bytes())
+// Whether the rows of the order hold, where the delay is too long.
+fn order_is_kept(alloc: Global) -> Option<bool> {
+    let late = versions::delayed(alloc, "limit = 960 => limit = 960|delay = 11")?;
+    Some(all_hold(alloc, Kind::Model, &late, versions::ORDER))
 }
 
 #[test]
-fn lists_have_a_greatest_length(rt: HostRuntime) -> Result<(), Fail> {
-    let alloc = rt.alloc();
-    let rows = [
-        (
-            said_of_boxes(alloc, 0),
-            "key box value 0 outside 1 to 10000",
-        ),
-        (said_of_boxes(alloc, 1), "key box[0] wrong kind"),
-        (said_of_boxes(alloc, 10_000), "key box[0] wrong kind"),
-        (
-            said_of_boxes(alloc, 10_001),
-            "key box value 10001 outside 1 to 10000",
-        ),
-        (said_of_seconds(alloc, 600), "read"),
-        (
-            said_of_seconds(alloc, 601),
-            "key own_accel value 601 outside 1 to 600",
-        ),
-    ];
-    for (words, want) in &rows {
-        let words = words.as_ref().ok_or("words")?;
-        assert_eq!(rt; words.as_str(), *want);
+fn the_first_fault_of_the_second_version_is_named(rt: HostRuntime) {
+    assert!(rt; delays_are_named(rt.alloc()) == Some(true));
+    assert!(rt; order_is_kept(rt.alloc()) == Some(true));
+}
+
+// What a text is read as, the text, and what is said of it.
+const REFUSED: &[(Kind, &[u8], &str)] = &[
+    (Kind::Model, b"version = \xFF\n", "not toml"),
+    (Kind::Boxes, b"version = 1\nbox = [\xFF]\n", "not toml"),
+    (Kind::Boxes, b"version = 1\n", "key box missing"),
+    (Kind::Boxes, b"version = 1\nbox = 1\n", "key box wrong kind"),
+    (Kind::Encounter, b"version = \xFF\n", "not toml"),
+];
+
+fn are_refused(alloc: Global) -> bool {
+    for &(kind, text, want) in REFUSED {
+        if is_said(alloc, kind, text, want) != Some(true) {
+            return false;
+        }
     }
-    Ok(())
+    true
+}
+
+#[test]
+fn other_texts_are_refused(rt: HostRuntime) {
+    assert!(rt; are_refused(rt.alloc()));
+}
+
+// Counts of boxes that are zeros, or of seconds, and what is said of such a list.
+const LENGTHS: &[(Kind, u32, &str)] = &[
+    (Kind::Boxes, 0, "key box value 0 outside 1 to 10000"),
+    (Kind::Boxes, 1, "key box[0] wrong kind"),
+    (Kind::Boxes, 10_000, "key box[0] wrong kind"),
+    (
+        Kind::Boxes,
+        10_001,
+        "key box value 10001 outside 1 to 10000",
+    ),
+    (Kind::Encounter, 600, "read"),
+    (
+        Kind::Encounter,
+        601,
+        "key own_accel value 601 outside 1 to 600",
+    ),
+];
+
+fn of_boxes(alloc: Global, count: u32) -> Option<String> {
+    let zeros = "0,".repeat(alloc, count as usize).ok()?;
+    format!(in alloc; "version = 1\nbox = [{zeros}]\n").ok()
+}
+
+// A text with a list of this length.
+fn of_length(alloc: Global, kind: Kind, count: u32) -> Option<String> {
+    match kind {
+        Kind::Encounter => encounters::lasting(alloc, count),
+        _ => of_boxes(alloc, count),
+    }
+}
+
+fn is_said_of_length(alloc: Global, kind: Kind, count: u32, want: &str) -> Option<bool> {
+    let text = of_length(alloc, kind, count)?;
+    is_said(alloc, kind, text.as_bytes(), want)
+}
+
+fn lengths_are_bounded(alloc: Global) -> bool {
+    for &(kind, count, want) in LENGTHS {
+        if is_said_of_length(alloc, kind, count, want) != Some(true) {
+            return false;
+        }
+    }
+    true
+}
+
+#[test]
+fn lists_have_a_greatest_length(rt: HostRuntime) {
+    assert!(rt; lengths_are_bounded(rt.alloc()));
 }

@@ -1,27 +1,47 @@
 //! The versions of a model's text, and the pilot's delay, which the second says.
 use crate::models::{PLAIN, says_same};
 use acas_model::{DELAY_VERSION, read_model};
-use std::alloc::{AllocError, Global};
-use std::test::Fail;
+use acas_tests_data::changed;
+use std::alloc::Global;
 
-// The plain text as one of version 2, with a line for the delay.
-fn delayed(alloc: Global, line: &str) -> Result<String, AllocError> {
-    let text = PLAIN.replace(alloc, "version = 1", "version = 2")?;
-    let limit = format!(in alloc; "limit = 960\n{line}")?;
-    text.replace(alloc, "limit = 960", limit.as_str())
+/// The plain text as one of version 2, without a delay.
+pub fn second_version(alloc: Global) -> Option<String> {
+    changed(alloc, PLAIN, "version = 1 => version = 2")
+}
+
+// A line for the delay behind the limit, and the delay.
+const SAID: &[(&str, i64)] = &[
+    ("limit = 960 => limit = 960|delay = 0", 0),
+    ("limit = 960 => limit = 960|delay = 5", 5),
+    ("limit = 960 => limit = 960|delay = 0xA", 10),
+];
+
+/// The text of version 2 with a change.
+pub fn delayed(alloc: Global, change: &str) -> Option<String> {
+    let second = second_version(alloc)?;
+    changed(alloc, second.as_str(), change)
+}
+
+// Whether the text of version 2 with such a change says a delay, and otherwise the same.
+fn says_delay(alloc: Global, change: &str, delay: i64) -> Option<bool> {
+    let text = delayed(alloc, change)?;
+    let model = read_model(alloc, text.as_bytes()).ok()?;
+    Some(model.delay() == delay && says_same(&model))
+}
+
+fn delays_are_said(alloc: Global) -> bool {
+    for &(change, delay) in SAID {
+        if says_delay(alloc, change, delay) != Some(true) {
+            return false;
+        }
+    }
+    true
 }
 
 #[test]
-fn the_second_version_says_the_delay(rt: HostRuntime) -> Result<(), Fail> {
-    let alloc = rt.alloc();
-    assert_eq!(rt; DELAY_VERSION, 2);
-    for (line, delay) in [("delay = 0", 0), ("delay = 5", 5), ("delay = 0xA", 10)] {
-        let text = delayed(alloc, line)?;
-        let model = read_model(alloc, text.as_bytes())?;
-        assert_eq!(rt; model.delay(), delay);
-        assert!(rt; says_same(&model), "{line}");
-    }
-    Ok(())
+fn the_second_version_says_the_delay(rt: HostRuntime) {
+    assert!(rt; DELAY_VERSION == 2);
+    assert!(rt; delays_are_said(rt.alloc()));
 }
 
 /// Of the plain text.
