@@ -1,8 +1,8 @@
 //! A case, as it is read.
-use crate::fault::Fault;
 use crate::outside::File;
 use acas_tests_data::filled;
 use std::alloc::Global;
+use std::process::Abort;
 use toml::{Table, Value};
 
 // The keys of a case, which the crate's own lines explain.
@@ -37,25 +37,15 @@ const KEYS: [&str; 28] = [
     "each_call",
 ];
 
-/// The cases of a text.
-pub fn items(document: &Table) -> Result<&[Value], Fault> {
-    match document.get("cases") {
-        Some(Value::Array(items)) if document.len() == 1 => Ok(items.as_slice()),
-        _ => Err(Fault::Text("the text is none of cases")),
-    }
-}
-
-/// The keys and the values of a case, where it has no other keys than a case has.
-pub fn keys_of(item: &Value) -> Result<&Table, Fault> {
+/// The keys and the values of a case, which has no other keys than a case has.
+pub fn keys_of<'v>(rt: &impl Abort, item: &'v Value) -> &'v Table {
     let Value::Table(keys) = item else {
-        return Err(Fault::Text("a case is a table"));
+        rt.panic("a case is a table")
     };
     for key in keys.keys() {
-        if !KEYS.contains(&key.as_str()) {
-            return Err(Fault::Text("a key that no case has"));
-        }
+        assert!(rt; KEYS.contains(&key.as_str()), "a key that no case has");
     }
-    Ok(keys)
+    keys
 }
 
 /// A case: its keys, the values of its row, which stand in its texts, and the files of the forms, if it is one of them.
@@ -73,66 +63,58 @@ impl Case<'_> {
     }
 
     /// The text or the number at a key, or another text where it is left out.
-    pub fn text_or(self, alloc: Global, key: &str, other: &str) -> Result<String, Fault> {
+    pub fn text_or(self, rt: &impl Abort, alloc: Global, key: &str, other: &str) -> String {
         match self.keys.get(key) {
-            Some(value) => filled_text(alloc, value, self.row),
-            None => Ok(String::from_str(alloc, other)?),
-        }
-    }
-
-    /// The text or the number at a key, if it is not left out.
-    pub fn text(self, alloc: Global, key: &str) -> Result<Option<String>, Fault> {
-        match self.keys.get(key) {
-            Some(value) => Ok(Some(filled_text(alloc, value, self.row)?)),
-            None => Ok(None),
+            Some(value) => filled_text(rt, alloc, value, self.row),
+            None => String::from_str(alloc, other).expect(rt, "memory"),
         }
     }
 
     /// The texts of the list at a key.
-    pub fn texts(self, alloc: Global, key: &str) -> Result<Vec<String>, Fault> {
+    pub fn texts(self, rt: &impl Abort, alloc: Global, key: &str) -> Vec<String> {
         match self.keys.get(key) {
-            Some(list) => filled_list(alloc, list, self.row),
-            None => Ok(Vec::new(alloc)),
+            Some(list) => filled_list(rt, alloc, list, self.row),
+            None => Vec::new(alloc),
         }
     }
 
     /// The texts of each list of the list at a key.
-    pub fn lists(self, alloc: Global, key: &str) -> Result<Vec<Vec<String>>, Fault> {
-        match self.keys.get(key) {
-            Some(lists) => filled_lists(alloc, lists, self.row),
-            None => Ok(Vec::new(alloc)),
+    pub fn lists(self, rt: &impl Abort, alloc: Global, key: &str) -> Vec<Vec<String>> {
+        let mut all = Vec::new(alloc);
+        if let Some(lists) = self.keys.get(key) {
+            for list in items_of(rt, lists) {
+                all.push(filled_list(rt, alloc, list, self.row))
+                    .expect(rt, "memory");
+            }
         }
+        all
+    }
+}
+
+/// The items of a list.
+pub fn items_of<'v>(rt: &impl Abort, list: &'v Value) -> &'v [Value] {
+    match list {
+        Value::Array(items) => items.as_slice(),
+        _ => rt.panic("no list"),
     }
 }
 
 // A text with the values of a row in it, or a number as a text.
-fn filled_text(alloc: Global, value: &Value, row: &[String]) -> Result<String, Fault> {
-    match value {
-        Value::String(text) => Ok(filled(alloc, text, row)?),
-        Value::Integer(number) => Ok(number.to_string(alloc)?),
-        _ => Err(Fault::Text("neither a text nor a number")),
-    }
+fn filled_text(rt: &impl Abort, alloc: Global, value: &Value, row: &[String]) -> String {
+    let text = match value {
+        Value::String(text) => filled(alloc, text, row),
+        Value::Integer(number) => number.to_string(alloc),
+        _ => rt.panic("neither a text nor a number"),
+    };
+    text.expect(rt, "memory")
 }
 
-fn filled_list(alloc: Global, list: &Value, row: &[String]) -> Result<Vec<String>, Fault> {
+fn filled_list(rt: &impl Abort, alloc: Global, list: &Value, row: &[String]) -> Vec<String> {
     let mut texts = Vec::new(alloc);
-    for value in items_of(list)? {
-        texts.push(filled_text(alloc, value, row)?)?;
+    for value in items_of(rt, list) {
+        texts
+            .push(filled_text(rt, alloc, value, row))
+            .expect(rt, "memory");
     }
-    Ok(texts)
-}
-
-fn filled_lists(alloc: Global, lists: &Value, row: &[String]) -> Result<Vec<Vec<String>>, Fault> {
-    let mut all = Vec::new(alloc);
-    for list in items_of(lists)? {
-        all.push(filled_list(alloc, list, row)?)?;
-    }
-    Ok(all)
-}
-
-fn items_of(list: &Value) -> Result<&[Value], Fault> {
-    match list {
-        Value::Array(items) => Ok(items.as_slice()),
-        _ => Err(Fault::Text("no list")),
-    }
+    texts
 }

@@ -1,45 +1,41 @@
 //! Each call that a case makes fails in turn.
-use crate::fault::Fault;
 use crate::judge::Judged;
 use crate::outside::{End, File, KINDS, Start, perform};
 use crate::report::Report;
+use std::process::Abort;
 
 /// Reports where a case of one run does not end as it is to end while one of its calls fails, or makes another number of
 /// calls than it says. It was judged how the case ends while none fails.
-pub fn judge_each_call(judged: Judged<'_>, report: &mut Report) -> Result<(), Fault> {
-    let Judged {
-        alloc,
-        case,
-        start,
-        end,
-    } = judged;
-    let said = case.text_or(alloc, "each_call", "")?;
+pub fn judge_each_call(rt: &impl Abort, judged: Judged<'_>, report: &mut Report) {
+    let Judged { case, start, end } = judged;
+    let alloc = report.alloc;
+    let said = case.text_or(rt, alloc, "each_call", "");
     for ((kind, made), said) in KINDS.iter().zip(calls_of(end)).zip(said.split_whitespace()) {
         if said.parse::<u64>().ok() != Some(made) {
-            report.add("makes another number of calls")?;
+            report.add(rt, "makes another number of calls");
         }
         for number in 0..made {
-            let failing = vec![in alloc; format!(in alloc; "{kind} {number}")?]?;
-            let failed = perform(alloc, start, &failing)?;
-            judge_failed(kind, start, end, &failed, report)?;
-            judge_taken(kind, number, start, &failed, report)?;
+            let failing = format!(in alloc; "{kind} {number}").expect(rt, "memory");
+            let failed = perform(rt, alloc, start, &[failing]);
+            judge_failed(rt, kind, start, end, &failed, report);
+            judge_taken(rt, kind, number, start, &failed, report);
         }
     }
-    Ok(())
 }
 
 // Where the write of this number failed, what the writes before it took is printed: of one block as much as each can take.
 fn judge_taken(
+    rt: &impl Abort,
     kind: &str,
     number: u64,
-    start: &Start,
+    start: Start<'_>,
     failed: &End,
     report: &mut Report,
-) -> Result<(), Fault> {
+) {
     let found = failed.out.sink.written();
     let taken = number.saturating_mul(u64::from(start.most));
     let is_so = kind != "write" || found.len() as u64 == taken;
-    Ok(report.holds("the output before the failed write", found, is_so)?)
+    report.holds(rt, "the output before the failed write", found, is_so);
 }
 
 // How many calls of each kind the case made.
@@ -56,67 +52,67 @@ fn calls_of(end: &End) -> [u64; 5] {
 
 // A call of this kind fails: the code says whose call it was. What is printed is a part of what is printed else.
 fn judge_failed(
+    rt: &impl Abort,
     kind: &str,
-    start: &Start,
+    start: Start<'_>,
     end: &End,
     failed: &End,
     report: &mut Report,
-) -> Result<(), Fault> {
+) {
     match kind {
-        "error" => judge_unheard(end, failed, report)?,
-        "write" => judge_named("8 output", "acas: output failed\n", end, failed, report)?,
-        _ => judge_named("7 folder", "acas: folder failed\n", end, failed, report)?,
+        "error" => judge_unheard(rt, end, failed, report),
+        "write" => judge_named(rt, "8 output", "acas: output failed\n", end, failed, report),
+        _ => judge_named(rt, "7 folder", "acas: folder failed\n", end, failed, report),
     }
-    for file in &start.files {
-        judge_file(kind, file, end, failed, report)?;
+    for file in start.files {
+        judge_file(rt, kind, file, end, failed, report);
     }
-    Ok(())
 }
 
 // A write of the error output failed: all else is as it is else.
-fn judge_unheard(end: &End, failed: &End, report: &mut Report) -> Result<(), Fault> {
+fn judge_unheard(rt: &impl Abort, end: &End, failed: &End, report: &mut Report) {
     if failed.ends != end.ends {
-        report.add("ends otherwise where the error output fails")?;
+        report.add(rt, "ends otherwise where the error output fails");
     }
     let (found, whole) = (failed.out.sink.written(), end.out.sink.written());
-    report.same("the output", found, whole)?;
+    report.same(rt, "the output", found, whole);
     let (found, whole) = (failed.err.sink.written(), end.err.sink.written());
-    Ok(report.part("the error output", found, whole)?)
+    report.part(rt, "the error output", found, whole);
 }
 
 // Another call failed: the run ends with this code and cause, and with this line.
 fn judge_named(
+    rt: &impl Abort,
     ends: &str,
     line: &str,
     end: &End,
     failed: &End,
     report: &mut Report,
-) -> Result<(), Fault> {
-    let found = failed.ends.last().map_or("", |text| text.as_str());
-    report.same("the end", found.as_bytes(), ends.as_bytes())?;
+) {
+    report.same(rt, "the end", failed.last().as_bytes(), ends.as_bytes());
     let (found, whole) = (failed.out.sink.written(), end.out.sink.written());
-    report.part("the output", found, whole)?;
+    report.part(rt, "the output", found, whole);
     let found = failed.err.sink.written();
-    Ok(report.same("the error output", found, line.as_bytes())?)
+    report.same(rt, "the error output", found, line.as_bytes());
 }
 
 // A file that the case changes is as before where a read or a create fails, a part of what it is to be where an append fails,
 // and else what it is to be.
 fn judge_file(
+    rt: &impl Abort,
     kind: &str,
     file: &File,
     end: &End,
     failed: &End,
     report: &mut Report,
-) -> Result<(), Fault> {
-    let found = failed.folder.files.get(&file.name).unwrap_or(b"");
-    let after = end.folder.files.get(&file.name).unwrap_or(b"");
-    if after == file.bytes.as_slice() {
-        return Ok(report.same(&file.name, found, after)?);
+) {
+    let (name, before) = (file.name.as_str(), file.bytes.as_slice());
+    let (found, after) = (failed.held(name), end.held(name));
+    if kind == "append" && after != before {
+        report.part(rt, name, found, after);
+    } else if kind == "read" || kind == "create" {
+        report.same(rt, name, found, before);
+    } else {
+        report.same(rt, name, found, after);
     }
-    Ok(match kind {
-        "read" | "create" => report.same(&file.name, found, &file.bytes),
-        "append" => report.part(&file.name, found, after),
-        _ => report.same(&file.name, found, after),
-    }?)
 }

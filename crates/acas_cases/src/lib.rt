@@ -6,8 +6,6 @@ mod cases;
 #[cfg(test)]
 mod each_call;
 #[cfg(test)]
-mod fault;
-#[cfg(test)]
 mod forms;
 #[cfg(test)]
 mod hostile;

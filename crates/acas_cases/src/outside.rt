@@ -1,10 +1,10 @@
 //! A case over a folder and two outputs in memory.
-use crate::fault::Fault;
 use crate::hostile::{Endless, Stuck};
 use crate::texts::words_of;
 use acas_cli::{Cause, FileRole, Status, Work, run};
 use acas_outside::{MemoryFolder, MemorySink};
-use std::alloc::{AllocError, Global};
+use std::alloc::Global;
+use std::process::Abort;
 
 /// A file of a folder.
 #[derive(Drop)]
@@ -15,13 +15,13 @@ pub struct File {
 
 /// What is there at the start of a case: the files, the name of the one that never ends, the most bytes that a call takes or
 /// gives, the kind of the output that takes nothing, and the commands.
-#[derive(Drop)]
-pub struct Start {
-    pub files: Vec<File>,
-    pub endless: String,
+#[derive(Clone, Copy)]
+pub struct Start<'s> {
+    pub files: &'s [File],
+    pub endless: &'s str,
     pub most: u32,
-    pub stuck: String,
-    pub runs: Vec<String>,
+    pub stuck: &'s str,
+    pub runs: &'s [String],
 }
 
 /// How the runs of a case ended, what they counted together, and what is there afterwards.
@@ -34,40 +34,65 @@ pub struct End {
     pub err: Stuck,
 }
 
+impl End {
+    /// The bytes of the file of this name, none where there is no such file.
+    pub fn held(&self, name: &str) -> &[u8] {
+        match self.folder.files.get(name) {
+            Some(bytes) => bytes,
+            None => b"",
+        }
+    }
+
+    /// How the last run ended.
+    pub fn last(&self) -> &str {
+        match self.ends.last() {
+            Some(text) => text.as_str(),
+            None => "",
+        }
+    }
+}
+
 /// The kinds of calls that may fail.
 pub const KINDS: [&str; 5] = ["read", "create", "append", "write", "error"];
 
-/// The bytes of the file of this name.
-pub fn held<'f>(files: &'f [File], name: &str) -> Result<&'f [u8], Fault> {
+/// The bytes of the file of this name, if there is one.
+pub fn held<'f>(files: &'f [File], name: &str) -> Option<&'f [u8]> {
     for file in files {
         if file.name.as_str() == name {
-            return Ok(&file.bytes);
+            return Some(&file.bytes);
         }
     }
-    Err(Fault::Text("no file of this name"))
+    None
 }
 
 /// These files once more, but for the one of this name.
-pub fn without(alloc: Global, files: &[File], name: &str) -> Result<Vec<File>, Fault> {
+pub fn without(rt: &impl Abort, alloc: Global, files: &[File], name: &str) -> Vec<File> {
     let mut all = Vec::new(alloc);
     for file in files {
         if file.name.as_str() != name {
-            let name = file.name.clone()?;
-            let bytes = file.bytes.clone()?;
-            all.push(File { name, bytes })?;
+            let name = file.name.clone().expect(rt, "memory");
+            let bytes = file.bytes.clone().expect(rt, "memory");
+            all.push(File { name, bytes }).expect(rt, "memory");
         }
     }
-    Ok(all)
+    all
 }
 
 /// Runs the commands of a case, while the listed calls fail, each given by its kind and its number, as `read 0`.
-pub fn perform(alloc: Global, start: &Start, failing: &[String]) -> Result<End, Fault> {
-    let mut end = beginning(alloc, start, failing)?;
-    for command in &start.runs {
-        let words = words_of(alloc, command)?;
-        if !end.work.has_room() {
-            return Err(Fault::Text("no room for the counts of another run"));
-        }
+pub fn perform(rt: &impl Abort, alloc: Global, start: Start<'_>, failing: &[String]) -> End {
+    let mut end = End {
+        ends: Vec::new(alloc),
+        work: Work::new(),
+        folder: folder_of(rt, alloc, start, failing),
+        out: output_of(rt, alloc, start, failing, "write"),
+        err: output_of(rt, alloc, start, failing, "error"),
+    };
+    for command in start.runs {
+        let words = words_of(rt, alloc, command);
+        assert!(rt;
+            end.work.has_room(),
+            "no room for the counts of another run"
+        );
         let status = run(
             alloc,
             &words,
@@ -76,70 +101,58 @@ pub fn perform(alloc: Global, start: &Start, failing: &[String]) -> Result<End, 
             &mut end.err,
             &mut end.work,
         );
-        end.ends.push(end_text(alloc, &status)?)?;
+        let text = end_text(rt, alloc, &status);
+        end.ends.push(text).expect(rt, "memory");
     }
-    Ok(end)
-}
-
-// The folder with the files, and outputs to which nothing was written.
-fn beginning(alloc: Global, start: &Start, failing: &[String]) -> Result<End, Fault> {
-    let folder = folder_of(alloc, start, failing)?;
-    let out = output_of(alloc, start, failing, "write")?;
-    let err = output_of(alloc, start, failing, "error")?;
-    Ok(End {
-        ends: Vec::new(alloc),
-        work: Work::new(),
-        folder,
-        out,
-        err,
-    })
+    end
 }
 
 // The folder with the files.
-fn folder_of(alloc: Global, start: &Start, failing: &[String]) -> Result<Endless, Fault> {
-    let mut folder = empty_folder(alloc, start.most, failing)?;
-    for file in &start.files {
-        let bytes = file.bytes.clone()?;
-        folder.put(&file.name, bytes)?;
+fn folder_of(rt: &impl Abort, alloc: Global, start: Start<'_>, failing: &[String]) -> Endless {
+    let reads = numbers_of(rt, alloc, failing, "read");
+    let creates = numbers_of(rt, alloc, failing, "create");
+    let appends = numbers_of(rt, alloc, failing, "append");
+    let folder = MemoryFolder::new(alloc, reads, creates, appends, start.most.max(1));
+    let mut folder = folder.expect(rt, "memory");
+    for file in start.files {
+        let bytes = file.bytes.clone().expect(rt, "memory");
+        folder.put(&file.name, bytes).expect(rt, "memory");
     }
-    let endless = start.endless.clone()?;
-    Ok(Endless::new(folder, endless))
-}
-
-fn empty_folder(alloc: Global, most: u32, failing: &[String]) -> Result<MemoryFolder, Fault> {
-    let reads = numbers_of(alloc, failing, "read")?;
-    let creates = numbers_of(alloc, failing, "create")?;
-    let appends = numbers_of(alloc, failing, "append")?;
-    Ok(MemoryFolder::new(alloc, reads, creates, appends, most.max(1))?)
+    let endless = String::from_str(alloc, start.endless).expect(rt, "memory");
+    Endless::new(folder, endless)
 }
 
 // The output whose writes are of this kind.
-fn output_of(alloc: Global, start: &Start, failing: &[String], kind: &str) -> Result<Stuck, Fault> {
-    let writes = numbers_of(alloc, failing, kind)?;
-    let sink = MemorySink::new(alloc, writes, start.most.max(1))?;
-    Ok(Stuck::new(sink, start.stuck.as_str() == kind))
+fn output_of(
+    rt: &impl Abort,
+    alloc: Global,
+    start: Start<'_>,
+    failing: &[String],
+    kind: &str,
+) -> Stuck {
+    let writes = numbers_of(rt, alloc, failing, kind);
+    let sink = MemorySink::new(alloc, writes, start.most.max(1)).expect(rt, "memory");
+    Stuck::new(sink, start.stuck == kind)
 }
 
 // The numbers of the failing calls of a kind.
-fn numbers_of(alloc: Global, failing: &[String], kind: &str) -> Result<Vec<u64>, Fault> {
+fn numbers_of(rt: &impl Abort, alloc: Global, failing: &[String], kind: &str) -> Vec<u64> {
     let mut numbers = Vec::new(alloc);
     for call in failing {
         let (word, number) = call
             .split_once(' ')
-            .ok_or(Fault::Text("a failing call is a kind and a number"))?;
-        if !KINDS.contains(&word) {
-            return Err(Fault::Text("no kind of call"));
-        }
+            .expect(rt, "a failing call is a kind and a number");
+        assert!(rt; KINDS.contains(&word), "no kind of call");
         if word == kind {
-            let number = number.parse::<u64>();
-            numbers.push(number.map_err(|_| Fault::Text("no number of a call"))?)?;
+            let number = number.parse::<u64>().expect(rt, "no number of a call");
+            numbers.push(number).expect(rt, "memory");
         }
     }
-    Ok(numbers)
+    numbers
 }
 
 // The exit code and the cause of a run.
-fn end_text(alloc: Global, status: &Status) -> Result<String, AllocError> {
+fn end_text(rt: &impl Abort, alloc: Global, status: &Status) -> String {
     let cause = match &status.cause {
         Cause::Done => "done",
         Cause::Reported => "reported",
@@ -159,5 +172,5 @@ fn end_text(alloc: Global, status: &Status) -> Result<String, AllocError> {
         Cause::TooLong(FileRole::Encounter) => "too long encounter",
         Cause::Memory => "memory",
     };
-    format!(in alloc; "{} {cause}", status.code)
+    format!(in alloc; "{} {cause}", status.code).expect(rt, "memory")
 }

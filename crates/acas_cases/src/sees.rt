@@ -1,18 +1,26 @@
 //! That the runner sees each difference.
-use crate::runner::differences;
+use crate::cases::{items_of, keys_of};
+use crate::report::Report;
+use crate::runner::{cases_of, try_each};
 use acas_rows::DIFFERENCES;
-use std::test::Fail;
+use std::process::Abort;
+use toml::Value;
 
 #[test]
-fn each_difference_is_seen(rt: HostRuntime) -> Result<(), Fail> {
-    let found = differences(rt.alloc(), DIFFERENCES)?;
-    let names = DIFFERENCES
-        .lines()
-        .filter_map(|line| line.strip_prefix("name = "));
-    for name in names {
-        let name = name.trim_matches('"');
-        let is_seen = found.lines().any(|line| line.starts_with(name));
-        assert_eq!(rt; is_seen, name != "true", "{name}");
+fn each_difference_is_seen(rt: HostRuntime) {
+    let cases = cases_of(&rt, rt.alloc(), DIFFERENCES);
+    for item in items_of(&rt, &cases) {
+        let keys = keys_of(&rt, item);
+        let mut report = Report::new(rt.alloc());
+        try_each(&rt, keys, &mut report);
+        match keys.get("name") {
+            Some(Value::String(name)) => {
+                assert!(rt;
+                    report.text.is_empty() == (name.as_str() == "true"),
+                    "{name}"
+                );
+            }
+            _ => rt.panic("a case has a name"),
+        }
     }
-    Ok(())
 }

@@ -1,10 +1,10 @@
 //! The bytes of a file, made step by step.
-use crate::fault::Fault;
 use crate::outside::{File, Start, held, perform, without};
+use crate::report::Report;
 use acas_tests_data::{changed, model_text};
 use sha2::{Digest, Sha256};
 use std::alloc::Global;
-use std::str::FromStr;
+use std::process::Abort;
 
 // In a table: the bytes of the header, of an entry and of the digest.
 const HEADER: usize = 60;
@@ -13,175 +13,157 @@ const ENTRY: usize = 17;
 
 const DIGEST: usize = 32;
 
-/// These files, and with them each that a recipe says: a name, and the steps that make its bytes. One of the same name goes.
-pub fn all_made(
-    alloc: Global,
-    files: Vec<File>,
+// Where the four lengths of a layer stand in the header, each of one byte.
+const LENGTHS: [usize; 4] = [40, 44, 48, 52];
+
+/// Puts behind these files each that a recipe says: a name, and the steps that make its bytes. One of the same name goes.
+pub fn make_all(
+    rt: &impl Abort,
     recipes: &[Vec<String>],
-) -> Result<Vec<File>, Fault> {
-    let mut all = files;
+    all: &mut Vec<File>,
+    report: &mut Report,
+) {
     for recipe in recipes {
-        let (name, steps) = recipe.split_first().ok_or(Fault::Text("no name"))?;
-        let bytes = made(alloc, &all, steps)?;
-        all = without(alloc, &all, name)?;
-        let name = name.clone()?;
-        all.push(File { name, bytes })?;
+        let (name, steps) = recipe.split_first().expect(rt, "no name");
+        let bytes = made(rt, all, steps, report);
+        *all = without(rt, report.alloc, all, name);
+        let name = name.clone().expect(rt, "memory");
+        all.push(File { name, bytes }).expect(rt, "memory");
     }
-    Ok(all)
 }
 
-/// The bytes that these steps make, each of what the earlier ones made. They begin with none.
-pub fn made(alloc: Global, files: &[File], steps: &[String]) -> Result<Vec<u8>, Fault> {
-    let mut bytes = Vec::new(alloc);
+/// The bytes that these steps make, each of what the earlier ones made. They begin with none. A step that cannot be done is reported.
+pub fn made(rt: &impl Abort, files: &[File], steps: &[String], report: &mut Report) -> Vec<u8> {
+    let mut bytes = Vec::new(report.alloc);
     for step in steps {
-        let (verb, rest) = step.split_once(' ').unwrap_or((step, ""));
-        bytes = match verb {
-            "model" | "text" | "hex" | "pad" | "held" | "compiled" => {
-                bytes.extend_from_slice(&piece(alloc, files, verb, rest, bytes.len())?)?;
-                bytes
-            }
-            _ => altered(alloc, bytes, verb, rest)?,
-        };
+        if change(rt, report.alloc, files, step, &mut bytes).is_none() {
+            report.add(rt, step);
+        }
     }
-    Ok(bytes)
+    bytes
 }
 
-// What a step puts behind so many bytes.
-fn piece(
+// Does a step, where it can be done.
+fn change(
+    rt: &impl Abort,
     alloc: Global,
     files: &[File],
-    verb: &str,
-    rest: &str,
-    length: usize,
-) -> Result<Vec<u8>, Fault> {
+    step: &str,
+    bytes: &mut Vec<u8>,
+) -> Option<()> {
+    let (verb, rest) = step.split_once(' ').unwrap_or((step, ""));
     match verb {
-        "model" => {
-            let text = model_text(alloc, rest);
-            Ok(
-                text.ok_or(Fault::Text("no model of this name"))?
-                    .into_bytes(),
-            )
+        "model" => push(bytes, model_text(alloc, rest)?.as_bytes()),
+        "text" => push(bytes, rest.as_bytes()),
+        "hex" => push(bytes, &hex::decode(alloc, rest).ok()?),
+        "pad" => pad(bytes, rest),
+        "held" => push(bytes, held(files, rest)?),
+        "compiled" => push_compiled(rt, alloc, held(files, rest)?, bytes),
+        "replace" => replace(alloc, bytes, rest),
+        "cut" => cut(bytes, number(rest)?),
+        "put" => {
+            let (at, digits) = rest.split_once(' ')?;
+            put_digits(alloc, bytes, number(at)?, 1, digits)
         }
-        "text" => Ok(rest.as_bytes().to_vec(alloc)?),
-        "hex" => bytes_of(alloc, rest),
-        "pad" => padding(alloc, rest, length),
-        "held" => Ok(held(files, rest)?.to_vec(alloc)?),
-        _ => compiled(alloc, held(files, rest)?),
+        "flip" => flip(bytes, rest),
+        "upper" | "lower" | "advice" | "advices" => set_part(alloc, bytes, verb, rest),
+        "values" => set_values(bytes, rest),
+        "whole" => make_whole(alloc, bytes),
+        "seal" => seal(bytes, number(rest)?),
+        _ => None,
     }
+}
+
+fn number(text: &str) -> Option<usize> {
+    text.parse::<usize>().ok()
+}
+
+fn push(bytes: &mut Vec<u8>, piece: &[u8]) -> Option<()> {
+    bytes.extend_from_slice(piece).ok()
 }
 
 // A byte as often as it takes to make so many bytes as long as a text says.
-fn padding(alloc: Global, rest: &str, length: usize) -> Result<Vec<u8>, Fault> {
-    let (byte, whole) = two(rest)?;
-    let count = number::<usize>(whole)?.saturating_sub(length);
-    Ok(vec![in alloc; number::<u8>(byte)?; count]?)
-}
-
-// The bytes after a step that changes them.
-fn altered(alloc: Global, bytes: Vec<u8>, verb: &str, rest: &str) -> Result<Vec<u8>, Fault> {
-    match verb {
-        "replace" => replaced(alloc, &bytes, rest),
-        "cut" => cut(alloc, &bytes, rest),
-        "put" => {
-            let (at, piece) = two(rest)?;
-            put(bytes, number(at)?, 1, &bytes_of(alloc, piece)?)
-        }
-        "flip" => flipped(bytes, rest),
-        "upper" | "lower" | "advice" => with_part(bytes, verb, rest),
-        "advices" => with_advices(alloc, bytes, rest),
-        "values" => with_values(bytes, rest),
-        "whole" => whole(alloc, &bytes),
-        "seal" => sealed(alloc, &bytes, rest),
-        _ => Err(Fault::Text("no such step")),
-    }
-}
-
-fn cut(alloc: Global, bytes: &[u8], rest: &str) -> Result<Vec<u8>, Fault> {
-    Ok(cut_to(bytes, number(rest)?)?.to_vec(alloc)?)
-}
-
-fn two(text: &str) -> Result<(&str, &str), Fault> {
-    text.split_once(' ').ok_or(Fault::Text("a word is missing"))
-}
-
-fn number<N: FromStr>(text: &str) -> Result<N, Fault>
-where
-    N::Err: Drop,
-{
-    text.parse::<N>().map_err(|_| Fault::Text("no such number"))
-}
-
-fn bytes_of(alloc: Global, text: &str) -> Result<Vec<u8>, Fault> {
-    hex::decode(alloc, text).map_err(|_| Fault::Text("no bytes in hex"))
+fn pad(bytes: &mut Vec<u8>, rest: &str) -> Option<()> {
+    let (byte, length) = rest.split_once(' ')?;
+    let length = number(length)?.max(bytes.len());
+    bytes.resize(length, byte.parse::<u8>().ok()?).ok()
 }
 
 // The table that is compiled of a model.
-fn compiled(alloc: Global, model: &[u8]) -> Result<Vec<u8>, Fault> {
-    let name = String::from_str(alloc, "m")?;
-    let bytes = model.to_vec(alloc)?;
-    let files = vec![in alloc; File { name, bytes }]?;
-    let command = String::from_str(alloc, "acas compile m t")?;
-    let runs = vec![in alloc; command]?;
+fn push_compiled(rt: &impl Abort, alloc: Global, model: &[u8], bytes: &mut Vec<u8>) -> Option<()> {
+    let name = String::from_str(alloc, "m").expect(rt, "memory");
+    let model = model.to_vec(alloc).expect(rt, "memory");
+    let command = String::from_str(alloc, "acas compile m t").expect(rt, "memory");
     let start = Start {
-        files,
-        endless: String::new(alloc),
+        files: &[File { name, bytes: model }],
+        endless: "",
         most: 65_536,
-        stuck: String::new(alloc),
-        runs,
+        stuck: "",
+        runs: &[command],
     };
-    let end = perform(alloc, &start, &[])?;
-    let table = end
-        .folder
-        .files
-        .get("t")
-        .ok_or(Fault::Text("not compiled"))?;
-    Ok(table.to_vec(alloc)?)
+    let end = perform(rt, alloc, start, &[]);
+    match end.folder.files.get("t") {
+        Some(table) => push(bytes, table),
+        None => None,
+    }
 }
 
 // A text with its first `old` replaced, which has to stand in it, as `old => new` says.
-fn replaced(alloc: Global, bytes: &[u8], rest: &str) -> Result<Vec<u8>, Fault> {
-    let text = std::str::from_utf8(bytes).map_err(|_| Fault::Text("no text"))?;
-    let text = changed(alloc, text, rest);
-    Ok(
-        text.ok_or(Fault::Text("what is to be replaced is not there"))?
-            .into_bytes(),
-    )
+fn replace(alloc: Global, bytes: &mut Vec<u8>, rest: &str) -> Option<()> {
+    let text = std::str::from_utf8(bytes).ok()?;
+    *bytes = changed(alloc, text, rest)?.into_bytes();
+    Some(())
+}
+
+fn cut(bytes: &mut Vec<u8>, length: usize) -> Option<()> {
+    if bytes.len() < length {
+        return None;
+    }
+    bytes.truncate(length);
+    Some(())
+}
+
+// The bytes in hex put in places a stride apart.
+fn put_digits(
+    alloc: Global,
+    bytes: &mut [u8],
+    at: usize,
+    stride: usize,
+    digits: &str,
+) -> Option<()> {
+    put(bytes, at, stride, &hex::decode(alloc, digits).ok()?)
 }
 
 // The bytes of a piece put in places a stride apart.
-fn put(mut bytes: Vec<u8>, at: usize, stride: usize, piece: &[u8]) -> Result<Vec<u8>, Fault> {
+fn put(bytes: &mut [u8], at: usize, stride: usize, piece: &[u8]) -> Option<()> {
     let mut place = at;
     for byte in piece {
-        *bytes.get_mut(place).ok_or(Fault::Text("no such place"))? = *byte;
+        *bytes.get_mut(place)? = *byte;
         place = place.saturating_add(stride);
     }
-    Ok(bytes)
+    Some(())
 }
 
 // The byte at a place changed in its bits that a number has.
-fn flipped(mut bytes: Vec<u8>, rest: &str) -> Result<Vec<u8>, Fault> {
-    let (at, bits) = two(rest)?;
-    let byte = bytes
-        .get_mut(number::<usize>(at)?)
-        .ok_or(Fault::Text("no such place"))?;
-    *byte ^= number::<u8>(bits)?;
-    Ok(bytes)
+fn flip(bytes: &mut [u8], rest: &str) -> Option<()> {
+    let (at, bits) = rest.split_once(' ')?;
+    let bits = bits.parse::<u8>().ok()?;
+    *bytes.get_mut(number(at)?)? ^= bits;
+    Some(())
 }
 
-// How many states a layer of a table has: the product of the four lengths in its header, each of one byte.
-fn states_of(table: &[u8]) -> Result<usize, Fault> {
-    let shape = table.get(40..56).ok_or(Fault::Text("no table"))?;
+// How many states a layer of a table has: the product of its four lengths.
+fn states_of(table: &[u8]) -> Option<usize> {
     let mut states = 1usize;
-    for part in shape.chunks_exact(4) {
-        let length = part.first().ok_or(Fault::Text("no table"))?;
-        states = states.saturating_mul(usize::from(*length));
+    for place in &LENGTHS {
+        states = states.saturating_mul(usize::from(*table.get(*place)?));
     }
-    Ok(states)
+    Some(states)
 }
 
 // Where an entry of a table begins: of a layer and a state. In version 2 the digests of the layers below
 // stand before it.
-fn entry_place(table: &[u8], layer: usize, state: usize) -> Result<usize, Fault> {
+fn entry_place(table: &[u8], layer: usize, state: usize) -> Option<usize> {
     let entry = states_of(table)?
         .saturating_mul(layer)
         .saturating_add(state);
@@ -189,96 +171,80 @@ fn entry_place(table: &[u8], layer: usize, state: usize) -> Result<usize, Fault>
     let before = entry
         .saturating_mul(ENTRY)
         .saturating_add(digests.saturating_mul(DIGEST));
-    Ok(before.saturating_add(HEADER))
+    Some(before.saturating_add(HEADER))
 }
 
-// A table with the upper value, the lower value or the advice of an entry changed.
-fn with_part(table: Vec<u8>, part: &str, rest: &str) -> Result<Vec<u8>, Fault> {
-    let (layer, rest) = two(rest)?;
-    let (state, value) = two(rest)?;
-    let at = entry_place(&table, number(layer)?, number(state)?)?;
+// A table with the upper value, the lower value or the advice of an entry changed, or the advices from an entry on.
+fn set_part(alloc: Global, table: &mut [u8], part: &str, rest: &str) -> Option<()> {
+    let (layer, rest) = rest.split_once(' ')?;
+    let (state, value) = rest.split_once(' ')?;
+    let at = entry_place(table, number(layer)?, number(state)?)?;
     match part {
-        "upper" => put(table, at, 1, &number::<i64>(value)?.to_le_bytes()),
-        "lower" => put(
-            table,
-            at.saturating_add(8),
-            1,
-            &number::<i64>(value)?.to_le_bytes(),
-        ),
-        _ => put(table, at.saturating_add(16), 1, &[number::<u8>(value)?]),
+        "upper" => put_value(table, at, value),
+        "lower" => put_value(table, at.saturating_add(8), value),
+        "advice" => put_byte(table, at.saturating_add(16), value),
+        _ => put_digits(alloc, table, at.saturating_add(16), ENTRY, value),
     }
 }
 
-// A table with these advices in a layer, from a state on.
-fn with_advices(alloc: Global, table: Vec<u8>, rest: &str) -> Result<Vec<u8>, Fault> {
-    let (layer, rest) = two(rest)?;
-    let (state, piece) = two(rest)?;
-    let at = entry_place(&table, number(layer)?, number(state)?)?.saturating_add(16);
-    put(table, at, ENTRY, &bytes_of(alloc, piece)?)
+fn put_byte(table: &mut [u8], at: usize, value: &str) -> Option<()> {
+    *table.get_mut(at)? = value.parse::<u8>().ok()?;
+    Some(())
+}
+
+fn put_value(table: &mut [u8], at: usize, value: &str) -> Option<()> {
+    put(table, at, 1, &value.parse::<i64>().ok()?.to_le_bytes())
 }
 
 // A table with these values in each entry.
-fn with_values(table: Vec<u8>, rest: &str) -> Result<Vec<u8>, Fault> {
-    let (upper, lower) = two(rest)?;
-    let upper = number::<i64>(upper)?.to_le_bytes();
-    let lower = number::<i64>(lower)?.to_le_bytes();
-    let horizon = *table.get(56).ok_or(Fault::Text("no table"))?;
-    let states = states_of(&table)?;
-    let mut all = table;
-    for layer in 0..=usize::from(horizon) {
+fn set_values(table: &mut [u8], rest: &str) -> Option<()> {
+    let (upper, lower) = rest.split_once(' ')?;
+    let horizon = usize::from(*table.get(56)?);
+    let states = states_of(table)?;
+    for layer in 0..=horizon {
         for state in 0..states {
-            let at = entry_place(&all, layer, state)?;
-            all = put(all, at, 1, &upper)?;
-            all = put(all, at.saturating_add(8), 1, &lower)?;
+            let at = entry_place(table, layer, state)?;
+            put_value(table, at, upper)?;
+            put_value(table, at.saturating_add(8), lower)?;
         }
     }
-    Ok(all)
+    Some(())
 }
 
 // A table of version 2 made one of version 1: the same entries, and one digest behind them all.
-fn whole(alloc: Global, table: &[u8]) -> Result<Vec<u8>, Fault> {
-    let (header, groups) = parts(table)?;
+fn make_whole(alloc: Global, table: &mut Vec<u8>) -> Option<()> {
+    let mut all = Vec::new(alloc);
+    let is_done = push_whole(table, &mut all);
+    *table = all;
+    is_done
+}
+
+fn push_whole(table: &[u8], all: &mut Vec<u8>) -> Option<()> {
     let entries = states_of(table)?.saturating_mul(ENTRY);
-    let mut all = put(header.to_vec(alloc)?, 4, 1, &[1])?;
-    for group in groups.chunks_exact(entries.saturating_add(DIGEST)) {
-        all.extend_from_slice(cut_to(group, entries)?)?;
+    push(all, table.get(..HEADER)?)?;
+    put(all, 4, 1, &[1])?;
+    for place in (HEADER..table.len()).step_by(entries.saturating_add(DIGEST)) {
+        push(all, table.get(place..place.saturating_add(entries))?)?;
     }
-    let digest = Sha256::digest(&all);
-    all.extend_from_slice(&digest)?;
-    Ok(all)
+    let digest = Sha256::digest(all.as_slice());
+    push(all, &digest)
 }
 
 // A table with its digests made anew, each behind so many entries and over what stands before it: the header,
 // or the digest before, and the entries between.
-fn sealed(alloc: Global, table: &[u8], count: &str) -> Result<Vec<u8>, Fault> {
-    let (header, groups) = parts(table)?;
-    let entries = number::<usize>(count)?.saturating_mul(ENTRY);
-    let mut all = header.to_vec(alloc)?;
-    let mut before = header.to_vec(alloc)?;
-    let groups = groups.chunks_exact(entries.saturating_add(DIGEST));
-    if !groups.remainder().is_empty() {
-        return Err(Fault::Text("no digest behind so many entries"));
+fn seal(table: &mut [u8], count: usize) -> Option<()> {
+    let entries = count.saturating_mul(ENTRY);
+    let first = entries.saturating_add(HEADER);
+    let mut from = 0;
+    for place in (first..table.len()).step_by(entries.saturating_add(DIGEST)) {
+        let digest = Sha256::digest(table.get(from..place)?);
+        put(table, place, 1, &digest)?;
+        from = place;
     }
-    for group in groups {
-        let entries = cut_to(group, entries)?;
-        before.extend_from_slice(entries)?;
-        let digest = Sha256::digest(&before);
-        all.extend_from_slice(entries)?;
-        all.extend_from_slice(&digest)?;
-        before = digest.to_vec(alloc)?;
+    // No digest behind so many entries where some are left.
+    if from.saturating_add(DIGEST) == table.len() {
+        Some(())
+    } else {
+        None
     }
-    Ok(all)
-}
-
-// The header of a table, and what stands behind it.
-fn parts(table: &[u8]) -> Result<(&[u8], &[u8]), Fault> {
-    table
-        .split_at_checked(HEADER)
-        .ok_or(Fault::Text("no table"))
-}
-
-fn cut_to(bytes: &[u8], length: usize) -> Result<&[u8], Fault> {
-    bytes
-        .get(..length)
-        .ok_or(Fault::Text("too short to be cut"))
 }

@@ -1,26 +1,27 @@
 //! Words as in a shell.
-use crate::fault::Fault;
-use std::alloc::{AllocError, Global};
+use std::alloc::Global;
+use std::process::Abort;
 
 /// The words after `acas` of a command. Spaces part words; a word in single quotes is whole, and may be empty.
-pub fn words_of(alloc: Global, command: &str) -> Result<Vec<String>, Fault> {
+pub fn words_of(rt: &impl Abort, alloc: Global, command: &str) -> Vec<String> {
     let mut words = Vec::new(alloc);
     for (index, piece) in command.split('\'').enumerate() {
         if index % 2 == 1 {
-            words.push(String::from_str(alloc, piece)?)?;
+            push_word(rt, alloc, &mut words, piece);
         } else {
-            push_words(alloc, &mut words, piece)?;
+            for word in piece.split_whitespace() {
+                push_word(rt, alloc, &mut words, word);
+            }
         }
     }
-    if words.is_empty() || words.remove(0).as_str() != "acas" {
-        return Err(Fault::Text("a command begins with acas"));
-    }
-    Ok(words)
+    assert!(rt;
+        !words.is_empty() && words.remove(0).as_str() == "acas",
+        "a command begins with acas"
+    );
+    words
 }
 
-fn push_words(alloc: Global, words: &mut Vec<String>, text: &str) -> Result<(), AllocError> {
-    for word in text.split_whitespace() {
-        words.push(String::from_str(alloc, word)?)?;
-    }
-    Ok(())
+fn push_word(rt: &impl Abort, alloc: Global, words: &mut Vec<String>, word: &str) {
+    let word = String::from_str(alloc, word).expect(rt, "memory");
+    words.push(word).expect(rt, "memory");
 }
