@@ -79,7 +79,7 @@ fn empty_row(rt: &impl Abort, alloc: Global) -> Vec<Vec<String>> {
     vec![in alloc; Vec::new(alloc)].expect(rt, "memory")
 }
 
-// A row for each number from 0 up to but not the one of a case.
+// A row for each number from 0 up to but not the one that stands at `numbers`.
 fn number_rows(rt: &impl Abort, alloc: Global, bare: Case<'_>) -> Vec<Vec<String>> {
     if !bare.has("numbers") {
         return empty_row(rt, alloc);

@@ -3,7 +3,7 @@ use acas_base::{Choice, Model, SigmaPoint};
 use acas_drill_model::drill_model;
 use acas_grid::{Axis, Grid};
 use acas_units::GREATEST_DRILL_NUMBER;
-use std::test::Fail;
+use std::alloc::Global;
 
 // How many numbers an axis has, and the first, the second and the last of them.
 type Ends = (u32, i64, i64, i64);
@@ -34,49 +34,65 @@ fn are_all(choices: &[Choice]) -> bool {
     all
 }
 
-// Whether the advisory of a number has this name and this interval of rates, and under it each may be chosen at its cost.
-fn asks(model: &Model, a: u8, name: &str, lo: i64, hi: i64) -> Option<bool> {
-    if u32::from(a) >= model.grid().advisories {
-        return None;
+// Whether a model has seven advisories, the one of a number has this name and this interval of rates, and under it each may be chosen
+// at its cost.
+fn asks(model: &Model, a: u8, name: &str, lo: i64, hi: i64) -> bool {
+    if model.grid().advisories != 7 || a >= 7 {
+        return false;
     }
     let found = model.advisory(a);
     let named = found.name.bytes() == name.as_bytes();
-    Some(named && found.lo == lo && found.hi == hi && are_all(model.choices(a)))
+    named && found.lo == lo && found.hi == hi && are_all(model.choices(a))
 }
 
 // A number; the ends of the altitudes, the own rates and the intruder's; the horizon, and the cost of contact. 12345 is 7 * 1763 + 4,
 // 1763 is 4 * 440 + 3, 440 is 4 * 110, and 110 is 31 * 3 + 17. 999999999 is 7 * 142857142 + 5, 142857142 is 4 * 35714285 + 2, 35714285
 // is 4 * 8928571 + 1, 8928571 is 31 * 288018 + 13, and 999999999 is 9000 * 111111 + 999.
-const GRIDS: [(u32, Ends, Ends, Ends, u32, i64); 2] = [
+const GRIDS: [(u32, (Ends, Ends, Ends), u32, i64); 2] = [
     (
         12_345,
-        (21, -120_000, -108_000, 120_000),
-        (11, -2_500, -2_000, 2_500),
-        (5, -1_000, -500, 1_000),
+        (
+            (21, -120_000, -108_000, 120_000),
+            (11, -2_500, -2_000, 2_500),
+            (5, -1_000, -500, 1_000),
+        ),
         27,
         4_345,
     ),
     (
         999_999_999,
-        (23, -132_000, -120_000, 132_000),
-        (9, -2_000, -1_500, 2_000),
-        (7, -1_500, -1_000, 1_500),
+        (
+            (23, -132_000, -120_000, 132_000),
+            (9, -2_000, -1_500, 2_000),
+            (7, -1_500, -1_000, 1_500),
+        ),
         23,
         1_999,
     ),
 ];
 
-#[test]
-fn the_grids_of_drills(rt: HostRuntime) -> Result<(), Fail> {
-    for (number, h, v0, v1, horizon, contact) in GRIDS {
-        assert!(rt; number <= GREATEST_DRILL_NUMBER);
-        let model = drill_model(rt.alloc(), number)?;
-        let grid = model.grid();
-        assert!(rt; has_axes(grid, h, v0, v1), "{number}");
-        assert!(rt; grid.horizon == horizon, "{number}");
-        assert!(rt; model.contact() == contact, "{number}");
+// Whether the model of a number has these ends of its axes, this horizon and this cost of contact.
+fn has_grid(
+    alloc: Global,
+    number: u32,
+    (h, v0, v1): (Ends, Ends, Ends),
+    horizon: u32,
+    contact: i64,
+) -> Option<bool> {
+    if number > GREATEST_DRILL_NUMBER {
+        return None;
     }
-    Ok(())
+    let model = drill_model(alloc, number).ok()?;
+    let grid = model.grid();
+    Some(has_axes(grid, h, v0, v1) && grid.horizon == horizon && model.contact() == contact)
+}
+
+#[test]
+fn the_grids_of_drills(rt: HostRuntime) {
+    for (number, axes, horizon, contact) in GRIDS {
+        let met = has_grid(rt.alloc(), number, axes, horizon, contact);
+        assert!(rt; met == Some(true), "{number}");
+    }
 }
 
 // An advisory, its name, and the least and the greatest rate that it asks for.
@@ -90,14 +106,17 @@ const ADVISORIES: [(u8, &str, i64, i64); 7] = [
     (6, "climb-fast", 2_500, 10_000),
 ];
 
+fn has_advisory(alloc: Global, a: u8, name: &str, lo: i64, hi: i64) -> Option<bool> {
+    let model = drill_model(alloc, 1).ok()?;
+    Some(asks(&model, a, name, lo, hi))
+}
+
 #[test]
-fn the_advisories_of_drills(rt: HostRuntime) -> Result<(), Fail> {
-    let model = drill_model(rt.alloc(), 1)?;
+fn the_advisories_of_drills(rt: HostRuntime) {
     for (a, name, lo, hi) in ADVISORIES {
-        assert!(rt; asks(&model, a, name, lo, hi) == Some(true), "{name}");
+        let met = has_advisory(rt.alloc(), a, name, lo, hi);
+        assert!(rt; met == Some(true), "{name}");
     }
-    assert!(rt; model.grid().advisories == 7);
-    Ok(())
 }
 
 const POINTS: [SigmaPoint; 3] = [
@@ -118,28 +137,21 @@ const POINTS: [SigmaPoint; 3] = [
     },
 ];
 
-// Whether the pilot has this pull, this limit and this delay.
-fn has_pilot(model: &Model, pull: i64, limit: i64, delay: i64) -> bool {
-    model.pull() == pull && model.limit() == limit && model.delay() == delay
+// Whether the pull, the limit and the delay of the pilot, and the radius and the half of the height of the puck are those of a drill.
+fn has_pilot_and_puck(model: &Model) -> bool {
+    let pilot = model.pull() == 480 && model.limit() == 960 && model.delay() == 0;
+    pilot && model.radius() == 500 && model.half() == 12_000
 }
 
-// Whether the puck has this radius and this half of its height.
-fn has_puck(model: &Model, radius: i64, half: i64) -> bool {
-    model.radius() == radius && model.half() == half
-}
-
-// Whether the closing speeds are from the least to the greatest.
-fn has_closing(model: &Model, least: i64, greatest: i64) -> bool {
+// Whether the model of a drill has its pilot, its puck, its closing speeds and its sigma points.
+fn has_numbers(alloc: Global) -> Option<bool> {
+    let model = drill_model(alloc, 2).ok()?;
     let closing = model.closing();
-    closing.least == least && closing.greatest == greatest
+    let closes = closing.least == 500 && closing.greatest == 1_500;
+    Some(has_pilot_and_puck(&model) && closes && model.points() == POINTS.as_slice())
 }
 
 #[test]
-fn the_numbers_of_drills(rt: HostRuntime) -> Result<(), Fail> {
-    let model = drill_model(rt.alloc(), 2)?;
-    assert!(rt; has_pilot(&model, 480, 960, 0));
-    assert!(rt; has_puck(&model, 500, 12_000));
-    assert!(rt; has_closing(&model, 500, 1_500));
-    assert!(rt; model.points() == POINTS.as_slice());
-    Ok(())
+fn the_numbers_of_drills(rt: HostRuntime) {
+    assert!(rt; has_numbers(rt.alloc()) == Some(true));
 }

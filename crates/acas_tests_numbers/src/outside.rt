@@ -148,14 +148,16 @@ fn memory_keeps_files(rt: HostRuntime) {
 }
 
 // Writes that fail, the most bytes a write takes, whether all is written, and what is.
-const EMITTED: &[(&[u64], u32, bool, &[u8])] = &[
+type Emitted = (&'static [u64], u32, bool, &'static [u8]);
+
+const EMITTED: &[Emitted] = &[
     (&[], 1, true, b"one two three four"),
     (&[], 4_096, true, b"one two three four"),
     (&[1], 2, false, b"on"),
 ];
 
 // Whether such a sink takes all, or not, and keeps these bytes; a second time it takes all, and no memory was refused.
-fn is_emitted(alloc: Global, writes: &[u64], most: u32, done: bool, bytes: &[u8]) -> Option<bool> {
+fn is_emitted(alloc: Global, &(writes, most, done, bytes): &Emitted) -> Option<bool> {
     let mut sink = sink_failing(alloc, writes, most).ok()?;
     let all = emit_all(&mut sink).is_ok();
     let kept = sink.written() == bytes;
@@ -163,18 +165,12 @@ fn is_emitted(alloc: Global, writes: &[u64], most: u32, done: bool, bytes: &[u8]
     Some(all == done && kept && again && sink.refused() == 0)
 }
 
-fn are_emitted(alloc: Global) -> bool {
-    for &(writes, most, done, bytes) in EMITTED {
-        if is_emitted(alloc, writes, most, done, bytes) != Some(true) {
-            return false;
-        }
-    }
-    true
-}
-
 #[test]
 fn memory_keeps_streams(rt: HostRuntime) {
-    assert!(rt; are_emitted(rt.alloc()));
+    for row in EMITTED {
+        let met = is_emitted(rt.alloc(), row);
+        assert!(rt; met == Some(true));
+    }
 }
 
 // A folder of one file, of which the first three reads fail.
@@ -239,18 +235,12 @@ fn has_message(alloc: Global, fault: ReadFault, message: &str) -> Option<bool> {
     Some(text.as_str() == message)
 }
 
-fn have_messages(alloc: Global) -> bool {
-    for &(fault, message) in MESSAGES {
-        if has_message(alloc, fault, message) != Some(true) {
-            return false;
-        }
-    }
-    true
-}
-
 #[test]
 fn read_faults_have_messages(rt: HostRuntime) {
-    assert!(rt; have_messages(rt.alloc()));
+    let alloc = rt.alloc();
+    assert!(rt;
+        MESSAGES.iter().all(|&(fault, message)| has_message(alloc, fault, message) == Some(true))
+    );
 }
 
 // Prints so many pieces of 40,000 bytes, and writes out what waits.
@@ -265,9 +255,11 @@ fn print_pieces<S: Sink>(alloc: Global, sink: &mut S, count: u32) -> Option<bool
     Some(buffer.flush(sink).is_ok())
 }
 
-// Writes that fail, a count of pieces, whether all are written out, and how many bytes are. A block holds one of these pieces, so the
-// second write goes out with the last flush.
-const GATHERED: &[(&[u64], u32, bool, usize)] = &[
+// Writes that fail, a count of pieces, whether all are written out, and how many bytes are.
+type Gathered = (&'static [u64], u32, bool, usize);
+
+// A block holds one of these pieces, so the second write goes out with the last flush.
+const GATHERED: &[Gathered] = &[
     (&[], 0, true, 0),
     (&[], 2, true, 80_000),
     (&[0], 1, false, 0),
@@ -275,29 +267,15 @@ const GATHERED: &[(&[u64], u32, bool, usize)] = &[
     (&[1], 2, false, 40_000),
 ];
 
-// Whether so many pieces are all written out, or not, and how many bytes are.
-fn is_gathered(
-    alloc: Global,
-    writes: &[u64],
-    count: u32,
-    done: bool,
-    written: usize,
-) -> Option<bool> {
+fn is_gathered(alloc: Global, &(writes, count, done, written): &Gathered) -> Option<bool> {
     let mut sink = sink_failing(alloc, writes, 65_536).ok()?;
     let all = print_pieces(alloc, &mut sink, count)?;
     Some(all == done && sink.written().len() == written)
 }
 
-fn are_gathered(alloc: Global) -> bool {
-    for &(writes, count, done, written) in GATHERED {
-        if is_gathered(alloc, writes, count, done, written) != Some(true) {
-            return false;
-        }
-    }
-    true
-}
-
 #[test]
 fn pieces_are_gathered(rt: HostRuntime) {
-    assert!(rt; are_gathered(rt.alloc()));
+    for row in GATHERED {
+        assert!(rt; is_gathered(rt.alloc(), row) == Some(true));
+    }
 }

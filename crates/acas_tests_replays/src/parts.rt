@@ -12,10 +12,13 @@ use std::alloc::Global;
 /// The radius of its puck is 500 ft.
 pub fn model_with(alloc: Global, words: &str) -> Option<Model> {
     let (horizon, half) = words.split_once(' ')?;
-    let recipe = format!(in alloc;
-        "c\nhorizon = 1 => horizon = {horizon}\nhalf_height = 100 => half_height = {half}"
-    ).ok()?;
-    model_of(alloc, recipe.as_str())
+    let pieces = [
+        "c\nhorizon = 1 => horizon = ",
+        horizon,
+        "\nhalf_height = 100 => half_height = ",
+        half,
+    ];
+    model_of(alloc, pieces.join(alloc, "").ok()?.as_str())
 }
 
 // Keeps the advice at a place of a table's advices, one layer after the other.
@@ -47,27 +50,56 @@ pub fn advices_of(alloc: Global, model: &Model, digits: &str) -> Option<Advices>
     Some(advices)
 }
 
-/// An encounter: its start by the name of the present advisory, the range, the closing speed, the altitude in ft, the own and the
-/// intruder's rate; and the items of both lists.
-pub fn encounter_of(
-    alloc: Global,
-    model: &Model,
-    start: &str,
-    own: &str,
-    intruder: &str,
-) -> Option<Encounter>
+/// The words of an encounter: its start by the name of the present advisory, the range, the closing speed, the altitude in ft, the own
+/// and the intruder's rate; and the items of both lists.
+#[derive(Clone, Copy)]
+pub struct Encountered<'a> {
+    pub start: &'a str,
+    pub own: &'a str,
+    pub intruder: &'a str,
+}
+
+// What stands before each word of a start.
+const BEFORE_WORDS: [&str; 6] = [
+    "version = 1\nadvisory = \"",
+    "\"\nrange = ",
+    "\nclosing = ",
+    "\naltitude = ",
+    "\nown = ",
+    "\nintruder = ",
+];
+
+// The text of an encounter up to its lists.
+fn start_text(alloc: Global, start: &str) -> Option<String> {
+    let mut text = String::new(alloc);
+    let mut words = start.split_whitespace();
+    for before in BEFORE_WORDS {
+        let word = words.next()?;
+        text.push_str(before).ok()?;
+        text.push_str(word).ok()?;
+    }
+    Some(text)
+}
+
+// The text of the encounter of these words.
+fn text_of(alloc: Global, words: &Encountered) -> Option<String> {
+    let start = start_text(alloc, words.start)?;
+    let pieces = [
+        start.as_str(),
+        "\nown_accel = [",
+        words.own,
+        "]\nintruder_accel = [",
+        words.intruder,
+        "]\n",
+    ];
+    pieces.join(alloc, "").ok()
+}
+
+/// The encounter of these words.
+pub fn encounter_of(alloc: Global, model: &Model, words: &Encountered) -> Option<Encounter>
     ensures { IfSome result (IsEncounterOf model.now) }
 {
-    let mut words = start.split_whitespace();
-    let advisory = words.next()?;
-    let mut text = format!(in alloc;
-        "version = 1\nadvisory = \"{advisory}\"\nown_accel = [{own}]\nintruder_accel = [{intruder}]\n"
-    ).ok()?;
-    for key in ["range", "closing", "altitude", "own", "intruder"] {
-        let value = words.next()?;
-        let line = format!(in alloc; "{key} = {value}\n").ok()?;
-        text.push_str(line.as_str()).ok()?;
-    }
+    let text = text_of(alloc, words)?;
     match read_encounter(alloc, model, text.as_bytes()) {
         Ok(encounter) => Some(encounter),
         Err(_) => None,

@@ -1,7 +1,7 @@
 //! Whole replays.
-use crate::rows::printed;
+use crate::rows::{row_replayed, sink_with};
 use acas_print::PrintFault;
-use std::test::Fail;
+use std::alloc::Global;
 
 // A second that is in contact only between its ends, and then one that is not.
 const WORKED: &str = r"1 100 : 111122220000000000000000 : clear 500 500 101 240 0 : -480, 0 : 0, 0
@@ -143,32 +143,41 @@ fn last_count(lines: &str) -> Option<u32> {
     last.parse::<u32>().ok()
 }
 
-#[test]
-fn replays_have_their_lines(rt: HostRuntime) -> Result<(), Fail> {
-    let alloc = rt.alloc();
-    for rows in [WORKED, LAYERS, VERTICES, CONTACTS] {
-        for case in rows.split("\n\n") {
-            let (row, want) = case.split_once("\n").ok_or("a row")?;
-            for most in [1, 100_000] {
-                let got = printed(alloc, row, Vec::new(alloc), most).ok_or("parts")?;
-                assert_eq!(rt; got.answer.ok(), last_count(want), "{row}");
-                assert!(rt; has_lines(&got.text, want), "{row}");
-            }
-        }
-    }
-    Ok(())
+// Whether a row is replayed with these lines, and with the count with which they end, to a sink that takes so many bytes a write.
+fn has_replay(alloc: Global, case: &str, most: u32) -> Option<bool> {
+    let (row, want) = case.split_once("\n")?;
+    let count = last_count(want)?;
+    let mut sink = sink_with(alloc, &[], most)?;
+    let answer = row_replayed(alloc, row, &mut sink);
+    Some(answer == Some(Ok(count)) && has_lines(sink.written(), want))
 }
 
 #[test]
-fn a_failing_sink_is_named(rt: HostRuntime) -> Result<(), Fail> {
-    let alloc = rt.alloc();
-    let row = "1 100 : 000000000000000000000000 : clear 500 500 0 0 0 : 0 : 0";
-    for (failing, most, want) in [(0, 100, 0), (1, 10, 10), (2, 30, 60)] {
-        let mut writes = Vec::new(alloc);
-        writes.push(failing)?;
-        let got = printed(alloc, row, writes, most).ok_or("parts")?;
-        assert!(rt; got.answer == Err(PrintFault::Sink));
-        assert_eq!(rt; got.text.len(), want);
+fn replays_have_their_lines(rt: HostRuntime) {
+    for rows in [WORKED, LAYERS, VERTICES, CONTACTS] {
+        for case in rows.split("\n\n") {
+            for most in [1, 100_000] {
+                assert!(rt; has_replay(rt.alloc(), case, most) == Some(true), "{case}");
+            }
+        }
     }
-    Ok(())
+}
+
+const FAILING: &str = "1 100 : 000000000000000000000000 : clear 500 500 0 0 0 : 0 : 0";
+
+// Whether the replay ends with a failed sink, to which so many bytes are written, where a write fails.
+fn fails(alloc: Global, failing: u64, most: u32, count: usize) -> Option<bool> {
+    let mut sink = sink_with(alloc, &[failing], most)?;
+    let answer = row_replayed(alloc, FAILING, &mut sink);
+    Some(answer == Some(Err(PrintFault::Sink)) && sink.written().len() == count)
+}
+
+#[test]
+fn a_failing_sink_is_named(rt: HostRuntime) {
+    for (failing, most, count) in [(0, 100, 0), (1, 10, 10), (2, 30, 60)] {
+        assert!(rt;
+            fails(rt.alloc(), failing, most, count) == Some(true),
+            "{failing}"
+        );
+    }
 }

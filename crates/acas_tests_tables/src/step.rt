@@ -179,10 +179,7 @@ fn has_ending(alloc: Global, vertex: u32, cost: Option<i64>) -> Option<bool> {
 #[test]
 fn contact_costs_at_the_end(rt: HostRuntime) {
     for (vertex, cost) in COSTS {
-        assert!(rt;
-            has_ending(rt.alloc(), vertex, cost) == Some(true),
-            "{vertex}"
-        );
+        assert!(rt; has_ending(rt.alloc(), vertex, cost) == Some(true));
     }
 }
 
@@ -365,9 +362,7 @@ const LAYERS: [(&str, &[Pair]); 3] = [
 #[test]
 fn stencils_give_the_plain_step(rt: HostRuntime) {
     for (text, below) in LAYERS {
-        assert!(rt;
-            gives_the_plain_step(rt.alloc(), text, below) == Some(true),
-            "{text}"
-        );
+        let met = gives_the_plain_step(rt.alloc(), text, below);
+        assert!(rt; met == Some(true), "{text}");
     }
 }

@@ -50,9 +50,7 @@ fn has_entry(
 #[test]
 fn entries_are_worked_out(rt: HostRuntime) {
     for (text, n, state, entry, backups) in ENTRIES {
-        assert!(rt;
-            has_entry(rt.alloc(), text, n, state, entry, backups) == Some(true),
-            "{n} {state}"
-        );
+        let met = has_entry(rt.alloc(), text, n, state, entry, backups);
+        assert!(rt; met == Some(true), "{n} {state}");
     }
 }

@@ -144,10 +144,7 @@ fn is_read_back(alloc: Global, is_second: bool, most: u32) -> Option<bool> {
 #[test]
 fn tables_are_read_as_they_were_written(rt: HostRuntime) {
     for (is_second, most) in READINGS {
-        assert!(rt;
-            is_read_back(rt.alloc(), is_second, most) == Some(true),
-            "{most}"
-        );
+        assert!(rt; is_read_back(rt.alloc(), is_second, most) == Some(true));
     }
 }
 

@@ -140,17 +140,14 @@ fn wholes_have_faults(alloc: Global, document: &Table) -> bool {
     true
 }
 
-const TOO_SHORT: DocKind = DocKind::OutOfRange {
-    value: 3,
-    least: 4,
-    greatest: 9,
-};
-
-const TOO_LONG: DocKind = DocKind::OutOfRange {
-    value: 3,
-    least: 0,
-    greatest: 2,
-};
+// What is said of a list of three where another number of items is wanted.
+fn wrong_length(least: i64, greatest: i64) -> DocKind {
+    DocKind::OutOfRange {
+        value: 3,
+        least,
+        greatest,
+    }
+}
 
 fn faults_are_named(alloc: Global, document: &Table) -> [bool; 5] {
     let kind = DocKind::WrongKind;
@@ -160,12 +157,12 @@ fn faults_are_named(alloc: Global, document: &Table) -> [bool; 5] {
         has_fault(
             list(alloc, document, b"a", "list", 4, 9),
             "a.list",
-            TOO_SHORT,
+            wrong_length(4, 9),
         ),
         has_fault(
             list(alloc, document, b"a", "list", 0, 2),
             "a.list",
-            TOO_LONG,
+            wrong_length(0, 2),
         ),
         has_fault::<()>(
             Err(fault_at(alloc, b"a.b", "c", DocKind::Missing)),
@@ -205,7 +202,14 @@ fn keys_and_items_have_paths(rt: HostRuntime) {
 }
 
 // The path of a table, its text, its known keys, and the unknown key that is named, if one is.
-const KEYS: &[(&[u8], &str, &str, Option<&str>)] = &[
+type Keys = (
+    &'static [u8],
+    &'static str,
+    &'static str,
+    Option<&'static str>,
+);
+
+const KEYS: &[Keys] = &[
     (b"t", "b = 1\na = 1\n", "a", Some("t.b")),
     (b"t", "z = 1\nc = 1\nb = 1\na = 1\n", "a z", Some("t.b")),
     (b"t", "\"b c\" = 1\na = 1\n", "b c a", Some("t.b c")),
@@ -216,13 +220,7 @@ const KEYS: &[(&[u8], &str, &str, Option<&str>)] = &[
     (b"", "b = 1\na = 1\n", "b", Some("a")),
 ];
 
-fn is_named(
-    alloc: Global,
-    path: &[u8],
-    text: &str,
-    known: &str,
-    key: Option<&str>,
-) -> Option<bool> {
+fn is_named(alloc: Global, &(path, text, known, key): &Keys) -> Option<bool> {
     let keys: Table = toml::table_from_str(alloc, text).ok()?;
     let answer = only_keys(alloc, &keys, path, known);
     match key {
@@ -231,16 +229,8 @@ fn is_named(
     }
 }
 
-fn are_named(alloc: Global) -> bool {
-    for &(path, text, known, key) in KEYS {
-        if is_named(alloc, path, text, known, key) != Some(true) {
-            return false;
-        }
-    }
-    true
-}
-
 #[test]
 fn the_least_unknown_key_is_named(rt: HostRuntime) {
-    assert!(rt; are_named(rt.alloc()));
+    let alloc = rt.alloc();
+    assert!(rt; KEYS.iter().all(|row| is_named(alloc, row) == Some(true)));
 }

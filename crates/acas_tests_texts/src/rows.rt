@@ -73,22 +73,18 @@ const REFUSED: &[(Kind, &[u8], &str)] = &[
     (Kind::Encounter, b"version = \xFF\n", "not toml"),
 ];
 
-fn are_refused(alloc: Global) -> bool {
-    for &(kind, text, want) in REFUSED {
-        if is_said(alloc, kind, text, want) != Some(true) {
-            return false;
-        }
-    }
-    true
-}
-
 #[test]
 fn other_texts_are_refused(rt: HostRuntime) {
-    assert!(rt; are_refused(rt.alloc()));
+    let alloc = rt.alloc();
+    assert!(rt;
+        REFUSED.iter().all(|&(kind, text, want)| is_said(alloc, kind, text, want) == Some(true))
+    );
 }
 
-// Counts of boxes that are zeros, or of seconds, and what is said of such a list.
-const LENGTHS: &[(Kind, u32, &str)] = &[
+// A count of boxes that are zeros, or of seconds, and what is said of such a list.
+type Length = (Kind, u32, &'static str);
+
+const LENGTHS: &[Length] = &[
     (Kind::Boxes, 0, "key box value 0 outside 1 to 10000"),
     (Kind::Boxes, 1, "key box[0] wrong kind"),
     (Kind::Boxes, 10_000, "key box[0] wrong kind"),
@@ -118,21 +114,17 @@ fn of_length(alloc: Global, kind: Kind, count: u32) -> Option<String> {
     }
 }
 
-fn is_said_of_length(alloc: Global, kind: Kind, count: u32, want: &str) -> Option<bool> {
+fn is_said_of_length(alloc: Global, &(kind, count, want): &Length) -> Option<bool> {
     let text = of_length(alloc, kind, count)?;
     is_said(alloc, kind, text.as_bytes(), want)
 }
 
-fn lengths_are_bounded(alloc: Global) -> bool {
-    for &(kind, count, want) in LENGTHS {
-        if is_said_of_length(alloc, kind, count, want) != Some(true) {
-            return false;
-        }
-    }
-    true
-}
-
 #[test]
 fn lists_have_a_greatest_length(rt: HostRuntime) {
-    assert!(rt; lengths_are_bounded(rt.alloc()));
+    let alloc = rt.alloc();
+    assert!(rt;
+        LENGTHS
+            .iter()
+            .all(|row| is_said_of_length(alloc, row) == Some(true))
+    );
 }

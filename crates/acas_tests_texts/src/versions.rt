@@ -29,19 +29,11 @@ fn says_delay(alloc: Global, change: &str, delay: i64) -> Option<bool> {
     Some(model.delay() == delay && says_same(&model))
 }
 
-fn delays_are_said(alloc: Global) -> bool {
-    for &(change, delay) in SAID {
-        if says_delay(alloc, change, delay) != Some(true) {
-            return false;
-        }
-    }
-    true
-}
-
 #[test]
 fn the_second_version_says_the_delay(rt: HostRuntime) {
+    let alloc = rt.alloc();
     assert!(rt; DELAY_VERSION == 2);
-    assert!(rt; delays_are_said(rt.alloc()));
+    assert!(rt; SAID.iter().all(|&(change, delay)| says_delay(alloc, change, delay) == Some(true)));
 }
 
 /// Of the plain text.
