@@ -5,7 +5,7 @@ use std::alloc::Global;
 use std::process::Abort;
 use toml::{Table, Value};
 
-// The keys of a case, which the crate's own lines explain.
+// The keys of a case, which `acas_rows` explains.
 const KEYS: [&str; 28] = [
     "name",
     "rows",

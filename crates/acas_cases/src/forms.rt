@@ -35,7 +35,7 @@ pub fn form_rows(rt: &impl Abort, alloc: Global, files: &[File], sort: &str) -> 
     all
 }
 
-// The lists at a key of the text above.
+// The lists at a key of the text of the forms.
 fn lists(rt: &impl Abort, alloc: Global, key: &str) -> Vec<Vec<String>> {
     let keys = toml::table_from_str(alloc, FORMS).expect(rt, "the forms are no TOML");
     let bare = Case {

@@ -82,14 +82,14 @@ fn push(bytes: &mut Vec<u8>, piece: &[u8]) -> Option<()> {
     bytes.extend_from_slice(piece).ok()
 }
 
-// A byte as often as it takes to make so many bytes as long as a text says.
+// Puts a byte behind as often as it takes until there are so many bytes.
 fn pad(bytes: &mut Vec<u8>, rest: &str) -> Option<()> {
     let (byte, length) = rest.split_once(' ')?;
     let length = number(length)?.max(bytes.len());
     bytes.resize(length, byte.parse::<u8>().ok()?).ok()
 }
 
-// The table that is compiled of a model.
+// Puts behind the table that is compiled of a model.
 fn push_compiled(rt: &impl Abort, alloc: Global, model: &[u8], bytes: &mut Vec<u8>) -> Option<()> {
     let name = String::from_str(alloc, "m").expect(rt, "memory");
     let model = model.to_vec(alloc).expect(rt, "memory");
@@ -108,7 +108,7 @@ fn push_compiled(rt: &impl Abort, alloc: Global, model: &[u8], bytes: &mut Vec<u
     }
 }
 
-// A text with its first `old` replaced, which has to stand in it, as `old => new` says.
+// Replaces the first `old` of a text, which has to stand in it, as `old => new` says.
 fn replace(alloc: Global, bytes: &mut Vec<u8>, rest: &str) -> Option<()> {
     let text = std::str::from_utf8(bytes).ok()?;
     *bytes = changed(alloc, text, rest)?.into_bytes();
@@ -123,7 +123,7 @@ fn cut(bytes: &mut Vec<u8>, length: usize) -> Option<()> {
     Some(())
 }
 
-// The bytes in hex put in places a stride apart.
+// Puts bytes in hex in places a stride apart.
 fn put_digits(
     alloc: Global,
     bytes: &mut [u8],
@@ -134,7 +134,7 @@ fn put_digits(
     put(bytes, at, stride, &hex::decode(alloc, digits).ok()?)
 }
 
-// The bytes of a piece put in places a stride apart.
+// Puts the bytes of a piece in places a stride apart.
 fn put(bytes: &mut [u8], at: usize, stride: usize, piece: &[u8]) -> Option<()> {
     let mut place = at;
     for byte in piece {
@@ -144,7 +144,7 @@ fn put(bytes: &mut [u8], at: usize, stride: usize, piece: &[u8]) -> Option<()> {
     Some(())
 }
 
-// The byte at a place changed in its bits that a number has.
+// Changes the byte at a place in the bits that a number has.
 fn flip(bytes: &mut [u8], rest: &str) -> Option<()> {
     let (at, bits) = rest.split_once(' ')?;
     let bits = bits.parse::<u8>().ok()?;
@@ -174,7 +174,7 @@ fn entry_place(table: &[u8], layer: usize, state: usize) -> Option<usize> {
     Some(before.saturating_add(HEADER))
 }
 
-// A table with the upper value, the lower value or the advice of an entry changed, or the advices from an entry on.
+// Changes the upper value, the lower value or the advice of an entry of a table, or the advices from an entry on.
 fn set_part(alloc: Global, table: &mut [u8], part: &str, rest: &str) -> Option<()> {
     let (layer, rest) = rest.split_once(' ')?;
     let (state, value) = rest.split_once(' ')?;
@@ -196,7 +196,7 @@ fn put_value(table: &mut [u8], at: usize, value: &str) -> Option<()> {
     put(table, at, 1, &value.parse::<i64>().ok()?.to_le_bytes())
 }
 
-// A table with these values in each entry.
+// Puts these values in each entry of a table.
 fn set_values(table: &mut [u8], rest: &str) -> Option<()> {
     let (upper, lower) = rest.split_once(' ')?;
     let horizon = usize::from(*table.get(56)?);
@@ -211,7 +211,7 @@ fn set_values(table: &mut [u8], rest: &str) -> Option<()> {
     Some(())
 }
 
-// A table of version 2 made one of version 1: the same entries, and one digest behind them all.
+// Makes a table of version 2 one of version 1: the same entries, and one digest behind them all.
 fn make_whole(alloc: Global, table: &mut Vec<u8>) -> Option<()> {
     let mut all = Vec::new(alloc);
     let is_done = push_whole(table, &mut all);
@@ -230,7 +230,7 @@ fn push_whole(table: &[u8], all: &mut Vec<u8>) -> Option<()> {
     push(all, &digest)
 }
 
-// A table with its digests made anew, each behind so many entries and over what stands before it: the header,
+// Makes the digests of a table anew, each behind so many entries and over what stands before it: the header,
 // or the digest before, and the entries between.
 fn seal(table: &mut [u8], count: usize) -> Option<()> {
     let entries = count.saturating_mul(ENTRY);

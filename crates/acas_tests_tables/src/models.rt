@@ -37,8 +37,7 @@ const FIVE: Pair = Pair {
 
 /// The last layer of `NOISY` and of those like it: under each of two advisories, four vertices at each altitude.
 pub const LAST_OF_NOISY: [Pair; 16] = [
-    ONE, ONE, ONE, ONE, NONE, NONE, NONE, NONE, //
-    ONE, ONE, ONE, ONE, NONE, NONE, NONE, NONE,
+    ONE, ONE, ONE, ONE, NONE, NONE, NONE, NONE, ONE, ONE, ONE, ONE, NONE, NONE, NONE, NONE,
 ];
 
 /// The last layer of `FOUR`: under each of four advisories, six vertices at each altitude.
