@@ -35,24 +35,23 @@ pub fn check<M: LayerMeans, F: Folder, O: Sink>(
     ensures output { O.faults out.old ≤ O.faults out.new }
 {
     let found = read_model_file(alloc, model, folder)?;
-    let mut line = Line::make(alloc)?;
     read_table_file::<M, F>(alloc, &found, table, folder)?;
-    write_line(&mut line, found.model.grid());
-    match emit(out, line.bytes()) {
+    match emit(out, accepted_line(found.model.grid()).bytes()) {
         Ok(()) => Ok(()),
         Err(_) => Err(Cause::Output),
     }
 }
 
-// Makes the line of an accepted table over a grid.
+// The line of an accepted table over a grid.
 #[tactic(auto, unfolding(crate::specs::AcceptedLine::accepted_line))]
-fn write_line(line: &mut Line, grid: &Grid)
-    requires { line.old ≡ [] }
-    ensures { line.new ≡ accepted_line grid.now }
+fn accepted_line(grid: &Grid) -> Line
+    ensures { result ≡ accepted_line grid.now }
 {
-    put_text(line, "accepted layers ");
-    put_count(line, u64::from(grid.horizon) + 1);
-    put_text(line, " states ");
-    put_count(line, u64::from(grid.states()));
-    put_text(line, "\n");
+    let mut line = Line::new();
+    put_text(&mut line, "accepted layers ");
+    put_count(&mut line, u64::from(grid.horizon) + 1);
+    put_text(&mut line, " states ");
+    put_count(&mut line, u64::from(grid.states()));
+    put_text(&mut line, "\n");
+    line
 }

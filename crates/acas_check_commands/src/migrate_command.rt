@@ -13,7 +13,6 @@ use acas_outside::{Folder, Sink};
 use acas_table_file::read_table_layers;
 use acas_table_rows::{print_stored_line, store_layers};
 use acas_table_writer::TableWriter;
-use acas_units::Line;
 use std::alloc::Global;
 
 /// Checks a table of a model, of either version, stores its values and advices under another name in version 2, and
@@ -40,12 +39,11 @@ pub fn migrate<M: LayerMeans, F: Folder, O: Sink>(
     let found = read_model_file(alloc, model, folder)?;
     let layers = read_table_layers::<M, F>(alloc, &found, table, folder)?;
     let writer = TableWriter::new(alloc, &found.model, &found.digest)?;
-    let mut line = Line::make(alloc)?;
     let length = match store_layers(&found, &layers, writer, folder, target) {
         Ok(length) => length,
         Err(_) => return Err(Cause::Folder),
     };
-    match print_stored_line(out, &mut line, "migrated", found.model.grid(), length) {
+    match print_stored_line(out, "migrated", found.model.grid(), length) {
         Ok(()) => Ok(()),
         Err(_) => Err(Cause::Output),
     }

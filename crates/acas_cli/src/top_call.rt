@@ -17,7 +17,7 @@ use crate::work::Work;
 use acas_audit_commands::audit;
 use acas_check_commands::{check, migrate};
 use acas_cli_words::{Command, command_of};
-use acas_command::{Cause, Status, cause_of, cause_of_report, report, report_memory, report_words};
+use acas_command::{Cause, Status, cause_of, cause_of_report, report, report_words};
 use acas_encounter_commands::replay;
 use acas_manoeuvre::Manoeuvre;
 use acas_manoeuvre_commands::manoeuvre;
@@ -27,7 +27,6 @@ use acas_risk_commands::risk;
 use acas_safeable_commands::safeable;
 use acas_step_columns::StencilMeans;
 use acas_table_commands::{compile, values};
-use acas_units::Line;
 use std::alloc::Global;
 
 /// Does all that the program does, for the words after its name: the command that they are the form of, over this
@@ -77,12 +76,8 @@ pub fn run<F: Folder, O: Sink, E: Sink>(
         report_words(err);
         return status_of(Cause::Words);
     };
-    let Ok(mut line) = Line::make(alloc) else {
-        report_memory(err);
-        return status_of(Cause::Memory);
-    };
     let cause = answer(alloc, &command, folder, out, work);
-    report(words, &cause, &mut line, err);
+    report(words, &cause, err);
     status_of(cause)
 }
 

@@ -1,7 +1,7 @@
 //! The line on the error output. Writing it takes no memory.
 ghost use Rattle.std.specs.Prelude.{◌≡◌, ◌≤◌, ◌++◌, ◌∷◌, [], ℕ, List, map, string_bytes, slice_index_or};
 ghost use Rattle.acas_command.specs.ErrorLine.{AppendsLine, Reports, name_of};
-ghost use Rattle.acas_command.specs.declared.status.Cause.TheVariants.{Memory, Words};
+ghost use Rattle.acas_command.specs.declared.status.Cause.TheVariants.{Words};
 ghost use Rattle.acas_command.specs.LineParts.{fault_head, fault_subject, input_head, input_subject, line_head, line_of_parts, line_subject, line_tail};
 
 use crate::fault_text::write_tail;
@@ -11,8 +11,8 @@ use acas_model::ModelFault;
 use acas_outside::{Sink, emit_parts};
 use acas_units::Line;
 
-/// Writes the line of a run whose output is not all out, with a buffer for its numbers.
-pub fn report<E: Sink>(words: &[String], cause: &Cause, line: &mut Line, err: &mut E)
+/// Writes the line of a run whose output is not all out.
+pub fn report<E: Sink>(words: &[String], cause: &Cause, err: &mut E)
     ensures line { Reports cause.now (map string_bytes words.now)
         (E.written err.old) (E.written err.new) (E.faults err.old) (E.faults err.new) }
     ensures faults { E.faults err.old ≤ E.faults err.new }
@@ -20,7 +20,8 @@ pub fn report<E: Sink>(words: &[String], cause: &Cause, line: &mut Line, err: &m
     if let Cause::Done | Cause::Reported = cause {
         return;
     }
-    write_tail(line, cause);
+    let mut line = Line::new();
+    write_tail(&mut line, cause);
     emit_line(
         err,
         line_head(cause).as_bytes(),
@@ -36,15 +37,6 @@ pub fn report_words<E: Sink>(err: &mut E)
     ensures faults { E.faults err.old ≤ E.faults err.new }
 {
     emit_line(err, b"words refused", b"", b"");
-}
-
-/// Writes the line of a run that found no memory for a buffer, whatever the words are.
-pub fn report_memory<E: Sink>(err: &mut E)
-    ensures line { (words : List (List ℕ)) → Reports Memory words
-        (E.written err.old) (E.written err.new) (E.faults err.old) (E.faults err.new) }
-    ensures faults { E.faults err.old ≤ E.faults err.new }
-{
-    emit_line(err, b"out of memory", b"", b"");
 }
 
 // Writes a line of three parts, which stand at one lifetime here, or its first part where the output fails.

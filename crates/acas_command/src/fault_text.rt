@@ -15,9 +15,9 @@ use acas_units::{GREATEST_ENTRIES, GREATEST_TOTAL_WEIGHT, Line};
 
 /// Makes a line of what is printed of a cause behind the name or the key that it is about.
 pub(crate) fn write_tail(line: &mut Line, cause: &Cause)
+    requires { line.old ≡ [] }
     ensures { line.new ≡ line_tail cause.now }
 {
-    line.clear();
     match cause {
         Cause::Model(fault) => write_fault_tail(line, fault),
         Cause::Table(refusal) => write_refusal(line, refusal),

@@ -12,7 +12,7 @@ mod text_file;
 
 pub use acas_input::InputFault;
 pub use acas_table_text::TableRefusal;
-pub use error_line::{report, report_memory, report_words};
+pub use error_line::{report, report_words};
 pub use line_fields::{put_count, put_millionths, put_text, put_wide_millionths};
 pub use model_file::{ModelFile, read_model_file};
 pub use state_fields::{

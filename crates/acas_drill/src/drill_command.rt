@@ -31,7 +31,7 @@ pub fn drill<M: LayerMeans, O: Sink>(alloc: Global, number: u32, out: &mut O) ->
     ensures ends { EndsDrill (report_ended result) }
     ensures output { O.faults out.old ≤ O.faults out.new }
 {
-    let mut line = Line::make(alloc)?;
+    let mut line = Line::new();
     let reported = make_lines::<M>(alloc, number, &mut line)?;
     match emit(out, line.bytes()) {
         Ok(()) => Ok(reported),

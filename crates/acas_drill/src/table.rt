@@ -17,7 +17,7 @@ use acas_means::LayerMeans;
 use acas_outside::MemoryFolder;
 use acas_plane::Turned;
 use acas_step_choices::Backups;
-use acas_sweep::SweepRoom;
+use acas_sweep::Sweep;
 use acas_table_rows::store_swept;
 use acas_table_writer::TableWriter;
 use std::alloc::{AllocError, Global};
@@ -44,8 +44,7 @@ pub(crate) fn drill_table<M: LayerMeans>(
     ensures tabled { IfOk result (λ table.
         AreTabled found.now.model (compiled found.now.model) table.advices) }
 {
-    let means = M::make(alloc, &found.model)?;
-    let mut room = SweepRoom::make(alloc, &found.model)?;
+    let mut sweep = Sweep::<M>::make(alloc, &found.model)?;
     let writer = TableWriter::new(alloc, &found.model, &found.digest)?;
     let mut folder = new_folder(alloc)?;
     // Nobody asks how much work a drill does.
@@ -53,8 +52,7 @@ pub(crate) fn drill_table<M: LayerMeans>(
     let mut turned = Turned::new();
     let Ok(bytes) = store_swept(
         found,
-        &means,
-        &mut room,
+        &mut sweep,
         writer,
         &mut folder,
         TABLE,

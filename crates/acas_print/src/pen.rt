@@ -20,9 +20,11 @@ impl Pen {
     pub fn make(alloc: Global) -> Result<Pen, AllocError>
         ensures { IfOk result (λ pen. pen.buffer ≡ []) }
     {
-        let line = Line::make(alloc)?;
         let buffer = PrintBuffer::make(alloc)?;
-        Ok(Pen { line, buffer })
+        Ok(Pen {
+            line: Line::new(),
+            buffer,
+        })
     }
 
     /// Prints the line, and writes out all that waits.

@@ -15,6 +15,6 @@ pub use acas_layers::Layers;
 pub use ending::terminal_entry;
 pub use laws::{advices_are_advisories, backups_are_few};
 pub use order::vertex_after;
-pub use room::{SweepRoom, sweep_to};
+pub use room::{Sweep, SweepRoom, sweep_to};
 pub use sink::{LayerFailed, LayerSink};
 pub use stream::{SweepFault, sweep};

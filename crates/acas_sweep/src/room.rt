@@ -6,7 +6,7 @@ ghost use Rattle.acas_sweep.specs.Sweeping.{HandsTable, RaisesCounts};
 
 use crate::laws::backups_are_few;
 use crate::sink::LayerSink;
-use crate::stream::{SweepFault, sweep};
+use crate::stream::{self, SweepFault};
 use acas_base::Model;
 use acas_means::LayerMeans;
 use acas_plane::{PlaneBlock, Turned};
@@ -32,18 +32,36 @@ impl SweepRoom {
     }
 }
 
-/// Hands all layers of the compiled table of a model to a sink, by what forms the model's means. It takes no memory. It counts the backups
-/// and the turned pairs of the sweep.
+/// All that a sweep of a model takes: what forms the means, and the room.
+#[derive(Drop)]
+pub struct Sweep<M: LayerMeans> {
+    pub means: M,
+    pub room: SweepRoom,
+}
+
+impl<M: LayerMeans> Sweep<M> {
+    /// A sweep of a model that is yet to be done. It fails only for want of memory.
+    pub fn make(alloc: Global, model: &Model) -> Result<Sweep<M>, AllocError>
+        ensures fits { IfOk result (λ made. M.fits made.means model.now) }
+        ensures room { IfOk result (λ made. IsRoomFor model.now made.room) }
+    {
+        let means = M::make(alloc, model)?;
+        let room = SweepRoom::make(alloc, model)?;
+        Ok(Sweep { means, room })
+    }
+}
+
+/// Hands all layers of the compiled table of a model to a sink. It takes no memory. It counts the backups and the turned pairs of the
+/// sweep.
 pub fn sweep_to<M: LayerMeans, S: LayerSink>(
     model: &Model,
-    layer_means: &M,
-    room: &mut SweepRoom,
+    sweep: &mut Sweep<M>,
     rows: &mut S,
     backups: &mut Backups,
     turned: &mut Turned,
 ) -> Result<(), SweepFault>
-    requires fits { M.fits layer_means.now model.now }
-    requires room { IsRoomFor model.now room.old }
+    requires fits { M.fits sweep.old.means model.now }
+    requires room { IsRoomFor model.now sweep.old.room }
     requires width { S.width rows.old ≡ states model.now.grid }
     requires left { S.left rows.old ≡ model.now.grid.horizon + 1 }
     requires backups { backups.old ≤ 2 ^ 63 }
@@ -54,9 +72,10 @@ pub fn sweep_to<M: LayerMeans, S: LayerSink>(
     // By the model's limits a table takes fewer backups, and has fewer entries, than the counters still hold.
     let _ = model.grid();
     backups_are_few();
-    sweep(
+    let Sweep { means, room } = sweep;
+    stream::sweep(
         model,
-        layer_means,
+        means,
         &mut room.block,
         &mut room.advice,
         rows,

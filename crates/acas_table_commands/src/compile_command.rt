@@ -11,10 +11,9 @@ use acas_means::LayerMeans;
 use acas_outside::{Folder, Sink};
 use acas_plane::Turned;
 use acas_step_choices::Backups;
-use acas_sweep::SweepRoom;
+use acas_sweep::Sweep;
 use acas_table_rows::{print_stored_line, store_swept};
 use acas_table_writer::TableWriter;
-use acas_units::Line;
 use std::alloc::Global;
 
 /// Stores the compiled table of a model under another name, in version 2, and then prints how large it is. It takes all
@@ -44,17 +43,15 @@ pub fn compile<M: LayerMeans, F: Folder, O: Sink>(
         turned.old turned.new }
 {
     let found = read_model_file(alloc, model, folder)?;
-    let means = M::make(alloc, &found.model)?;
-    let mut room = SweepRoom::make(alloc, &found.model)?;
+    let mut sweep = Sweep::<M>::make(alloc, &found.model)?;
     let writer = TableWriter::new(alloc, &found.model, &found.digest)?;
-    let mut line = Line::make(alloc)?;
     let length = match store_swept(
-        &found, &means, &mut room, writer, folder, table, backups, turned,
+        &found, &mut sweep, writer, folder, table, backups, turned,
     ) {
         Ok(length) => length,
         Err(_) => return Err(Cause::Folder),
     };
-    match print_stored_line(out, &mut line, "compiled", found.model.grid(), length) {
+    match print_stored_line(out, "compiled", found.model.grid(), length) {
         Ok(()) => Ok(()),
         Err(_) => Err(Cause::Output),
     }

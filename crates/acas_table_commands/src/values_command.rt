@@ -11,7 +11,7 @@ use acas_means::LayerMeans;
 use acas_outside::{Folder, Sink};
 use acas_plane::Turned;
 use acas_step_choices::Backups;
-use acas_sweep::SweepRoom;
+use acas_sweep::Sweep;
 use acas_table_lines::{Pen, print_table};
 use std::alloc::Global;
 
@@ -40,12 +40,10 @@ pub fn values<M: LayerMeans, F: Folder, O: Sink>(
 {
     let found = read_model_file(alloc, model, folder)?;
     let mut pen = Pen::make(alloc)?;
-    let means = M::make(alloc, &found.model)?;
-    let mut room = SweepRoom::make(alloc, &found.model)?;
+    let mut sweep = Sweep::<M>::make(alloc, &found.model)?;
     match print_table(
         &found.model,
-        &means,
-        &mut room,
+        &mut sweep,
         &mut pen,
         out,
         backups,

@@ -14,21 +14,20 @@ use acas_means::LayerMeans;
 use acas_outside::{Failed, Sink};
 use acas_plane::Turned;
 use acas_step_choices::Backups;
-use acas_sweep::{SweepFault, SweepRoom, sweep_to};
+use acas_sweep::{Sweep, SweepFault, sweep_to};
 
 /// Prints all lines of the compiled table of a model, with a pen that has printed nothing. It takes no memory. It counts the backups and
 /// the turned pairs of the sweep.
 pub fn print_table<M: LayerMeans, O: Sink>(
     model: &Model,
-    layer_means: &M,
-    room: &mut SweepRoom,
+    sweep: &mut Sweep<M>,
     pen: &mut Pen,
     out: &mut O,
     backups: &mut Backups,
     turned: &mut Turned,
 ) -> Result<(), Failed>
-    requires fits { M.fits layer_means.now model.now }
-    requires room { IsRoomFor model.now room.old }
+    requires fits { M.fits sweep.old.means model.now }
+    requires room { IsRoomFor model.now sweep.old.room }
     requires empty { pen.old.buffer ≡ [] }
     requires backups { backups.old ≤ 2 ^ 63 }
     requires turned { turned.old ≤ 2 ^ 63 }
@@ -47,7 +46,7 @@ pub fn print_table<M: LayerMeans, O: Sink>(
         out,
         left,
     };
-    match sweep_to(model, layer_means, room, &mut rows, backups, turned) {
+    match sweep_to(model, sweep, &mut rows, backups, turned) {
         Ok(()) => {
             pen.buffer.flush(out)?;
             Ok(())

@@ -30,10 +30,12 @@ impl Pen {
     pub fn make(alloc: Global) -> Result<Pen, AllocError>
         ensures { IfOk result (λ pen. pen.buffer ≡ []) }
     {
-        let head = Line::make(alloc)?;
-        let line = Line::make(alloc)?;
         let buffer = PrintBuffer::make(alloc)?;
-        Ok(Pen { head, line, buffer })
+        Ok(Pen {
+            head: Line::new(),
+            line: Line::new(),
+            buffer,
+        })
     }
 }
 

@@ -1,5 +1,5 @@
 //! The line of a command that stores a table.
-ghost use Rattle.std.specs.Prelude.{[], ◌≡◌, ◌≤◌, IsErr, OnOk, OnErr, length};
+ghost use Rattle.std.specs.Prelude.{◌≡◌, ◌≤◌, IsErr, OnOk, OnErr, length};
 ghost use Rattle.acas_outside.specs.Bytes.{Appends, AppendsPart};
 ghost use Rattle.acas_outside.specs.Frame.{Emits};
 ghost use Rattle.acas_table_text.specs.Shape.{shape_of};
@@ -12,17 +12,15 @@ use acas_grid::Grid;
 use acas_outside::{Failed, Sink, emit};
 use acas_units::Line;
 
-/// Prints the line that says, behind what was done, how large the stored table over a grid is, which has so many bytes. It makes the
-/// line in one that is empty, and takes no memory.
+/// Prints the line that says, behind what was done, how large the stored table over a grid is, which has so many bytes. It takes
+/// no memory.
 #[tactic(auto, unfolding(crate::specs::StoredLine::stored_line))]
 pub fn print_stored_line<O: Sink>(
     out: &mut O,
-    line: &mut Line,
     done: &str,
     grid: &Grid,
     bytes: u64,
 ) -> Result<(), Failed>
-    requires empty { line.old ≡ [] }
     requires word { length done.now ≤ 8 }
     requires bytes { bytes ≡ length_of Layered (shape_of grid.now) }
     ensures ok { OnOk result (Appends (O.written out.old) (O.written out.new) (stored_line done.now grid.now)) }
@@ -30,13 +28,14 @@ pub fn print_stored_line<O: Sink>(
         (AppendsPart (O.written out.old) (O.written out.new) (stored_line done.now grid.now)) }
     ensures frame { Emits O.Sink out.old out.new (IsErr result) }
 {
-    put_text(line, done);
-    put_text(line, " layers ");
-    put_count(line, u64::from(grid.horizon) + 1);
-    put_text(line, " states ");
-    put_count(line, u64::from(grid.states()));
-    put_text(line, " bytes ");
-    put_count(line, bytes);
-    put_text(line, "\n");
+    let mut line = Line::new();
+    put_text(&mut line, done);
+    put_text(&mut line, " layers ");
+    put_count(&mut line, u64::from(grid.horizon) + 1);
+    put_text(&mut line, " states ");
+    put_count(&mut line, u64::from(grid.states()));
+    put_text(&mut line, " bytes ");
+    put_count(&mut line, bytes);
+    put_text(&mut line, "\n");
     emit(out, line.bytes())
 }

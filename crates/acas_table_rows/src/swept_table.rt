@@ -18,7 +18,7 @@ use acas_means::LayerMeans;
 use acas_outside::{Failed, Folder};
 use acas_plane::Turned;
 use acas_step_choices::Backups;
-use acas_sweep::{SweepFault, SweepRoom, sweep_to};
+use acas_sweep::{Sweep, SweepFault, sweep_to};
 use acas_table_writer::TableWriter;
 
 /// Stores the compiled table of a model, layer by layer as the sweep goes, and answers its length. Where it fails, the
@@ -26,8 +26,7 @@ use acas_table_writer::TableWriter;
 /// turned pairs of the sweep.
 pub fn store_swept<M: LayerMeans, F: Folder>(
     found: &ModelFile,
-    layer_means: &M,
-    room: &mut SweepRoom,
+    sweep: &mut Sweep<M>,
     writer: TableWriter,
     folder: &mut F,
     name: &str,
@@ -35,8 +34,8 @@ pub fn store_swept<M: LayerMeans, F: Folder>(
     turned: &mut Turned,
 ) -> Result<u64, Failed>
     requires served { IsTrue (F.serves folder.old name.now) }
-    requires fits { M.fits layer_means.now found.now.model }
-    requires room { IsRoomFor found.now.model room.old }
+    requires fits { M.fits sweep.old.means found.now.model }
+    requires room { IsRoomFor found.now.model sweep.old.room }
     requires state { writer_state writer
         ≡ new_writer Layered found.now.digest (shape_of found.now.model.grid) }
     requires written { HasWritten writer [] }
@@ -59,8 +58,7 @@ pub fn store_swept<M: LayerMeans, F: Folder>(
     let mut begun = BegunWriter { writer };
     append_swept(
         found,
-        layer_means,
-        room,
+        sweep,
         &mut begun,
         folder,
         name,
@@ -74,8 +72,7 @@ pub fn store_swept<M: LayerMeans, F: Folder>(
 // Appends all layers, by a writer that has appended none.
 fn append_swept<M: LayerMeans, F: Folder>(
     found: &ModelFile,
-    layer_means: &M,
-    room: &mut SweepRoom,
+    sweep: &mut Sweep<M>,
     begun: &mut BegunWriter,
     folder: &mut F,
     name: &str,
@@ -84,8 +81,8 @@ fn append_swept<M: LayerMeans, F: Folder>(
 ) -> Result<(), Failed>
     requires served { IsTrue (F.serves folder.old name.now) }
     requires held { Given (F.holds folder.old) name.now (λ file. IsSome file) }
-    requires fits { M.fits layer_means.now found.now.model }
-    requires room { IsRoomFor found.now.model room.old }
+    requires fits { M.fits sweep.old.means found.now.model }
+    requires room { IsRoomFor found.now.model sweep.old.room }
     requires writing { IsCompiling found.now.digest found.now.model 0 begun.old.writer }
     requires backups { backups.old ≤ 2 ^ 63 }
     requires turned { turned.old ≤ 2 ^ 63 }
@@ -111,7 +108,7 @@ fn append_swept<M: LayerMeans, F: Folder>(
         folder,
         name,
     };
-    match sweep_to(&found.model, layer_means, room, &mut rows, backups, turned) {
+    match sweep_to(&found.model, sweep, &mut rows, backups, turned) {
         Ok(()) => Ok(()),
         Err(SweepFault::Rows) => Err(Failed),
     }

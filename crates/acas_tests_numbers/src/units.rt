@@ -92,19 +92,19 @@ fn pieces_are_written(line: &mut Line) -> bool {
 }
 
 // Whether a line is empty at first, and what is written on it stands there.
-fn on_a_line(alloc: Global) -> Option<[bool; 4]> {
-    let mut line = Line::make(alloc).ok()?;
-    Some([
+fn on_a_line(alloc: Global) -> [bool; 4] {
+    let mut line = Line::new();
+    [
         line.bytes().is_empty(),
         millionths_are_written(alloc, &mut line),
         numbers_are_written(&mut line),
         pieces_are_written(&mut line),
-    ])
+    ]
 }
 
 #[test]
 fn a_line_takes_millionths_and_numbers_and_pieces(rt: HostRuntime) {
-    assert!(rt; on_a_line(rt.alloc()) == Some([true; 4]));
+    assert!(rt; on_a_line(rt.alloc()) == [true; 4]);
 }
 
 const FEET: [(i64, i64); 4] = [(0, 0), (1, 120), (-10_000, -1_200_000), (10_000, 1_200_000)];

@@ -1,31 +1,28 @@
-//! Lines that are built without taking memory.
-ghost use Rattle.std.specs.Prelude.{◌≡◌, ◌+◌, ◌/◌, ◌^◌, ◌<◌, ◌≤◌, [], ◌++◌, length, unsigned_abs, IfOk};
+//! Lines that are built in themselves: none takes memory.
+ghost use Rattle.std.specs.Prelude.{◌≡◌, ◌+◌, ◌/◌, ◌^◌, ◌<◌, ◌≤◌, [], ◌++◌, length, unsigned_abs};
 ghost use Rattle.std.specs.Fmt.{decimal, signed_decimal};
 ghost use Rattle.acas_units.specs.Printed.{millionths_text};
 
 use crate::limits::LINE_BYTES;
 use crate::printed::last_six;
 use itoa::{Buffer, write_digits};
-use std::alloc::{AllocError, Global};
 use std::marker::Model;
 
-/// A line of at most [`LINE_BYTES`] bytes, which contracts see as the list of its bytes. All its memory is taken
-/// when it is made.
-#[derive(Drop)]
+/// A line of at most [`LINE_BYTES`] bytes, which contracts see as the list of its bytes. It has its bytes in itself.
 pub struct Line {
-    room: Vec<u8>,
+    room: [u8; LINE_BYTES],
     filled: usize,
 }
 
 impl Model for Line {
-    ghost use Rattle.std.specs.Prelude.{List, ℕ, ◌≡◌, ◌≤◌, take, vec_len};
+    ghost use Rattle.std.specs.Prelude.{List, ℕ, ◌≡◌, ◌≤◌, take, length};
     ghost use Rattle.acas_units.specs.declared.limits.TheConstants.{LINE_BYTES};
 
     ghost Value = { List ℕ };
 
-    ghost view = { λ line. take line.filled line.room.items };
+    ghost view = { λ line. take line.filled line.room };
 
-    ghost invariant = { λ line. (line.filled ≤ LINE_BYTES) × (vec_len line.room ≡ LINE_BYTES) };
+    ghost invariant = { λ line. (line.filled ≤ LINE_BYTES) × (length line.room ≡ LINE_BYTES) };
 }
 
 // How many decimal digits a number below 10,000 has.
@@ -56,14 +53,14 @@ fn digit_count(n: u64) -> usize
 }
 
 impl Line {
-    /// An empty line. Only this call takes memory.
-    pub fn make(alloc: Global) -> Result<Line, AllocError>
-        ensures { IfOk result (λ line. line ≡ []) }
+    /// An empty line.
+    pub fn new() -> Line
+        ensures { result ≡ [] }
     {
-        Ok(Line {
-            room: vec![in alloc; 0u8; LINE_BYTES]?,
+        Line {
+            room: [0; LINE_BYTES],
             filled: 0,
-        })
+        }
     }
 
     /// Makes the line empty.
