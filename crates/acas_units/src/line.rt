@@ -9,6 +9,7 @@ use itoa::{Buffer, write_digits};
 use std::marker::Model;
 
 /// A line of at most [`LINE_BYTES`] bytes, which contracts see as the list of its bytes. It has its bytes in itself.
+#[derive(Drop)]
 pub struct Line {
     room: [u8; LINE_BYTES],
     filled: usize,
