@@ -9,7 +9,7 @@ use acas_units::Span;
 
 /// The times from one to another, both included, in seconds. They are from 0 to 600 and in order, and their denominators are at most
 /// 5000.
-#[derive(Clone, Copy, Debug)]
+#[derive(Clone, Copy)]
 pub struct Window {
     pub from: Frac,
     pub to: Frac,
@@ -17,7 +17,7 @@ pub struct Window {
 }
 
 /// A box of states: relative altitudes of at most 1,200,000 ticks, and own and intruder rates of at most 10,000 ft/min, in size.
-#[derive(Clone, Copy, Debug)]
+#[derive(Clone, Copy)]
 pub struct BoxState {
     pub h: Span,
     pub v0: Span,
@@ -26,7 +26,7 @@ pub struct BoxState {
 }
 
 /// A time in seconds, and the gap at it in ticks.
-#[derive(Clone, Copy, Debug)]
+#[derive(Clone, Copy)]
 pub struct Extreme {
     pub time: Frac,
     pub value: Frac,

@@ -8,7 +8,7 @@ use std::alloc::{AllocError, Global};
 
 /// The advices other than clear of conflict that are tabled at the corners of a cell: those under which it is not endangered, and those
 /// under which it is.
-#[derive(Clone, Copy, Debug)]
+#[derive(Clone, Copy)]
 pub struct CellSets {
     pub certified: AdviceSet,
     pub reported: AdviceSet,
@@ -17,7 +17,7 @@ pub struct CellSets {
 /// For the cells of n seconds and a present advisory, which advices each is certified under and which it is reported under. Contracts
 /// see the numbers of cells on the axes of altitude, own rate and intruder rate, and a list with the two sets of each cell, which is
 /// empty until the cells are decided.
-#[derive(Debug, Drop)]
+#[derive(Drop)]
 pub struct BlockAudit {
     pub(crate) altitudes: u32,
     pub(crate) own_rates: u32,

@@ -4,7 +4,7 @@ ghost use Rattle.std.specs.Prelude.{◌≡◌, ◌+◌, ◌<◌, ◌^◌};
 use acas_count::Counter;
 
 /// Work that only the call here does that decides a block: one decision.
-#[derive(Debug, Drop)]
+#[derive(Drop)]
 pub struct DecidedBlock {
     decided: (),
 }

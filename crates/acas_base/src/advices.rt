@@ -7,7 +7,7 @@ use std::alloc::{AllocError, Global};
 
 /// What a table advises with at least one second to go: the number of an advisory for each layer and state. Contracts
 /// see the layers from 1 to the horizon in one list, and each advice is below the number of advisories.
-#[derive(Debug, Drop)]
+#[derive(Drop)]
 pub struct Advices {
     horizon: u32,
     states: u32,

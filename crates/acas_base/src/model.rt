@@ -13,7 +13,7 @@ use acas_spec::{Advisory, Choice, SigmaPoint};
 use acas_units::{GREATEST_NAME_BYTES, Span};
 
 /// A model whose numbers are all within their limits. Contracts see it as the plain data that its file says.
-#[derive(Debug, Drop)]
+#[derive(Drop)]
 pub struct Model {
     grid: Grid,
     advisories: Vec<Advisory>,

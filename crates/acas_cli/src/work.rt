@@ -11,7 +11,7 @@ const GREATEST_COUNT: u64 = 1 << 63;
 
 /// The counters that runs raise: the backups of sweeps, the pairs that their blocks turned, and the decisions of blocks of audits.
 /// Contracts see them as three numbers.
-#[derive(Debug, Drop)]
+#[derive(Drop)]
 pub struct Work {
     pub backups: Backups,
     pub turned: Turned,

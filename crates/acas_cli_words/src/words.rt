@@ -8,7 +8,7 @@ use acas_report_lines::Which;
 use acas_units::{FILE_NAME_BYTES, GREATEST_LIMIT, GREATEST_RATE};
 
 /// A command, with the names of its files, which lines an audit prints, what an intruder may do, and the number of a drill.
-#[derive(Clone, Copy, Debug)]
+#[derive(Clone, Copy)]
 pub enum Command<'w> {
     /// `values M`: print the table of a model.
     Values {

@@ -15,7 +15,7 @@ use sha2::{Digest, Sha256};
 use std::alloc::Global;
 
 /// A model, and the digest of its text.
-#[derive(Debug, Drop)]
+#[derive(Drop)]
 pub struct ModelFile {
     pub model: Model,
     pub digest: [u8; 32],

@@ -9,7 +9,7 @@ use acas_table_text::TableRefusal;
 use std::alloc::AllocError;
 
 /// A file that a command reads, by what the command reads it as.
-#[derive(Clone, Copy, Debug, PartialEq, Eq)]
+#[derive(Clone, Copy, PartialEq, Eq)]
 pub enum FileRole {
     Model,
     Table,
@@ -18,7 +18,7 @@ pub enum FileRole {
 }
 
 /// Why a run ended.
-#[derive(Debug, Drop)]
+#[derive(Drop)]
 pub enum Cause {
     /// The whole output is out, and reports nothing.
     Done,
@@ -45,7 +45,7 @@ pub enum Cause {
 }
 
 /// The end of a run: its cause, and the exit code that goes with it.
-#[derive(Debug, Drop)]
+#[derive(Drop)]
 pub struct Status {
     pub code: u8,
     pub cause: Cause,

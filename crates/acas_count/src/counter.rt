@@ -5,7 +5,7 @@ use std::marker::PhantomData;
 
 /// Counts work of one kind. It starts at 0, and contracts see it as its count. Whoever raises it shows a value of the kind: where only
 /// the crate that does the work can make one, no other call raises the count.
-#[derive(Debug, Drop)]
+#[derive(Drop)]
 pub struct Counter<K> {
     count: u64,
     kind: PhantomData<K>,

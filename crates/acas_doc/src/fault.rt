@@ -6,7 +6,7 @@ use acas_spec::Text;
 use std::alloc::AllocFailed;
 
 /// What is wrong with a key.
-#[derive(Clone, Copy, Debug, PartialEq, Eq)]
+#[derive(Clone, Copy, PartialEq, Eq)]
 pub enum DocKind {
     /// The table does not have the key.
     Missing,
@@ -23,7 +23,7 @@ pub enum DocKind {
 }
 
 /// What is wrong, and at which key.
-#[derive(Debug, Drop)]
+#[derive(Drop)]
 pub struct DocFault {
     /// The path of the key or of an item, as it is printed: `grid.altitude[2]`.
     pub key: Text,
@@ -31,7 +31,7 @@ pub struct DocFault {
 }
 
 /// Why a getter has no value: something is wrong, or there was no memory to say what, or to hold the numbers of a list.
-#[derive(Debug, Drop)]
+#[derive(Drop)]
 pub enum DocError {
     Fault(DocFault),
     Memory,

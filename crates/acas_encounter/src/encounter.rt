@@ -8,7 +8,7 @@ use std::marker::Model;
 /// An encounter of two aircraft: how it starts, and the acceleration of each of them in each second, in ft/min per second. It has from
 /// [`LEAST_SECONDS`](acas_units::LEAST_SECONDS) to [`GREATEST_SECONDS`](acas_units::GREATEST_SECONDS) seconds, and its numbers are within
 /// the limits of a file. Contracts see the start and two lists.
-#[derive(Debug, Drop)]
+#[derive(Drop)]
 pub struct Encounter {
     start: Start,
     own: Vec<i64>,

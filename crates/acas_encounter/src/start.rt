@@ -18,7 +18,7 @@ use toml::Table;
 
 /// How an encounter starts: the number of the present advisory, the range in ft, the closing speed in ft/s, how far the intruder is
 /// above in ticks, and the own and the intruder's rate in ft/min.
-#[derive(Clone, Copy, Debug, PartialEq, Eq)]
+#[derive(Clone, Copy, PartialEq, Eq)]
 pub struct Start {
     pub advisory: u8,
     pub range: i64,

@@ -5,7 +5,7 @@ ghost use Rattle.acas_frac.specs.Divisor.{IsDivisor};
 
 /// A divisor above 0, with the number of its binary digits below the highest one, and how often it goes into the greatest number of
 /// 64 digits more than these.
-#[derive(Clone, Copy, Debug)]
+#[derive(Clone, Copy)]
 pub struct Divisor {
     pub by: u64,
     multiplier: u64,

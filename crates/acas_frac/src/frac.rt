@@ -8,7 +8,7 @@ use std::marker::Model;
 
 /// A fraction in lowest terms: the numerator is at most 10^24 in size, the denominator is from 1 to 10^13, and zero is 0/1.
 /// So the cross products of two fractions, and their sum, fit 128 bits.
-#[derive(Clone, Copy, Debug)]
+#[derive(Clone, Copy)]
 pub struct Frac {
     num: i128,
     den: i128,

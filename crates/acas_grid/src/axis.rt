@@ -8,7 +8,7 @@ use acas_units::{GREATEST_VERTICES, LEAST_VERTICES};
 use std::marker::Model;
 
 /// Why a list of numbers is no axis. The causes are looked at in this order.
-#[derive(Clone, Copy, Debug, PartialEq, Eq)]
+#[derive(Clone, Copy, PartialEq, Eq)]
 pub enum AxisFault {
     /// There are fewer than [`LEAST_VERTICES`] numbers.
     TooShort,
@@ -20,7 +20,7 @@ pub enum AxisFault {
 
 /// The numbers of an axis, from [`LEAST_VERTICES`] to [`GREATEST_VERTICES`] of them, each above the one before it.
 /// Contracts see it as their list.
-#[derive(Debug, Drop)]
+#[derive(Drop)]
 pub struct Axis {
     values: Vec<i64>,
 }

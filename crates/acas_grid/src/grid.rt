@@ -11,7 +11,7 @@ use std::marker::Model;
 /// The axes of relative altitude, own rate and intruder rate, how many advisories there are, and how many seconds a
 /// table goes back, neither more than a model may have. In a model's grid the altitudes are in ticks and the rates
 /// in ft/min.
-#[derive(Debug, Drop)]
+#[derive(Drop)]
 pub struct Grid {
     pub h: Axis,
     pub v0: Axis,

@@ -8,7 +8,7 @@ use acas_frac::gcd;
 use acas_grid::{Axis, Grid};
 
 /// A length above 0 on each axis, in ticks or ft/min, in which offsets and gaps are counted.
-#[derive(Clone, Copy, Debug)]
+#[derive(Clone, Copy)]
 pub struct Units {
     pub h: u64,
     pub v0: u64,

@@ -8,7 +8,7 @@ use std::alloc::{AllocError, AllocFailed};
 
 /// The first rule that a text of boxes or of an encounter fails, or `Memory` where there was none to read it. A place is the number
 /// of a box, and 0 in an encounter.
-#[derive(Debug, Drop)]
+#[derive(Drop)]
 pub enum InputFault {
     /// The bytes are no TOML document.
     NotToml,

@@ -10,7 +10,7 @@ use std::alloc::{AllocError, Global};
 /// The first layers of a table, from no second to go up; all of them are one more than the horizon. Contracts see how
 /// many layers stand, and the pairs and the advices of each, in the order of the states' numbers. The pairs of all
 /// stand in one block of memory, and so do the advices.
-#[derive(Debug, Drop)]
+#[derive(Drop)]
 pub struct Layers {
     horizon: u32,
     states: usize,

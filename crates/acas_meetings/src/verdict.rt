@@ -2,7 +2,7 @@
 use crate::meeting::Meeting;
 
 /// No response that meets the advisory and no flight of the intruder bring the two into contact; or some do, and the meeting has them.
-#[derive(Clone, Copy, Debug)]
+#[derive(Clone, Copy)]
 pub enum MeetVerdict {
     Certified,
     Reported(Meeting),

@@ -8,14 +8,14 @@ use acas_grid::AxisFault;
 use std::alloc::{AllocError, AllocFailed};
 
 /// The place of a name: that of an advisory, or that of one of its choices.
-#[derive(Clone, Copy, Debug, PartialEq, Eq)]
+#[derive(Clone, Copy, PartialEq, Eq)]
 pub struct NamePlace {
     pub advisory: u32,
     pub choice: Option<u32>,
 }
 
 /// An axis of the grid.
-#[derive(Clone, Copy, Debug, PartialEq, Eq)]
+#[derive(Clone, Copy, PartialEq, Eq)]
 pub enum AxisName {
     Altitude,
     OwnRate,
@@ -23,7 +23,7 @@ pub enum AxisName {
 }
 
 /// The first rule that a text fails, or `Memory` where there was none to read it.
-#[derive(Debug, Drop)]
+#[derive(Drop)]
 pub enum ModelFault {
     /// The bytes are no TOML document.
     NotToml,

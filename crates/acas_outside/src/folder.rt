@@ -6,7 +6,7 @@ ghost use Rattle.acas_outside.specs.Files.{Files, Given, Grows, Reads, Stores};
 use crate::sink::Failed;
 
 /// Why a read gave nothing.
-#[derive(Clone, Copy, Debug, PartialEq, Eq)]
+#[derive(Clone, Copy, PartialEq, Eq)]
 pub enum ReadMiss {
     /// The name is not held.
     Absent = 1,

@@ -2,7 +2,7 @@
 use acas_count::Counter;
 
 /// Work that only a turn of a block does: a pair that goes from one plane to the other.
-#[derive(Debug, Drop)]
+#[derive(Drop)]
 pub struct TurnedPair {
     pub(crate) by_a_turn: (),
 }

@@ -16,7 +16,7 @@ use acas_region::asked_by;
 
 /// When the low curve of an area is first nearest the intruder that goes to its greatest rate, and when the high curve is first nearest
 /// the one that goes to its least: in seconds, from 0 to 600, over 5000 at most.
-#[derive(Clone, Copy, Debug)]
+#[derive(Clone, Copy)]
 pub struct SearchTimes {
     pub low: Frac,
     pub high: Frac,

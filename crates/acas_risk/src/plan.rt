@@ -7,7 +7,7 @@ ghost use Rattle.acas_risk.specs.Plans.{FitsModel, policy_of};
 use acas_base::{Advices, Model};
 
 /// What says which advisory is given in each state with at least one second to go.
-#[derive(Clone, Copy, Debug)]
+#[derive(Clone, Copy)]
 pub enum Plan<'a> {
     /// What a table advises.
     Tabled(&'a Advices),

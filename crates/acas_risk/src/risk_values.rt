@@ -15,7 +15,7 @@ use std::alloc::{AllocError, Global};
 
 /// Values at the horizon, a pair for each state by its number: of the chance of contact under a table's policy and under the policy that
 /// is always clear of conflict, and of what the table's policy costs.
-#[derive(Debug, Drop)]
+#[derive(Drop)]
 pub(crate) struct RiskValues {
     pub(crate) risk: Vec<Pair>,
     pub(crate) clear: Vec<Pair>,

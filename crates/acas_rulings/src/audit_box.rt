@@ -3,7 +3,7 @@ use acas_areas::BoxState;
 use acas_units::Span;
 
 /// A box of states under an advisory: ranges in ft, closing speeds in ft/s, and an area of altitudes in ticks and rates in ft/min.
-#[derive(Clone, Copy, Debug)]
+#[derive(Clone, Copy)]
 pub struct AuditBox {
     pub advisory: u8,
     pub range: Span,

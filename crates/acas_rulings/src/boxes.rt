@@ -8,7 +8,7 @@ use std::marker::Model;
 
 /// The boxes of a file in order, from [`LEAST_BOXES`](acas_units::LEAST_BOXES) to [`GREATEST_BOXES`](acas_units::GREATEST_BOXES) of
 /// them. Contracts see the list of what they stand for.
-#[derive(Debug, Drop)]
+#[derive(Drop)]
 pub struct Boxes {
     boxes: Vec<AuditBox>,
 }

@@ -15,7 +15,7 @@ pub const LARGEST_CHANGE: u32 = 4_000;
 /// One second of two aircraft, in which the range closes at a speed and the relative rate changes evenly. All but the speed is as the
 /// second begins: the range in ft, below 0 once the intruder has passed; the closing speed in ft/s; how far the intruder is above in
 /// ticks; its rate less the own rate in ft/min, and how much that changes within the second.
-#[derive(Clone, Copy, Debug)]
+#[derive(Clone, Copy)]
 pub struct Second {
     pub range: i64,
     pub closing: i64,

@@ -1,7 +1,7 @@
 //! Why an entry bounds nothing.
 
 /// The first part of soundness that an entry fails. Values are in millionths.
-#[derive(Clone, Copy, Debug, PartialEq, Eq)]
+#[derive(Clone, Copy, PartialEq, Eq)]
 pub enum BoundFault {
     /// The advice is not in the list of its present advisory.
     AdviceNotAllowed,

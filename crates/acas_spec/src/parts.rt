@@ -2,7 +2,7 @@
 use crate::text::Text;
 
 /// A vertical advisory: the closed interval of own vertical rates that it asks for, in ft/min.
-#[derive(Debug, Drop)]
+#[derive(Drop)]
 pub struct Advisory {
     pub name: Text,
     pub lo: i64,
@@ -10,14 +10,14 @@ pub struct Advisory {
 }
 
 /// An advisory that may be chosen, by its number, and what a second under it costs, in units.
-#[derive(Clone, Copy, Debug, PartialEq, Eq)]
+#[derive(Clone, Copy, PartialEq, Eq)]
 pub struct Choice {
     pub advisory: u8,
     pub cost: i64,
 }
 
 /// A change of both vertical rates within a second, in ft/min, and its weight among all sigma points.
-#[derive(Clone, Copy, Debug, PartialEq, Eq)]
+#[derive(Clone, Copy, PartialEq, Eq)]
 pub struct SigmaPoint {
     pub weight: i64,
     pub own: i64,

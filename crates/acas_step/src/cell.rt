@@ -14,21 +14,21 @@ use acas_grid::{Axis, Grid, Point, Vertex};
 use acas_units::GREATEST_VERTICES;
 
 /// A vertex by its number, with its weight.
-#[derive(Clone, Copy, Debug, PartialEq, Eq)]
+#[derive(Clone, Copy, PartialEq, Eq)]
 pub struct Corner {
     pub vertex: u32,
     pub weight: i128,
 }
 
 /// The eight corners of a cell, lower before upper and the altitude outermost, and what their weights sum to.
-#[derive(Clone, Copy, Debug, PartialEq, Eq)]
+#[derive(Clone, Copy, PartialEq, Eq)]
 pub struct CornerSet {
     pub corners: [Corner; 8],
     pub total: i128,
 }
 
 // One of the two ends of a cell on an axis.
-#[derive(Clone, Copy, Debug, PartialEq, Eq)]
+#[derive(Clone, Copy, PartialEq, Eq)]
 enum End {
     Lower,
     Upper,

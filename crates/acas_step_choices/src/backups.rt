@@ -15,7 +15,7 @@ use acas_spec::Choice;
 use acas_units::Pair;
 
 /// Work that only the calls here do: the upper value of a choice, formed of its mean.
-#[derive(Debug, Drop)]
+#[derive(Drop)]
 pub struct FormedValue {
     formed: (),
 }

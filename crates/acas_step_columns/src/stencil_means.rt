@@ -11,7 +11,7 @@ use acas_units::{GREATEST_VERTICES, Pair};
 use std::alloc::{AllocError, Global};
 
 /// The stencils of a model, which form the means of its layers.
-#[derive(Debug, Drop)]
+#[derive(Drop)]
 pub struct StencilMeans {
     stencils: Stencils,
 }

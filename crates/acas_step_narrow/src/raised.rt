@@ -11,7 +11,7 @@ use acas_step::{Cell, Ends};
 use acas_units::{GREATEST_VERTICES, Pair};
 
 /// A number for each side, raised so that it is not below 0.
-#[derive(Clone, Copy, Debug)]
+#[derive(Clone, Copy)]
 pub struct Raised {
     pub upper: u64,
     pub lower: u64,

@@ -16,7 +16,7 @@ use acas_step::{cell_near, column_of_cell, led_past, moved_from};
 
 /// The number of the column at the lower corner of a cell, how far above that corner a point is on both rates, and how far a second
 /// leads up, in the units of the axes. It takes 16 bytes.
-#[derive(Clone, Copy, Debug)]
+#[derive(Clone, Copy)]
 pub(crate) struct ColumnStencil {
     pub(crate) column: u32,
     pub(crate) v0: u32,

@@ -29,7 +29,7 @@ use std::alloc::{AllocError, Global};
 
 /// The number of the vertex at the lower corner of a cell, and how far above that corner a point is on each axis, in the units of
 /// the axes.
-#[derive(Clone, Copy, Debug)]
+#[derive(Clone, Copy)]
 pub(crate) struct Stencil {
     base: u32,
     h: u32,
@@ -72,7 +72,7 @@ pub struct UnitCell {
 /// The stencils of a model: for each advisory, column of vertices and sigma point the cell of the rates that a second leads to, where in
 /// it, and how far up. With them stand the heights of the altitudes, the gap between them if it is the same everywhere, the cell above each
 /// vertex and the whole weight of the sigma points.
-#[derive(Debug, Drop)]
+#[derive(Drop)]
 pub struct Stencils {
     stencils: Vec<ColumnStencil>,
     units: Units,

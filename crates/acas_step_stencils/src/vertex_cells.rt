@@ -14,7 +14,7 @@ use std::alloc::{AllocError, Global};
 
 /// The places of a vertex, the gaps from them to the next places in the units of the axes, 1 at a last place, and the product of
 /// the gaps as a divisor. It takes 40 bytes.
-#[derive(Clone, Copy, Debug)]
+#[derive(Clone, Copy)]
 pub(crate) struct VertexCell {
     pub(crate) i: u8,
     pub(crate) j: u8,

@@ -1,7 +1,7 @@
 //! Why bytes are no table of a model.
 
 /// Why a table is refused. Its fields are looked at in the order of their bytes, and the end of the file last.
-#[derive(Clone, Copy, Debug, PartialEq, Eq)]
+#[derive(Clone, Copy, PartialEq, Eq)]
 pub enum TableFault {
     /// The first four bytes are not those of a table.
     Magic,

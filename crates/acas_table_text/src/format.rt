@@ -3,7 +3,7 @@
 use crate::shape::TableShape;
 
 /// How the digests stand in a table's file.
-#[derive(Clone, Copy, Debug, PartialEq, Eq)]
+#[derive(Clone, Copy, PartialEq, Eq)]
 pub enum Format {
     /// Version 1: one digest, behind all entries.
     Whole,

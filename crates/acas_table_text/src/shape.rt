@@ -3,7 +3,7 @@
 use acas_base::Model;
 
 /// The five numbers that a table's header names, and how many states a layer has.
-#[derive(Clone, Copy, Debug, PartialEq, Eq)]
+#[derive(Clone, Copy, PartialEq, Eq)]
 pub struct TableShape {
     /// The number of relative altitudes.
     pub altitudes: u32,

@@ -85,7 +85,7 @@ fn entries_over_the_last_layer(rt: HostRuntime) {
         let answer = wanted.answer(entry);
         assert!(rt;
             is_answered(rt.alloc(), text, n, state, &entry, answer) == Some(true),
-            "{n} {entry:?}"
+            "{n} {upper} {lower} {advice}"
         );
     }
 }
