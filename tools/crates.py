@@ -30,7 +30,6 @@ WEIGHTS = {
     "acas_encounter": 8,
     "acas_encounter_commands": 15,
     "acas_flight": 3,
-    "acas_flight_curves": 2,
     "acas_flight_laws": 2,
     "acas_flight_windows": 2,
     "acas_frac": 15,

@@ -10,7 +10,7 @@ use Rattle.acas_flight.specs.Response.{Demand, demand_of}
 use Rattle.acas_flight.specs.Parts.{CanBeMet}
 use Rattle.acas_flight.specs.Clear.{Area, area_of_box}
 use Rattle.acas_flight.specs.Window.{Times}
-use Rattle.acas_flight_curves.proofs.Models.{demand_can_be_met}
+use Rattle.acas_flight_laws.proofs.Models.{demand_can_be_met}
 use Rattle.acas_flight_laws.proofs.Extremes.{extreme-same, extreme-windows}
 use Rattle.acas_passes.specs.Search.{unit}
 use Rattle.acas_pass_laws.proofs.Ends.{found-one}

@@ -7,7 +7,7 @@ use Rattle.acas_frac.specs.Fraction.{Fraction, IsReduced}
 use Rattle.acas_flight.specs.Response.{demand_of}
 use Rattle.acas_flight.specs.Clear.{Area, area_of_box}
 use Rattle.acas_flight.specs.Window.{IsWindowOfBox, Times}
-use Rattle.acas_flight_curves.proofs.Models.{demand_can_be_met}
+use Rattle.acas_flight_laws.proofs.Models.{demand_can_be_met}
 use Rattle.acas_areas.specs.Limits.{IsArea}
 use Rattle.acas_flight_windows.proofs.EachWindow.{window_of_box}
 use Rattle.acas_passes.specs.Value.{thinnest}

@@ -5,7 +5,7 @@ use Rattle.acas_frac.proofs.Orders.{turned_le}
 use Rattle.acas_flight.proofs.Curves.{steady}
 use Rattle.acas_flight.proofs.Steps.{steady-add}
 use Rattle.acas_flight.proofs.Holding.{hold_lowers}
-use Rattle.acas_flight_curves.proofs.Mirror.{turned_held}
+use Rattle.acas_flight_laws.proofs.Mirror.{turned_held}
 use Rattle.acas_flight.specs.Curves.{approach, held}
 
 pub held_longer-rising : (v k : ℤ) (b g longer t : ℕ) → v ≤ℤ k → g ≤ longer → held v k b longer t ≤ℤ held v k b g t

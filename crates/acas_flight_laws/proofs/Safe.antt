@@ -7,9 +7,9 @@ use Rattle.acas_frac.proofs.IntRing.{at, num, ◌⊖◌, ◌⊗◌, ring, mul_po
 use Rattle.acas_frac.proofs.Orders.{cases_lt_ℤ, turned_le, unsigned_abs-low, unsigned_abs-high}
 use Rattle.acas_flight.proofs.Between.{low_pull-below, low_pull-above}
 use Rattle.acas_flight.proofs.Holding.{meets_above}
-use Rattle.acas_flight_curves.proofs.Rising.{lowest_rises, scaled_le}
-use Rattle.acas_flight_curves.proofs.Models.{scaled_can_be_met}
-use Rattle.acas_flight_curves.proofs.Mirror.{meets_under, turned_demand, turned_lowest, turned_test}
+use Rattle.acas_flight_laws.proofs.Rising.{lowest_rises, scaled_le}
+use Rattle.acas_flight_laws.proofs.Models.{scaled_can_be_met}
+use Rattle.acas_flight_laws.proofs.Mirror.{meets_under, turned_demand, turned_lowest, turned_test}
 use Rattle.acas_flight.specs.Response.{Segment, Demand, scaled, climb, lasting, Meets}
 use Rattle.acas_flight.specs.Contact.{vertical_separation}
 use Rattle.acas_flight.specs.Parts.{CanBeMet}

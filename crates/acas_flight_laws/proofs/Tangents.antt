@@ -8,7 +8,7 @@ use Rattle.acas_frac.proofs.Squares.{sq, tangent, held_tangent, held_tangent_str
 use Rattle.acas_frac.proofs.Orders.{by_above, cases_lt_ℤ}
 use Rattle.acas_flight.proofs.Curves.{steady, approach_above}
 use Rattle.acas_flight.proofs.Holding.{steady_below}
-use Rattle.acas_flight_curves.proofs.Rising.{held_below}
+use Rattle.acas_flight_laws.proofs.Rising.{held_below}
 use Rattle.acas_flight.specs.Curves.{approach, held}
 
 pub faster : (k : ℤ) (y t b : ℕ) → steady (k +ℤ pos y) t b ≡ steady k t b +ℤ pos ((y + y) * (b * t))

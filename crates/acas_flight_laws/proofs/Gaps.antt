@@ -6,10 +6,10 @@ use lib.IntN.{*ℤ_comm}
 use Rattle.acas_frac.proofs.SignedProducts.{mul-le_ℤ, mul-lt_ℤ, neg-mul_ℤ, le-from_mul_ℤ, lt-from_mul_ℤ}
 use Rattle.acas_frac.proofs.IntRing.{at, num, ◌⊕◌, ◌⊖◌, ◌⊗◌, ring, mul_swapped_ℤ, sub-mul_ℤ, zero-sub_ℤ}
 use Rattle.acas_frac.proofs.Orders.{cases_lt_ℤ, neg-lt_ℤ}
-use Rattle.acas_flight_curves.proofs.Scales.{cancel_left, pos_inj}
-use Rattle.acas_flight_curves.proofs.Held.{held-scaled}
 use Rattle.acas_flight.proofs.Between.{test_lt, test_ge}
-use Rattle.acas_flight_curves.proofs.Mirror.{turned_held}
+use Rattle.acas_flight_laws.proofs.Scales.{cancel_left, pos_inj}
+use Rattle.acas_flight_laws.proofs.Held.{held-scaled}
+use Rattle.acas_flight_laws.proofs.Mirror.{turned_held}
 use Rattle.acas_flight.specs.Response.{Demand, scaled}
 use Rattle.acas_flight.specs.Contact.{vertical_separation}
 use Rattle.acas_flight.specs.Curves.{held, low_pull, low_hold, high_pull, high_hold}

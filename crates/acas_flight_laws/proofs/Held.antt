@@ -7,9 +7,9 @@ use Rattle.acas_frac.proofs.IntRing.{at, num, ◌⊕◌, ◌⊗◌, ring}
 use Rattle.acas_frac.proofs.Squares.{sq, sq_le}
 use Rattle.acas_frac.proofs.Orders.{by_below, by_above, cases_lt_ℤ}
 use Rattle.acas_flight.proofs.Curves.{steady}
-use Rattle.acas_flight_curves.proofs.Rising.{held_below}
-use Rattle.acas_flight_curves.proofs.Mirror.{turned_held, steady_turned}
-use Rattle.acas_flight_curves.proofs.Scales.{cancel_left, pos_inj, approach-scaled, over_both}
+use Rattle.acas_flight_laws.proofs.Rising.{held_below}
+use Rattle.acas_flight_laws.proofs.Mirror.{turned_held, steady_turned}
+use Rattle.acas_flight_laws.proofs.Scales.{cancel_left, pos_inj, approach-scaled, over_both}
 use Rattle.acas_flight.specs.Curves.{approach, held}
 use Rattle.acas_flight.specs.Values.{IsOver, IsHeld, all_lost, less_or_more}
 use Rattle.acas_frac.specs.Fraction.{Fraction}
