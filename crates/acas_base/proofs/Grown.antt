@@ -4,7 +4,7 @@ use Rattle.std.proofs.Math.Nat.{mul-le-mul_right}
 use Rattle.std.proofs.lemmas.List.{drop-append-le, drop_at, take-append-le, take_all}
 use Rattle.std.specs.List.{slice_range}
 use Rattle.acas_units.specs.declared.pair.Pair.{Pair}
-use Rattle.acas_layers.specs.Layers.{GainsLayer, LayersData}
+use Rattle.acas_base.specs.Layers.{GainsLayer, LayersData}
 
 -- a range of a list that goes on
 range_before : {A : Type 0} (xs ys : List A) (a width : ℕ) → a + width ≤ length xs → slice_range (xs ++ ys) a (a + width) ≡ slice_range xs a (a + width)

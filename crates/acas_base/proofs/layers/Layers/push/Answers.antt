@@ -1,8 +1,8 @@
 use Rattle.std.proofs.Common.{◌+◌, ◌++◌, List, ℕ, sym, ◌∙◌, ap, subst}
 use Rattle.acas_units.specs.declared.pair.Pair.{Pair}
-use Rattle.acas_layers.specs.Layers.{GainsLayer, LayersData, layers_view}
-use Rattle.acas_layers.proofs.Grown.{grown}
-use Rattle.acas_layers.proofs.layers.Layers.push.Goals as goal
+use Rattle.acas_base.specs.Layers.{GainsLayer, LayersData, layers_view}
+use Rattle.acas_base.proofs.Grown.{grown}
+use Rattle.acas_base.proofs.layers.Layers.push.Goals as goal
 
 -- layers with these pairs and advices, of which one more stands
 abbrev with_lists : LayersData → List Pair → List ℕ → LayersData

@@ -3,7 +3,7 @@ use Rattle.std.specs.Prelude.{◌≡◌, ℕ, ◌+◌, ◌*◌, ◌<◌, ◌≤�
 use Rattle.acas_units.specs.declared.limits.TheConstants.{GREATEST_HORIZON}
 use Rattle.acas_spec.specs.Model.{GridData, states}
 use Rattle.acas_units.specs.declared.pair.Pair.{Pair}
-use Rattle.acas_layers.specs.declared.layers.Layers.TheInside.{Inside}
+use Rattle.acas_base.specs.declared.layers.Layers.TheInside.{Inside}
 
 -- layers from no second to go up, one after the other, each with so many states: so many stand, of one more than the
 -- horizon

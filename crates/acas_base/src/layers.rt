@@ -1,9 +1,9 @@
 //! The layers of a table.
 ghost use Rattle.std.specs.Prelude.{◌≡◌, ◌+◌, ◌*◌, ◌<◌, ◌≤◌, ◌++◌, length, slice_range, vec_capacity, vec_len, IfOk};
 ghost use Rattle.acas_spec.specs.Model.{entries};
-ghost use Rattle.acas_layers.specs.Layers.{GainsLayer, advice_of, all_layers, no_layers, pairs_of};
+ghost use Rattle.acas_base.specs.Layers.{GainsLayer, advice_of, all_layers, no_layers, pairs_of};
 
-use acas_base::Model;
+use crate::model::Model;
 use acas_units::Pair;
 use std::alloc::{AllocError, Global};
 
@@ -20,7 +20,7 @@ pub struct Layers {
 }
 
 impl std::marker::Model for Layers {
-    ghost use Rattle.acas_layers.specs.Layers.{HaveRoom, LayersData, layers_view};
+    ghost use Rattle.acas_base.specs.Layers.{HaveRoom, LayersData, layers_view};
 
     ghost Value = { LayersData };
 
