@@ -18,11 +18,6 @@ use Rattle.acas_rulings.specs.Boxes.{AuditedBox, IsBoxOf}
 use Rattle.acas_rulings.specs.Printed.{flight_fractions, fractions_of, some_part}
 use Rattle.acas_rulings.specs.Ranges.{IsBoxesRange}
 use Rattle.acas_rulings.specs.Witness.{search_between}
-use Rattle.acas_ruling_laws.proofs.Ones.{AreSameTimes, unit_some}
-use Rattle.acas_ruling_laws.proofs.Parts.{AreReduced, parts_fractions}
-use Rattle.acas_ruling_laws.proofs.Prints.{flight-printed_one, segments-printed_one}
-use Rattle.acas_ruling_laws.proofs.RangeOnes.{boxes_range-one}
-use Rattle.acas_ruling_laws.proofs.RulingOnes.{same_times_of_box, same_witness}
 use Rattle.acas_manoeuvre.specs.Intruder.{Manoeuvre}
 use Rattle.acas_manoeuvre.specs.Race.{high_race, low_race, race_gap, turned}
 use Rattle.acas_meetings.specs.Hunt.{Course, Finds, Hunt, accel, high_course, low_course, passes, value}
@@ -31,7 +26,12 @@ use Rattle.acas_meetings.specs.Verdicts.{IsMeetVerdict, IsMeetingOf, IsMet, hunt
 use Rattle.acas_meetings.specs.declared.meeting.Meeting.{Meeting}
 use Rattle.acas_meetings.specs.declared.verdict.MeetVerdict.{MeetVerdict}
 use Rattle.acas_meetings.specs.declared.verdict.MeetVerdict.TheVariants.{Certified, Reported}
-use Rattle.acas_meeting_laws.proofs.Pulls.{found_course-pull}
+use Rattle.acas_ruling_laws.proofs.Ones.{AreSameTimes, unit_some}
+use Rattle.acas_ruling_laws.proofs.Parts.{AreReduced, parts_fractions}
+use Rattle.acas_ruling_laws.proofs.Prints.{flight-printed_one, segments-printed_one}
+use Rattle.acas_ruling_laws.proofs.RangeOnes.{boxes_range-one}
+use Rattle.acas_ruling_laws.proofs.RulingOnes.{same_times_of_box, same_witness}
+use Rattle.acas_ruling_laws.proofs.CoursePulls.{found_course-pull}
 
 -- ---- what is printed of a course is one
 

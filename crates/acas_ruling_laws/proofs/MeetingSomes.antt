@@ -15,9 +15,6 @@ use Rattle.acas_passes.specs.Search.{IsMoment, IsTimed, fastest, unit}
 use Rattle.acas_pass_laws.proofs.Neighbours.{unit_some}
 use Rattle.acas_rulings.specs.Boxes.{AuditedBox, IsBoxOf}
 use Rattle.acas_rulings.specs.Printed.{flight_fractions}
-use Rattle.acas_ruling_laws.proofs.Ranges.{range_of_box}
-use Rattle.acas_ruling_laws.proofs.RulingSomes.{AreInOrder, flyable_box, in_order_or_empty}
-use Rattle.acas_ruling_laws.proofs.Somes.{IsFlyable, search_of}
 use Rattle.acas_manoeuvre.specs.Intruder.{Manoeuvre, RatesFit}
 use Rattle.acas_manoeuvre.specs.Race.{high_race, low_race, turned}
 use Rattle.acas_manoeuvre.specs.Apart.{IsApart}
@@ -34,8 +31,11 @@ use Rattle.acas_hunt_laws.proofs.Prints.{printed-contact}
 use Rattle.acas_hunt_laws.proofs.Showing.{shown-endangers, shows-meeting}
 use Rattle.acas_hunt_laws.proofs.Somes.{accel_some}
 use Rattle.acas_hunt_laws.proofs.Verdicts.{can-meet}
-use Rattle.acas_meeting_laws.proofs.LeastTimes.{HasLeastTime, apart_or_not, high_time, low_time}
-use Rattle.acas_meeting_laws.proofs.Printed.{all_reduced, printed_course, time_in}
+use Rattle.acas_ruling_laws.proofs.Ranges.{range_of_box}
+use Rattle.acas_ruling_laws.proofs.RulingSomes.{AreInOrder, flyable_box, in_order_or_empty}
+use Rattle.acas_ruling_laws.proofs.Somes.{IsFlyable, search_of}
+use Rattle.acas_ruling_laws.proofs.LeastTimes.{HasLeastTime, apart_or_not, high_time, low_time}
+use Rattle.acas_ruling_laws.proofs.PrintedCourses.{all_reduced, printed_course, time_in}
 
 -- the hunt of an area between two times
 hunt_of : (m : ModelData) (advisory : ℕ) (may : Manoeuvre) (area : Area) (low high : Fraction) → IsModel m → advisory < m.grid.advisories → IsFlyable area → 0 < may.accel → may.rate ≤ fastest → RatesFit may area.intruder →

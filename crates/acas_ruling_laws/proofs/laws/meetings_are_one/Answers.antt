@@ -1,6 +1,6 @@
-use Rattle.acas_meeting_laws.proofs.Ones.{verdict-one}
-use Rattle.acas_meeting_laws.proofs.Somes.{verdict-some}
-use Rattle.acas_meeting_laws.proofs.laws.meetings_are_one.Goals as goal
+use Rattle.acas_ruling_laws.proofs.MeetingOnes.{verdict-one}
+use Rattle.acas_ruling_laws.proofs.MeetingSomes.{verdict-some}
+use Rattle.acas_ruling_laws.proofs.laws.meetings_are_one.Goals as goal
 
 pub returns-clause-some : goal.returns-clause-some
 returns-clause-some c = verdict-some
