@@ -5,8 +5,8 @@ use Rattle.acas_areas.specs.View.{times_of}
 use Rattle.acas_rulings.specs.declared.flight.Witness.{Witness}
 use Rattle.acas_rulings.specs.Boxes.{audited}
 use Rattle.acas_rulings.specs.Rulings.{IsReported, IsWitnessOfBox}
-use Rattle.acas_cell.proofs.Showing.{reported_box}
-use Rattle.acas_cell.proofs.verdicts.box_verdict.Goals as goal
+use Rattle.acas_witness.proofs.Showing.{reported_box}
+use Rattle.acas_witness.proofs.verdicts.box_verdict.Goals as goal
 
 pub of_box-requires-clause-during : goal.of_box-requires-clause-during
 of_box-requires-clause-during c =

@@ -7,8 +7,8 @@ use Rattle.acas_flight_laws.proofs.Endangered.{endangered_cell}
 use Rattle.acas_areas.specs.View.{area_of, times_of}
 use Rattle.acas_rulings.specs.declared.flight.Witness.{Witness}
 use Rattle.acas_rulings.specs.Rulings.{IsReported, IsWitnessOfCell}
-use Rattle.acas_cell.proofs.Showing.{reported_cell}
-use Rattle.acas_cell.proofs.verdicts.witness_in.Goals as goal
+use Rattle.acas_witness.proofs.Showing.{reported_cell}
+use Rattle.acas_witness.proofs.verdicts.witness_in.Goals as goal
 
 pub of_cell-requires-clause-during : goal.of_cell-requires-clause-during
 of_cell-requires-clause-during c =

@@ -11,12 +11,13 @@ ghost use Rattle.acas_cells.specs.Cells.{IsCellOf};
 ghost use Rattle.acas_cells.specs.Order.{cell_of};
 ghost use Rattle.acas_rulings.specs.Rulings.{IsRulingOfBox, IsRulingOfCell};
 
+use crate::contact::contact_in;
+use crate::finding::find;
 use acas_areas::{BoxState, Window};
 use acas_base::Model;
 use acas_cells::CellName;
 use acas_region::{is_clear, window_of_box, window_of_cell};
 use acas_rulings::{AuditBox, Ruling, Witness, area_of_cell};
-use acas_witness::{contact_in, find};
 use acas_witness_response::{of_box, of_cell};
 
 /// The same witness. It opens the range and the speed: they are in lowest terms.

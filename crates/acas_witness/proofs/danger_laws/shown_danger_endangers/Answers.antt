@@ -1,4 +1,4 @@
-use Rattle.acas_cell.proofs.danger_laws.shown_danger_endangers.Goals as goal
+use Rattle.acas_witness.proofs.danger_laws.shown_danger_endangers.Goals as goal
 
 pub returns-clause-cells : goal.returns-clause-cells
 returns-clause-cells c = λ m n i j k advisory w shown. (shown.q, shown.state, shown.response, shown.contact)

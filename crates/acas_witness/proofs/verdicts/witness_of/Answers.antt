@@ -3,7 +3,7 @@ use Rattle.acas_flight.specs.Response.{demand_of}
 use Rattle.acas_flight.specs.Clear.{Area, IsClear}
 use Rattle.acas_flight_laws.proofs.Dangers.{clear_cell_is_safe}
 use Rattle.acas_areas.specs.View.{times_of}
-use Rattle.acas_cell.proofs.verdicts.witness_of.Goals as goal
+use Rattle.acas_witness.proofs.verdicts.witness_of.Goals as goal
 
 pub witness_in-requires-clause-not_clear : goal.witness_in-requires-clause-not_clear
 witness_in-requires-clause-not_clear c =

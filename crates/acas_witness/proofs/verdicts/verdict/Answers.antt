@@ -3,7 +3,7 @@ use Rattle.acas_flight.specs.Response.{demand_of}
 use Rattle.acas_flight.specs.Clear.{Area, IsEndangeredDuring}
 use Rattle.acas_flight_laws.proofs.Endangered.{endangered_cell}
 use Rattle.acas_areas.specs.View.{times_of}
-use Rattle.acas_cell.proofs.verdicts.verdict.Goals as goal
+use Rattle.acas_witness.proofs.verdicts.verdict.Goals as goal
 
 pub witness_in-requires-clause-not_clear : goal.witness_in-requires-clause-not_clear
 witness_in-requires-clause-not_clear c = λ clear. true≢false (sym (c.is_clear.ensures.exact.1 clear) ∙ c.if-is_clear.false)
