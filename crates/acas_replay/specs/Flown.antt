@@ -3,7 +3,7 @@ use Rattle.std.specs.Prelude.{◌≡◌, ℕ, ◌+◌, ◌*◌, ◌<◌, ◌≤�
 use Rattle.acas_units.specs.declared.limits.TheConstants.{GREATEST_CLOSING, GREATEST_ALTITUDE, GREATEST_RATE}
 use Rattle.acas_units.specs.declared.ticks.TheConstants.{TICKS_PER_FOOT}
 use Rattle.acas_spec.specs.Model.{ModelData}
-use Rattle.acas_print.specs.Printing.{below}
+use Rattle.acas_outside.specs.Printing.{below}
 use Rattle.acas_base.specs.Advices.{AdvicesData, AreAdvicesOf}
 use Rattle.acas_encounter.specs.Encounter.{EncounterData, IsEncounterOf, intruder_at, own_at, seconds}
 use Rattle.acas_encounter.specs.declared.limits.TheConstants.{GREATEST_ACCELERATION, GREATEST_START_RANGE}

@@ -5,7 +5,7 @@ use Rattle.std.proofs.lemmas.Bool.{cases_lt}
 use Rattle.std.proofs.Math.Seq.{take-append-add}
 use Rattle.std.specs.Io.KnownBytes.{append_known}
 use Rattle.acas_outside.specs.Bytes.{Appends, AppendsPart}
-use Rattle.acas_print.specs.Printing.{Prints, below}
+use Rattle.acas_outside.specs.Printing.{Prints, below}
 use Rattle.acas_outside.proofs.Appended.{append_known-append}
 
 append_known-nil : (known : Option (List ℕ)) → append_known known [] ≡ known

@@ -2,9 +2,10 @@
 ghost use Rattle.std.specs.Prelude.{◌≡◌, ◌+◌, ◌≤◌, [], ◌++◌, length, IfOk, IsErr, OnOk, OnErr};
 ghost use Rattle.acas_outside.specs.Bytes.{Appends, AppendsPart};
 ghost use Rattle.acas_outside.specs.Frame.{Emits};
-ghost use Rattle.acas_print.specs.Printing.{Prints};
+ghost use Rattle.acas_outside.specs.Printing.{Prints};
 
-use acas_outside::{Failed, Sink, emit};
+use crate::emitting::emit;
+use crate::sink::{Failed, Sink};
 use std::alloc::{AllocError, Global};
 use std::marker::Model;
 

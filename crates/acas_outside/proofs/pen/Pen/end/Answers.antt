@@ -1,6 +1,6 @@
 use Rattle.acas_outside.proofs.Appended.{on_err_always}
-use Rattle.acas_print.proofs.PrintedPieces.{part_of_waiting}
-use Rattle.acas_print.proofs.pen.Pen.end.Goals as goal
+use Rattle.acas_outside.proofs.PrintedPieces.{part_of_waiting}
+use Rattle.acas_outside.proofs.pen.Pen.end.Goals as goal
 
 pub returns-in_err-flush-clause-err : goal.returns-in_err-flush-clause-err
 returns-in_err-flush-clause-err g c =

@@ -4,7 +4,7 @@ ghost use Rattle.acas_outside.specs.Bytes.{Appends, AppendsPart};
 ghost use Rattle.acas_outside.specs.Frame.{Emits};
 
 use crate::print_buffer::PrintBuffer;
-use acas_outside::{Failed, Sink};
+use crate::sink::{Failed, Sink};
 use acas_units::{LINE_BYTES, Line};
 use std::alloc::{AllocError, Global};
 
