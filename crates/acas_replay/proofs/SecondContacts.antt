@@ -6,14 +6,14 @@ use lib.IntN.{*ℤ_comm}
 use Rattle.acas_frac.proofs.SignedProducts.{add-mul_ℤ, mul-lt_ℤ}
 use Rattle.acas_frac.proofs.IntRing.{ring, at, num, sub-mul_ℤ, ◌⊕◌, ◌⊖◌, ◌⊗◌}
 use Rattle.acas_frac.proofs.Orders.{cases_lt_ℤ, mul_nonneg, unsigned_abs-le, unsigned_abs-low, unsigned_abs-high}
-use Rattle.acas_second.specs.Contact.{HasContact, separation}
-use Rattle.acas_second.specs.Seconds.{near_fractions}
-use Rattle.acas_second.specs.Parabola.{ComesDown, ComesInside, IsBetween, StaysAbove, StaysOutside, lowered, turned, value_at}
-use Rattle.acas_second.specs.declared.parabola.Parabola.{Parabola}
-use Rattle.acas_second.specs.declared.second.Second.{Second}
-use Rattle.acas_second.proofs.Signs.{below_some, mul_le_by, mul_le_right}
-use Rattle.acas_second.proofs.Parabolas.{stays_or_comes_down}
-use Rattle.acas_second.proofs.Crossings.{AreInSecond, Crosses, IsWithin, crosses, not_after, not_before}
+use Rattle.acas_replay.specs.Contact.{HasContact, separation}
+use Rattle.acas_replay.specs.Seconds.{near_fractions}
+use Rattle.acas_replay.specs.Parabola.{ComesDown, ComesInside, IsBetween, StaysAbove, StaysOutside, lowered, turned, value_at}
+use Rattle.acas_replay.specs.declared.parabola.Parabola.{Parabola}
+use Rattle.acas_replay.specs.declared.second.Second.{Second}
+use Rattle.acas_replay.proofs.Signs.{below_some, mul_le_by, mul_le_right}
+use Rattle.acas_replay.proofs.Parabolas.{stays_or_comes_down}
+use Rattle.acas_replay.proofs.Crossings.{AreInSecond, Crosses, IsWithin, crosses, not_after, not_before}
 
 -- how far above the intruder is, as a parabola
 abbrev pub parabola_of : Second → Parabola

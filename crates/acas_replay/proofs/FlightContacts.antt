@@ -6,7 +6,7 @@ use native.Mathlib.Nat.{le_of_mul-le-mul_right}
 use Rattle.acas_spec.specs.Model.{ModelData}
 use Rattle.acas_flight.specs.Contact.{IsInContact, vertical_separation}
 use Rattle.acas_frac.proofs.IntRing.{ring, at, num, ◌⊕◌, ◌⊖◌, ◌⊗◌}
-use Rattle.acas_second.specs.Contact.{IsContactAt, separation}
+use Rattle.acas_replay.specs.Contact.{IsContactAt, separation}
 use Rattle.acas_replay.specs.Audited.{flight_state, own_climb}
 use Rattle.acas_replay.specs.States.{second_from, state_after}
 use Rattle.acas_replay.specs.declared.state.EncounterState.{EncounterState}

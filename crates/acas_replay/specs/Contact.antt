@@ -1,6 +1,6 @@
 -- Contact of two aircraft within one second, at its fractions.
 use Rattle.std.specs.Prelude.{ℕ, ◌*◌, ◌<◌, ◌≤◌, ℤ, pos, ◌+ℤ◌, ◌-ℤ◌, ◌*ℤ◌, unsigned_abs}
-use Rattle.acas_second.specs.declared.second.Second.{Second}
+use Rattle.acas_replay.specs.declared.second.Second.{Second}
 
 -- how far above the intruder is after a of q parts of a second in which the rate changes evenly, over q^2
 abbrev pub separation : Second → ℕ → ℕ → ℤ

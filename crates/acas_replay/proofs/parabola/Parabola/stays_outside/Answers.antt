@@ -1,10 +1,10 @@
 use Rattle.std.proofs.Common.{◌∙◌, ap, ap₂, subst, inr, ◌+◌, ◌≤◌, pos, ◌-ℤ◌, ℤ, unsigned_abs, arith}
 use Rattle.std.proofs.lemmas.Int.{ints}
-use Rattle.acas_second.specs.Parabola.{ComesDown, IsSmall, StaysAbove, lowered, turned}
-use Rattle.acas_second.specs.declared.parabola.Parabola.{Parabola}
-use Rattle.acas_second.specs.declared.parabola.TheConstants.{LARGEST_BEND, LARGEST_LEVEL, LARGEST_SLOPE}
-use Rattle.acas_second.proofs.Casts.{whole}
-use Rattle.acas_second.proofs.parabola.Parabola.stays_outside.Goals as goal
+use Rattle.acas_replay.specs.Parabola.{ComesDown, IsSmall, StaysAbove, lowered, turned}
+use Rattle.acas_replay.specs.declared.parabola.Parabola.{Parabola}
+use Rattle.acas_replay.specs.declared.parabola.TheConstants.{LARGEST_BEND, LARGEST_LEVEL, LARGEST_SLOPE}
+use Rattle.acas_replay.proofs.Casts.{whole}
+use Rattle.acas_replay.proofs.parabola.Parabola.stays_outside.Goals as goal
 
 -- a parabola that is turned and then lowered is still small
 lowered_turned-small : (p : Parabola) (half : ℤ) → IsSmall p → unsigned_abs p.level + unsigned_abs half ≤ LARGEST_LEVEL → IsSmall (lowered (turned p) half)

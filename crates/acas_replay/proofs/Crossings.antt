@@ -8,10 +8,10 @@ use Rattle.acas_frac.proofs.SignedProducts.{le-trans_ℤ, mul_assoc_ℤ, mul-le_
 use Rattle.acas_frac.proofs.Bounds.{product_size}
 use Rattle.acas_frac.proofs.IntRing.{Expr, ring, at, num, ◌⊕◌, ◌⊖◌, ◌⊗◌}
 use Rattle.acas_frac.proofs.Orders.{cases_lt_ℤ, mul_nonneg}
-use Rattle.acas_second.specs.Parabola.{IsBetween, value_at}
-use Rattle.acas_second.specs.declared.parabola.Fractions.{Fractions}
-use Rattle.acas_second.specs.declared.parabola.Parabola.{Parabola}
-use Rattle.acas_second.proofs.Signs.{below_some, le_from_mul_by, mul_le_right, mul_pos_ℤ}
+use Rattle.acas_replay.specs.Parabola.{IsBetween, value_at}
+use Rattle.acas_replay.specs.declared.parabola.Fractions.{Fractions}
+use Rattle.acas_replay.specs.declared.parabola.Parabola.{Parabola}
+use Rattle.acas_replay.proofs.Signs.{below_some, le_from_mul_by, mul_le_right, mul_pos_ℤ}
 
 -- the value is at most the bound, and at least its opposite
 pub record IsWithin (bound z : ℤ) : Type 0 where

@@ -2,9 +2,9 @@ use Rattle.std.proofs.Common.{◌≡◌, ◌∙◌, refl, ℤ, pos, ◌+ℤ◌, 
 use Rattle.std.specs.Int.{int_max, int_min}
 use Rattle.std.proofs.lemmas.Int.{ints, clamps}
 use Rattle.acas_units.specs.declared.limits.TheConstants.{GREATEST_CLOSING}
-use Rattle.acas_second.specs.declared.parabola.Fractions.{Fractions}
-use Rattle.acas_second.proofs.Casts.{fits, whole}
-use Rattle.acas_second.proofs.contact.near_fractions.Goals as goal
+use Rattle.acas_replay.specs.declared.parabola.Fractions.{Fractions}
+use Rattle.acas_replay.proofs.Casts.{fits, whole}
+use Rattle.acas_replay.proofs.contact.near_fractions.Goals as goal
 
 same_fractions : {n x y n' x' y' : ℤ} → n ≡ n' → x ≡ x' → y ≡ y' →
     (let f : Fractions = record { parts = n; first = x; last = y } in f) ≡ (let f : Fractions = record { parts = n'; first = x'; last = y' } in f)

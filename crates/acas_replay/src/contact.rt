@@ -1,7 +1,7 @@
 //! Contact within a second.
 ghost use Rattle.std.specs.Prelude.{◌≡◌, ◌<◌, ◌≤◌, ◌*◌, IsTrue, ◌↔◌};
-ghost use Rattle.acas_second.specs.Contact.{HasContact};
-ghost use Rattle.acas_second.specs.Seconds.{IsSecond, near_fractions};
+ghost use Rattle.acas_replay.specs.Contact.{HasContact};
+ghost use Rattle.acas_replay.specs.Seconds.{IsSecond, near_fractions};
 
 use crate::parabola::{Fractions, Parabola};
 use crate::second::Second;

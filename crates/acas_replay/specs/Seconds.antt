@@ -2,9 +2,9 @@
 use Rattle.std.specs.Prelude.{ℕ, ◌≤◌, pos, ◌+ℤ◌, ◌-ℤ◌, ◌<ℤ◌, unsigned_abs}
 use Rattle.std.specs.Int.{int_max, int_min}
 use Rattle.acas_units.specs.declared.limits.TheConstants.{GREATEST_CLOSING}
-use Rattle.acas_second.specs.declared.parabola.Fractions.{Fractions}
-use Rattle.acas_second.specs.declared.second.Second.{Second}
-use Rattle.acas_second.specs.declared.second.TheConstants.{LARGEST_ALTITUDE, LARGEST_CHANGE, LARGEST_RANGE, LARGEST_RATE}
+use Rattle.acas_replay.specs.declared.parabola.Fractions.{Fractions}
+use Rattle.acas_replay.specs.declared.second.Second.{Second}
+use Rattle.acas_replay.specs.declared.second.TheConstants.{LARGEST_ALTITUDE, LARGEST_CHANGE, LARGEST_RANGE, LARGEST_RATE}
 
 -- no number of the second is larger than allowed, and the range closes
 pub record IsSecond (s : Second) : Type 0 where

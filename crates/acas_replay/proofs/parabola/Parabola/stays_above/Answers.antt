@@ -1,8 +1,8 @@
 use Rattle.std.proofs.Common.{◌≡◌, ℤ, pos, ◌≤ℤ◌, ◌<ℤ◌, arith}
 use Rattle.std.proofs.lemmas.Int.{ints}
-use Rattle.acas_second.proofs.Casts.{half_slope_at-whole, value_at-whole}
-use Rattle.acas_second.proofs.Parabolas.{comes_down-first, comes_down-last, comes_down-least, stays_above-concave, stays_above-falling, stays_above-least, stays_above-rising}
-use Rattle.acas_second.proofs.parabola.Parabola.stays_above.Goals as goal
+use Rattle.acas_replay.proofs.Casts.{half_slope_at-whole, value_at-whole}
+use Rattle.acas_replay.proofs.Parabolas.{comes_down-first, comes_down-last, comes_down-least, stays_above-concave, stays_above-falling, stays_above-least, stays_above-rising}
+use Rattle.acas_replay.proofs.parabola.Parabola.stays_above.Goals as goal
 
 at_most : (r x : ℤ) → r ≡ x → r ≤ℤ pos 0 → x ≤ℤ pos 0
 at_most r x e h = rw e at h

@@ -3,16 +3,16 @@ use Rattle.std.specs.Prelude.{IsTrue, ◌↔◌}
 use Rattle.std.specs.Int.{w64}
 use Rattle.std.proofs.lemmas.Int.{ints, clamps}
 use Rattle.acas_units.specs.declared.limits.TheConstants.{GREATEST_RADIUS}
-use Rattle.acas_second.specs.Contact.{HasContact}
-use Rattle.acas_second.specs.Seconds.{IsSecond, near_fractions}
-use Rattle.acas_second.specs.Parabola.{AreFractions, ComesInside, StaysOutside}
-use Rattle.acas_second.specs.declared.parabola.Fractions.{Fractions}
-use Rattle.acas_second.specs.declared.parabola.Parabola.{Parabola}
-use Rattle.acas_second.specs.declared.second.Second.{Second}
-use Rattle.acas_second.specs.declared.second.TheConstants.{LARGEST_ALTITUDE, LARGEST_CHANGE, LARGEST_RATE}
-use Rattle.acas_second.proofs.Casts.{whole}
-use Rattle.acas_second.proofs.Contacts.{none_near, none_outside, parabola_of, some_inside}
-use Rattle.acas_second.proofs.contact.has_contact.Goals as goal
+use Rattle.acas_replay.specs.Contact.{HasContact}
+use Rattle.acas_replay.specs.Seconds.{IsSecond, near_fractions}
+use Rattle.acas_replay.specs.Parabola.{AreFractions, ComesInside, StaysOutside}
+use Rattle.acas_replay.specs.declared.parabola.Fractions.{Fractions}
+use Rattle.acas_replay.specs.declared.parabola.Parabola.{Parabola}
+use Rattle.acas_replay.specs.declared.second.Second.{Second}
+use Rattle.acas_replay.specs.declared.second.TheConstants.{LARGEST_ALTITUDE, LARGEST_CHANGE, LARGEST_RATE}
+use Rattle.acas_replay.proofs.Casts.{whole}
+use Rattle.acas_replay.proofs.SecondContacts.{none_near, none_outside, parabola_of, some_inside}
+use Rattle.acas_replay.proofs.contact.has_contact.Goals as goal
 
 never : {A : Type 0} → false ≡ true → A
 never e = let bad : ⊥ = cc in absurd bad

@@ -2,10 +2,10 @@ use Rattle.std.proofs.Common.{◌≡◌, ◌∙◌, ap₂, ℕ, ◌*◌, pos, �
 use Rattle.std.specs.Int.{w64}
 use Rattle.std.proofs.lemmas.Int.{ints}
 use Rattle.acas_units.specs.declared.limits.TheConstants.{GREATEST_CLOSING}
-use Rattle.acas_second.specs.Parabola.{value_at}
-use Rattle.acas_second.specs.declared.parabola.TheConstants.{LARGEST_BEND, LARGEST_LEVEL, LARGEST_SQUARE}
-use Rattle.acas_second.proofs.Casts.{sum_three_fits, whole, whole_sum_three}
-use Rattle.acas_second.proofs.parabola.Parabola.value_at.Goals as goal
+use Rattle.acas_replay.specs.Parabola.{value_at}
+use Rattle.acas_replay.specs.declared.parabola.TheConstants.{LARGEST_BEND, LARGEST_LEVEL, LARGEST_SQUARE}
+use Rattle.acas_replay.proofs.Casts.{sum_three_fits, whole, whole_sum_three}
+use Rattle.acas_replay.proofs.parabola.Parabola.value_at.Goals as goal
 
 abbrev most : ℕ
 most = LARGEST_LEVEL * LARGEST_SQUARE

@@ -4,10 +4,10 @@ use Rattle.std.proofs.lemmas.Int.{ints}
 use lib.IntN.{*ℤ_comm}
 use Rattle.acas_frac.proofs.IntRing.{ring, at, num, ◌⊕◌, ◌⊖◌, ◌⊗◌}
 use Rattle.acas_frac.proofs.Orders.{cases_lt_ℤ, mul_nonneg}
-use Rattle.acas_second.specs.Parabola.{ComesDown, StaysAbove, half_slope_at, value_at}
-use Rattle.acas_second.specs.declared.parabola.Fractions.{Fractions}
-use Rattle.acas_second.specs.declared.parabola.Parabola.{Parabola}
-use Rattle.acas_second.proofs.Signs.{below_some, mul_le_by, mul_nonpos, mul_opposite, mul_pos_ℤ, pos_from_mul_ℤ, square_nonneg}
+use Rattle.acas_replay.specs.Parabola.{ComesDown, StaysAbove, half_slope_at, value_at}
+use Rattle.acas_replay.specs.declared.parabola.Fractions.{Fractions}
+use Rattle.acas_replay.specs.declared.parabola.Parabola.{Parabola}
+use Rattle.acas_replay.proofs.Signs.{below_some, mul_le_by, mul_nonpos, mul_opposite, mul_pos_ℤ, pos_from_mul_ℤ, square_nonneg}
 
 gap : (u v : ℤ) → v ≤ℤ u → pos 0 ≤ℤ (u -ℤ v)
 gap u v h = omega (arith, ints)

@@ -1,8 +1,8 @@
 use Rattle.std.proofs.Common.{◌∙◌, ap₂, ◌*◌, ◌+ℤ◌, ◌*ℤ◌, arith}
 use Rattle.acas_units.specs.declared.limits.TheConstants.{GREATEST_CLOSING}
-use Rattle.acas_second.specs.declared.parabola.TheConstants.{LARGEST_BEND, LARGEST_LEVEL, LARGEST_SLOPE, LARGEST_SQUARE}
-use Rattle.acas_second.proofs.Casts.{whole, whole_sum}
-use Rattle.acas_second.proofs.parabola.Parabola.half_slope_at.Goals as goal
+use Rattle.acas_replay.specs.declared.parabola.TheConstants.{LARGEST_BEND, LARGEST_LEVEL, LARGEST_SLOPE, LARGEST_SQUARE}
+use Rattle.acas_replay.proofs.Casts.{whole, whole_sum}
+use Rattle.acas_replay.proofs.parabola.Parabola.half_slope_at.Goals as goal
 
 pub returns : goal.returns
 returns c =

@@ -1,9 +1,9 @@
 -- What the inner functions say of a quantity that changes evenly faster or slower within a second.
 use Rattle.std.specs.Prelude.{◌≤◌, ℤ, pos, ◌+ℤ◌, ◌-ℤ◌, ◌*ℤ◌, ◌≤ℤ◌, ◌<ℤ◌, unsigned_abs, ◌⊎◌}
 use Rattle.acas_units.specs.declared.limits.TheConstants.{GREATEST_CLOSING}
-use Rattle.acas_second.specs.declared.parabola.Fractions.{Fractions}
-use Rattle.acas_second.specs.declared.parabola.Parabola.{Parabola}
-use Rattle.acas_second.specs.declared.parabola.TheConstants.{LARGEST_BEND, LARGEST_LEVEL, LARGEST_SLOPE}
+use Rattle.acas_replay.specs.declared.parabola.Fractions.{Fractions}
+use Rattle.acas_replay.specs.declared.parabola.Parabola.{Parabola}
+use Rattle.acas_replay.specs.declared.parabola.TheConstants.{LARGEST_BEND, LARGEST_LEVEL, LARGEST_SLOPE}
 
 -- the value at a of q parts of the second, over q^2
 unfoldable pub value_at : Parabola → ℤ → ℤ → ℤ

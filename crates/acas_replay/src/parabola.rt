@@ -1,7 +1,7 @@
 //! A quantity that changes evenly faster or slower within a second, and the fractions of a second at which it is above 0.
 ghost use Rattle.std.specs.Prelude.{◌≡◌, ◌+◌, ◌*◌, ◌≤◌, ◌*ℤ◌, ◌≤ℤ◌, ◌<ℤ◌, unsigned_abs, true, false};
 ghost use Rattle.acas_units.specs.declared.limits.TheConstants.{GREATEST_CLOSING};
-ghost use Rattle.acas_second.specs.Parabola.{AreFractions, ComesDown, ComesInside, IsSmall, StaysAbove, StaysOutside, half_slope_at, lowered, turned, value_at};
+ghost use Rattle.acas_replay.specs.Parabola.{AreFractions, ComesDown, ComesInside, IsSmall, StaysAbove, StaysOutside, half_slope_at, lowered, turned, value_at};
 
 use acas_units::GREATEST_CLOSING;
 
