@@ -5,7 +5,7 @@ use Rattle.std.specs.FinMap.{get}
 use Rattle.acas_spec.specs.Limits.{IsModel}
 use Rattle.acas_spec.specs.Model.{ModelData, entries}
 use Rattle.acas_base.specs.Advices.{AdvicesData}
-use Rattle.acas_layers.specs.Layers.{LayersData}
+use Rattle.acas_base.specs.Layers.{LayersData}
 use Rattle.acas_outside.specs.Bytes.{IsBytes}
 use Rattle.acas_outside.specs.Counts.{raised}
 use Rattle.acas_outside.specs.Files.{Files, Given}

@@ -13,7 +13,7 @@ use Rattle.acas_process.proofs.ModelLaws.{is_chosen}
 use Rattle.acas_units.specs.declared.pair.Entry.{Entry}
 use Rattle.acas_units.specs.declared.pair.Pair.{Pair}
 use Rattle.acas_base.specs.Advices.{AdvicesData, AreAdvicesOf, advice_at, advice_place}
-use Rattle.acas_layers.specs.Layers.{GainsLayer, LayersData, advice_of, pairs_of}
+use Rattle.acas_base.specs.Layers.{GainsLayer, LayersData, advice_of, pairs_of}
 use Rattle.acas_table_text.specs.Shape.{shape_of}
 use Rattle.acas_table_text.specs.Tables.{layer_at, no_entry}
 use Rattle.acas_table_text.specs.Text.{entry_at, layer_of}

@@ -2,7 +2,7 @@
 use Rattle.std.specs.Prelude.{◌≡◌, ℕ, ◌+◌, ◌<◌, ◌≤◌, List, Option, Some, None, Result, Ok, Err, OnOk, ⊤}
 use Rattle.acas_spec.specs.Model.{ModelData, states}
 use Rattle.acas_base.specs.Advices.{AdvicesData, advice_at}
-use Rattle.acas_layers.specs.Layers.{LayersData, advice_of, pairs_of}
+use Rattle.acas_base.specs.Layers.{LayersData, advice_of, pairs_of}
 use Rattle.acas_outside.specs.Bytes.{IsBytes}
 use Rattle.acas_outside.specs.Counts.{raised}
 use Rattle.acas_outside.specs.declared.folder.Folder.{Ghosts as FolderMeanings}

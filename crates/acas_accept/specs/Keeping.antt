@@ -5,7 +5,7 @@ use Rattle.acas_grid.specs.States.{state_present}
 use Rattle.acas_units.specs.declared.pair.Entry.{Entry}
 use Rattle.acas_units.specs.declared.pair.Pair.{Pair}
 use Rattle.acas_base.specs.Advices.{AdvicesData, AreAdvicesOf, advice_at}
-use Rattle.acas_layers.specs.Layers.{LayersData, advice_of, pairs_of}
+use Rattle.acas_base.specs.Layers.{LayersData, advice_of, pairs_of}
 use Rattle.acas_process.specs.Cost.{MayChoose}
 use Rattle.acas_means.specs.Layer.{pair_at}
 use Rattle.acas_table_text.specs.Shape.{shape_of}

@@ -4,8 +4,7 @@ ghost use Rattle.acas_spec.specs.Model.{ModelData, states};
 ghost use Rattle.acas_base.specs.Advices.{AreAdvicesOf};
 ghost use Rattle.acas_accept.specs.Keeping.{AreAdvicesBelow, AreAllowedBelow, AreLayersBelow, AreRead, KeepsLayer, MayBeChosen, StandFor};
 
-use acas_base::{Advices, Model};
-use acas_layers::Layers;
+use acas_base::{Advices, Layers, Model};
 use acas_units::Pair;
 use std::alloc::{AllocError, Global};
 

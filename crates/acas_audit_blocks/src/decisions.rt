@@ -1,7 +1,7 @@
 //! How many blocks were decided.
 ghost use Rattle.std.specs.Prelude.{◌≡◌, ◌+◌, ◌<◌, ◌^◌};
 
-use acas_count::Counter;
+use acas_units::Counter;
 
 /// Work that only the call here does that decides a block: one decision.
 #[derive(Drop)]

@@ -2,7 +2,7 @@
 use Rattle.std.specs.Prelude.{ℕ, nat_eq, ℤ, pos, false, [], ◌∷◌}
 use Rattle.acas_spec.specs.declared.place.Point.{Point}
 use Rattle.acas_encounter.specs.Encounter.{EncounterData}
-use Rattle.acas_second.specs.declared.second.Second.{Second}
+use Rattle.acas_replay.specs.declared.second.Second.{Second}
 use Rattle.acas_replay.specs.Replay.{Course}
 use Rattle.acas_replay.specs.declared.state.EncounterState.{EncounterState}
 

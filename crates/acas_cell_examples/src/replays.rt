@@ -1,6 +1,6 @@
 //! The states, counts and lines of a replay.
 ghost use Rattle.std.specs.Prelude.{◌≡◌, pos, codes, true, false};
-ghost use Rattle.acas_second.specs.declared.second.Second.{Second};
+ghost use Rattle.acas_replay.specs.declared.second.Second.{Second};
 ghost use Rattle.acas_replay.specs.Audited.{IsAudited, IsOfCells, flight_state, own_climb};
 ghost use Rattle.acas_replay.specs.Replay.{IsCourse, contacts, counts_line, line_of, replay_text, second_at, second_line, state_at};
 ghost use Rattle.acas_replay.specs.States.{second_from, start_of, state_after};

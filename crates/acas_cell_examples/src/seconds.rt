@@ -1,7 +1,7 @@
 //! Seconds of two aircraft.
 ghost use Rattle.std.specs.Prelude.{◌≡◌, pos};
-ghost use Rattle.acas_second.specs.Contact.{HasContact, IsContactAt, separation};
-ghost use Rattle.acas_second.specs.Seconds.{near_fractions};
+ghost use Rattle.acas_replay.specs.Contact.{HasContact, IsContactAt, separation};
+ghost use Rattle.acas_replay.specs.Seconds.{near_fractions};
 ghost use Rattle.acas_flight_examples.specs.Numbers.{minus};
 ghost use Rattle.acas_cell_examples.specs.Encounters.{changing, steady};
 

@@ -9,7 +9,7 @@ use Rattle.sha2.proofs.Facts256.{length-sha256}
 use Rattle.acas_spec.specs.Model.{ModelData}
 use Rattle.acas_spec.specs.Table.{Table}
 use Rattle.acas_units.specs.declared.pair.Entry.{Entry}
-use Rattle.acas_layers.specs.Layers.{LayersData}
+use Rattle.acas_base.specs.Layers.{LayersData}
 use Rattle.acas_outside.specs.Bytes.{IsBytes}
 use Rattle.acas_outside.specs.Files.{Files, Given}
 use Rattle.acas_outside.specs.Outside.{Outside}

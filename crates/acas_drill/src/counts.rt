@@ -4,8 +4,7 @@ ghost use Rattle.acas_base.specs.Advices.{AreAdvicesOf};
 ghost use Rattle.acas_drill.specs.Calls.{AreCountsOf};
 
 use acas_base::{Advices, Model};
-use acas_outside::{Failed, Sink};
-use acas_print::PrintFault;
+use acas_outside::{Failed, PrintFault, Sink};
 use acas_report::write_report;
 use acas_report_lines::{Counts, Which};
 use std::alloc::{AllocError, Global};

@@ -3,7 +3,7 @@ use Rattle.std.proofs.Common.{◌≡◌, ℕ, ◌-◌, ◌<◌, ◌≤◌, ◌�
 use Rattle.std.proofs.lemmas.Int.{ints}
 use Rattle.std.proofs.lemmas.Bool.{cases_lt, le-leb, lt-leb, lt-ltb, le-ltb}
 use Rattle.acas_flight.proofs.Holding.{meets_above}
-use Rattle.acas_flight_curves.proofs.Mirror.{meets_under}
+use Rattle.acas_flight_laws.proofs.Mirror.{meets_under}
 use Rattle.acas_flight.specs.Response.{Segment, Demand, rate_after, climb, lasting, Follows, FollowsThroughout, Meets}
 use Rattle.acas_flight.specs.Parts.{first_part, until, CanBeMet}
 use Rattle.acas_flight.specs.Curves.{lowest, highest, low_pull, high_pull}

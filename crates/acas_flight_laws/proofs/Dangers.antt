@@ -4,8 +4,8 @@ use Rattle.acas_spec.specs.Limits.{IsModel}
 use Rattle.acas_spec.specs.Model.{ModelData}
 use Rattle.acas_flight_laws.proofs.Cuts.{cuts_meet}
 use Rattle.acas_flight_laws.proofs.Endangered.{endangered_cell, endangered_box}
-use Rattle.acas_flight_curves.proofs.Models.{demand_can_be_met, scaled_can_be_met}
-use Rattle.acas_flight_curves.proofs.Safe.{clear_areas_are_safe}
+use Rattle.acas_flight_laws.proofs.Models.{demand_can_be_met, scaled_can_be_met}
+use Rattle.acas_flight_laws.proofs.Safe.{clear_areas_are_safe}
 use Rattle.acas_flight.specs.Response.{Segment, demand_of, scaled, climb, lasting, Meets}
 use Rattle.acas_flight.specs.State.{State, Box}
 use Rattle.acas_flight.specs.Contact.{IsInContact, IsEndangered, IsEndangeredCell, IsEndangeredBox}

@@ -3,7 +3,7 @@ use Rattle.std.proofs.Common.{◌≡◌, ℕ, ◌*◌, ◌<◌, ◌↔◌, refl,
 use Rattle.std.proofs.lemmas.Int.{unsigned_abs-mul}
 use Rattle.acas_spec.specs.Model.{ModelData}
 use Rattle.acas_frac.proofs.IntRing.{at, num, ◌⊕◌, ◌⊖◌, ◌⊗◌, ring, mul_pos_mul_ℤ}
-use Rattle.acas_flight_curves.proofs.Rising.{scaled_le}
+use Rattle.acas_flight_laws.proofs.Rising.{scaled_le}
 use Rattle.acas_flight_laws.proofs.Finer.{climb_finer, lasting_finer, finer_meet}
 use Rattle.acas_flight.specs.Response.{Segment, Demand, demand_of, scaled, climb, lasting}
 use Rattle.acas_flight.specs.State.{State, Interval, IsInside, Box, IsInCell, IsInBox}

@@ -3,7 +3,7 @@ use Rattle.std.proofs.Common.{◌≡◌, ℕ, ◌*◌, ◌<◌, inl, inr, ⊎_el
 use lib.IntN.{*ℤ_comm}
 use Rattle.acas_frac.proofs.SignedProducts.{le-from_mul_ℤ, lt-from_mul_ℤ, neg-mul_ℤ}
 use Rattle.acas_frac.proofs.IntRing.{at, num, ◌⊕◌, ◌⊗◌, ring}
-use Rattle.acas_flight_curves.proofs.Rising.{scaled_le}
+use Rattle.acas_flight_laws.proofs.Rising.{scaled_le}
 use Rattle.acas_flight.specs.Response.{Segment, Demand, scaled, rate_after, climb_within, climb, lasting, Follows, FollowsThroughout, Holds, Meets}
 use Rattle.acas_flight.specs.Parts.{finer}
 

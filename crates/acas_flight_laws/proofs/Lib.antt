@@ -1,3 +1,13 @@
+pub mod Models
+pub mod Safe
+pub mod Held
+pub mod Rising
+pub mod Scales
+pub mod Longer
+pub mod Tangents
+pub mod Mirror
+pub mod Gaps
+pub mod Numbers
 pub mod Dangers
 pub mod Cuts
 pub mod Endangered

@@ -1,4 +1,4 @@
-//! Laws of flights under an advisory: cuts, bounds, windows, dangers and extremes. The functions do nothing: each clause is a law.
+//! Laws of flights under an advisory: curves, cuts, bounds, windows, dangers and extremes. The functions do nothing: each clause is a law.
 ghost use Rattle.std.specs.Prelude.{◌≡◌, ℕ, ◌-◌, ◌*◌, ◌<◌, ◌≤◌, ◌↔◌, ℤ, pos, ◌*ℤ◌, ◌≤ℤ◌, List, [], ◌∷◌};
 ghost use Rattle.acas_frac.specs.Fraction.{Fraction};
 ghost use Rattle.acas_spec.specs.Limits.{IsModel};
@@ -7,10 +7,25 @@ ghost use Rattle.acas_flight.specs.Response.{Demand, Meets, Segment, climb, dema
 ghost use Rattle.acas_flight.specs.State.{Box, IsInBox, IsInCell, State};
 ghost use Rattle.acas_flight.specs.Contact.{IsEndangeredBox, IsEndangeredCell, IsInContact};
 ghost use Rattle.acas_flight.specs.Parts.{CanBeMet, finer, until};
-ghost use Rattle.acas_flight.specs.Curves.{high_pull, highest, low_pull, lowest};
+ghost use Rattle.acas_flight.specs.Curves.{held, high_pull, highest, low_pull, lowest};
 ghost use Rattle.acas_flight.specs.Window.{IsDuring, IsWindowOfBox, IsWindowOfCell, Times};
 ghost use Rattle.acas_flight.specs.Clear.{Area, IsClear, IsEndangeredDuring, area_of_box, area_of_cell};
 ghost use Rattle.acas_flight.specs.Extremes.{IsHighExtreme, IsLowExtreme};
+
+/// What an advisory of a model asks can be met, in numbers over every denominator.
+pub fn advisories_can_be_met()
+    ensures { (m : ModelData) (advisory q : ℕ) → IsModel m → advisory < m.grid.advisories → 0 < q →
+        CanBeMet (scaled q (demand_of m advisory)) }
+{}
+
+/// Holding longer never helps: a curve that rises to its aim is no higher at any time after a longer hold, and one that falls to it
+/// is no lower.
+pub fn holding_longer_never_helps()
+    ensures rising { (v k : ℤ) (b g longer t : ℕ) → v ≤ℤ k → g ≤ longer
+        → held v k b longer t ≤ℤ held v k b g t }
+    ensures falling { (v k : ℤ) (b g longer t : ℕ) → k ≤ℤ v → g ≤ longer →
+        held v k b g t ≤ℤ held v k b longer t }
+{}
 
 /// A response that is cut at a time has the segments before it whole, and of the one at it the part before. It lasts that time, and
 /// where the response meets an advisory it meets it.

@@ -4,8 +4,8 @@ use Rattle.std.proofs.lemmas.Int.{ints}
 use Rattle.acas_frac.proofs.SignedProducts.{mul-le_ℤ, le-from_mul_ℤ, neg-mul_ℤ, mul-neg_ℤ}
 use Rattle.acas_frac.proofs.IntRing.{at, num, ◌⊕◌, ◌⊖◌, ◌⊗◌, ring, zero-sub_ℤ}
 use Rattle.acas_frac.proofs.Orders.{unsigned_abs-le, unsigned_abs-low, unsigned_abs-high}
-use Rattle.acas_flight_curves.proofs.Rising.{scaled_le}
 use Rattle.acas_flight.proofs.Holding.{held-none}
+use Rattle.acas_flight_laws.proofs.Rising.{scaled_le}
 use Rattle.acas_flight_laws.proofs.Finer.{climb_finer, lasting_finer, finer_meet}
 use Rattle.acas_flight_laws.proofs.Endangered.{IsDuring-finer, scaled-finer, start-finer}
 use Rattle.acas_flight.specs.Response.{Segment, Demand, scaled, climb, lasting, Meets}

@@ -1,7 +1,7 @@
 -- The course that a hunt finds is a meeting; and each hunt that can meet finds one.
 use Rattle.std.proofs.Common.{◌≡◌, ℕ, ◌*◌, ◌<◌, ◌≤◌, refl, ap, ◌∙◌, arith, false, List, [], ◌++◌, pos, neg_ℤ, ◌*ℤ◌, ◌≤ℤ◌, min, mul-pos}
 use Rattle.std.specs.Int.Signed.{≤ℤ_refl}
-use Rattle.acas_flight_curves.proofs.Rising.{scaled_le}
+use Rattle.acas_flight_laws.proofs.Rising.{scaled_le}
 use Rattle.acas_flight.proofs.Between.{test_ge}
 use Rattle.acas_flight.specs.Response.{Segment}
 use Rattle.acas_flight.specs.Parts.{finer}

@@ -1,7 +1,7 @@
 -- Where a pass of a hunt ends the next one begins.
 use Rattle.std.proofs.Common.{◌≡◌, ℕ, ◌*◌, ap, ap₂, ◌∙◌, sym, arith, ℤ, pos, neg_ℤ, ◌≤ℤ◌}
 use Rattle.std.proofs.lemmas.Int.{ints}
-use Rattle.acas_flight_curves.proofs.Rising.{scaled_le}
+use Rattle.acas_flight_laws.proofs.Rising.{scaled_le}
 use Rattle.acas_passes.specs.Passes.{Pass, IsLast, AreJoined}
 use Rattle.acas_passes.specs.Flights.{Flight}
 use Rattle.acas_passes.specs.Search.{unit, rate_step, over_square, after_altitude, time_pass, altitude_pass, intruder_pass, own_pass}

@@ -2,7 +2,7 @@
 use Rattle.std.proofs.Common.{◌≡◌, ℕ, ◌+◌, ◌*◌, ◌<◌, ◌≤◌, inr, refl, ap, ◌∙◌, arith, [], ◌∷◌, ℤ, pos, ◌+ℤ◌, ◌-ℤ◌, ◌*ℤ◌, ◌≤ℤ◌, unsigned_abs, mul-pos}
 use Rattle.std.proofs.lemmas.Int.{ints}
 use Rattle.acas_frac.proofs.IntRing.{at, num, ◌⊕◌, ◌⊖◌, ◌⊗◌, ring}
-use Rattle.acas_flight_curves.proofs.Rising.{scaled_le}
+use Rattle.acas_flight_laws.proofs.Rising.{scaled_le}
 use Rattle.acas_flight.proofs.Holding.{held-none}
 use Rattle.acas_flight.specs.Curves.{approach, held}
 use Rattle.acas_units.specs.declared.limits.TheConstants.{WINDOW_SECONDS}

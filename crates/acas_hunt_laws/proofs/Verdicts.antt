@@ -5,7 +5,7 @@ use Rattle.acas_frac.specs.Fraction.{Fraction}
 use Rattle.acas_frac.proofs.IntRing.{at, num, ◌⊗◌, ring}
 use Rattle.acas_frac.proofs.Orders.{cases_lt_ℤ}
 use Rattle.acas_flight.specs.Values.{IsOver}
-use Rattle.acas_flight_curves.proofs.Gaps.{low_pull-over, low_hold-over, high_pull-over, high_hold-over}
+use Rattle.acas_flight_laws.proofs.Gaps.{low_pull-over, low_hold-over, high_pull-over, high_hold-over}
 use Rattle.acas_flight.specs.Window.{Times}
 use Rattle.acas_passes.specs.Value.{thinnest}
 use Rattle.acas_passes.specs.declared.steps.TheConstants.{PULL_STEPS}

@@ -10,8 +10,7 @@ use acas_boxes::read_fitting_boxes;
 use acas_command::{Cause, FileRole, read_model_file, read_text_file};
 use acas_intruder::write_meetings;
 use acas_manoeuvre::Manoeuvre;
-use acas_outside::{Folder, Sink};
-use acas_print::PrintFault;
+use acas_outside::{Folder, PrintFault, Sink};
 use std::alloc::Global;
 
 /// Rules on each box of a file, against an intruder that may change its rate, and prints the report. It answers how many are reported.

@@ -4,8 +4,8 @@ use Rattle.std.proofs.lemmas.Int.{ints}
 use lib.IntN.{*ℤ_comm}
 use Rattle.acas_frac.proofs.SignedProducts.{le-from_mul_ℤ}
 use Rattle.acas_flight.proofs.Holding.{held-none, meets_above}
-use Rattle.acas_flight_curves.proofs.Rising.{lowest_rises}
-use Rattle.acas_flight_curves.proofs.Mirror.{meets_under}
+use Rattle.acas_flight_laws.proofs.Rising.{lowest_rises}
+use Rattle.acas_flight_laws.proofs.Mirror.{meets_under}
 use Rattle.acas_flight.specs.Response.{Segment, Demand, climb, lasting}
 use Rattle.acas_flight.specs.Parts.{CanBeMet}
 use Rattle.acas_flight.specs.Curves.{approach, held, lowest, highest}

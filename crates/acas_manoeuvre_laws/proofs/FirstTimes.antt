@@ -6,7 +6,7 @@ use native.Mathlib.Nat.{le_of_mul-le-mul_left}
 use Rattle.acas_frac.proofs.SignedProducts.{lt-from_mul_ℤ, le-from_mul_ℤ}
 use Rattle.acas_frac.proofs.IntRing.{at, ◌⊕◌, ◌⊖◌, ◌⊗◌, ring}
 use Rattle.acas_frac.proofs.Orders.{by_above}
-use Rattle.acas_flight_curves.proofs.Scales.{pos_inj}
+use Rattle.acas_flight_laws.proofs.Scales.{pos_inj}
 use Rattle.acas_manoeuvre.specs.Race.{Race, race_gap}
 use Rattle.acas_manoeuvre.specs.Least.{IsFirstLeastTime}
 use Rattle.acas_manoeuvre.specs.Turns.{Instant, fraction_of, times_of, IsFirstOf, at_from, at_turn, at_to, IsSoonerOrSame, IsLooked, falling, turning, turned_before, turns_after}

@@ -7,8 +7,8 @@ use Rattle.acas_frac.proofs.IntRing.{at, num, ◌⊕◌, ◌⊖◌, ◌⊗◌, r
 use Rattle.acas_frac.proofs.Squares.{sq}
 use Rattle.acas_flight.proofs.Curves.{steady}
 use Rattle.acas_flight.proofs.Steps.{steady-add}
-use Rattle.acas_flight_curves.proofs.Rising.{held_below}
-use Rattle.acas_flight_curves.proofs.Held.{turned}
+use Rattle.acas_flight_laws.proofs.Rising.{held_below}
+use Rattle.acas_flight_laws.proofs.Held.{turned}
 use Rattle.acas_flight.specs.Curves.{held}
 
 -- what is left of the way to the aim at the time i: of n steps of b after a hold of g

@@ -4,9 +4,6 @@ use Rattle.std.proofs.lemmas.Int.{ints}
 use Rattle.acas_frac.proofs.SignedProducts.{le-trans_ℤ, neg-mul_ℤ}
 use Rattle.acas_frac.proofs.IntRing.{at, ◌⊕◌, ◌⊖◌, ◌⊗◌, ring, mul_pos_mul_ℤ}
 use Rattle.acas_frac.proofs.Orders.{unsigned_abs-low, unsigned_abs-high}
-use Rattle.acas_flight_curves.proofs.Rising.{scaled_le}
-use Rattle.acas_flight_curves.proofs.Models.{scaled_can_be_met}
-use Rattle.acas_flight_curves.proofs.Gaps.{low_pull-over, low_hold-over, high_pull-over, high_hold-over}
 use Rattle.acas_flight.specs.Response.{Segment, Demand, scaled, climb, lasting}
 use Rattle.acas_flight.specs.Parts.{CanBeMet}
 use Rattle.acas_flight.specs.Curves.{approach, held, lowest, highest, low_pull, low_hold, high_pull, high_hold}
@@ -16,7 +13,10 @@ use Rattle.acas_manoeuvre.specs.Intruder.{Manoeuvre, over}
 use Rattle.acas_manoeuvre.specs.Meeting.{MeetsDuring, IsEndangeredDuringBy}
 use Rattle.acas_manoeuvre.specs.Race.{low_race, high_race, own_climb, race_gap, race_tick}
 use Rattle.acas_manoeuvre.specs.Apart.{IsApart}
-use Rattle.acas_flight_curves.proofs.Safe.{low_bound, high_bound, least_start, greatest_start}
+use Rattle.acas_flight_laws.proofs.Rising.{scaled_le}
+use Rattle.acas_flight_laws.proofs.Models.{scaled_can_be_met}
+use Rattle.acas_flight_laws.proofs.Gaps.{low_pull-over, low_hold-over, high_pull-over, high_hold-over}
+use Rattle.acas_flight_laws.proofs.Safe.{low_bound, high_bound, least_start, greatest_start}
 use Rattle.acas_manoeuvre_laws.proofs.Envelope.{flown-above, flown-under, approach-rises}
 
 -- ---- a race's curve, over q

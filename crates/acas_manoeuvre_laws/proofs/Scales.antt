@@ -2,8 +2,8 @@
 use Rattle.std.proofs.Common.{◌≡◌, ℕ, ◌*◌, ◌<◌, refl, sym, ap, ap₂, ◌∙◌, arith, [], ◌∷◌, ℤ, pos, ◌+ℤ◌, ◌-ℤ◌, ◌*ℤ◌, ◌≤ℤ◌, ◌<ℤ◌, mul-pos}
 use Rattle.acas_frac.proofs.SignedProducts.{lt-from_mul_ℤ, le-from_mul_ℤ, mul-le_ℤ, mul-lt_ℤ}
 use Rattle.acas_frac.proofs.IntRing.{at, ◌⊕◌, ◌⊖◌, ◌⊗◌, ring}
-use Rattle.acas_flight_curves.proofs.Scales.{cancel_left, approach-scaled}
-use Rattle.acas_flight_curves.proofs.Held.{held-scaled}
+use Rattle.acas_flight_laws.proofs.Scales.{cancel_left, approach-scaled}
+use Rattle.acas_flight_laws.proofs.Held.{held-scaled}
 use Rattle.acas_flight.proofs.Holding.{held-none}
 use Rattle.acas_flight.specs.Curves.{approach, held}
 use Rattle.acas_manoeuvre.specs.Race.{Race, own_climb, race_gap}

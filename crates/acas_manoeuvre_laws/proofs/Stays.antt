@@ -4,7 +4,6 @@ use Rattle.std.proofs.lemmas.Int.{ints}
 use lib.IntN.{*ℤ_comm}
 use Rattle.acas_frac.proofs.SignedProducts.{lt-from_mul_ℤ, mul-lt_ℤ, neg-mul_ℤ}
 use Rattle.acas_frac.proofs.IntRing.{at, ◌⊗◌, ring}
-use Rattle.acas_flight_curves.proofs.Mirror.{turned_held, turned_approach}
 use Rattle.acas_frac.specs.Fraction.{Fraction}
 use Rattle.acas_flight.specs.Values.{IsOver}
 use Rattle.acas_flight.specs.Window.{Times, IsDuring}
@@ -14,6 +13,7 @@ use Rattle.acas_manoeuvre.specs.Least.{IsFirstLeastTime}
 use Rattle.acas_manoeuvre.specs.Turns.{Instant, fraction_of, race_number}
 use Rattle.acas_flight.specs.Curves.{approach, held}
 use Rattle.acas_manoeuvre_laws.proofs.Scales.{race_gap-finer, race_gap-number}
+use Rattle.acas_flight_laws.proofs.Mirror.{turned_held, turned_approach}
 use Rattle.acas_flight_laws.proofs.Endangered.{IsDuring-finer}
 
 scale : (half Q d b a : ℕ) → pos (d * d) *ℤ pos (half * (Q * Q * Q * (b * Q) * (a * Q))) ≡ pos ((Q * Q) * (Q * Q) * Q) *ℤ pos (half * (d * d * b * a))

@@ -4,7 +4,7 @@ use Rattle.std.proofs.lemmas.Int.{ints}
 use Rattle.acas_frac.proofs.IntRing.{at, num, ◌⊕◌, ◌⊗◌, ring}
 use Rattle.acas_frac.proofs.Orders.{unsigned_abs-le, unsigned_abs-low, unsigned_abs-high}
 use Rattle.acas_frac.proofs.SignedProducts.{neg-mul_ℤ}
-use Rattle.acas_flight_curves.proofs.Rising.{scaled_le}
+use Rattle.acas_flight_laws.proofs.Rising.{scaled_le}
 use Rattle.acas_spec.specs.Model.{ModelData}
 use Rattle.acas_flight.specs.Response.{Segment, rate_after, climb, lasting}
 use Rattle.acas_flight.specs.State.{State, Interval, IsInside, Box, IsInBox}

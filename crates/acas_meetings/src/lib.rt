@@ -1,5 +1,5 @@
 //! What is said of a box against an intruder that may change its rate, as data and as definitions: the rule that fixes a meeting, how it
-//! is printed, and verdicts. What is true of them is in `acas_hunt_laws` and `acas_meeting_laws`.
+//! is printed, and verdicts. What is true of them is in `acas_hunt_laws` and `acas_ruling_laws`.
 #![tactic(auto)]
 
 mod laws;

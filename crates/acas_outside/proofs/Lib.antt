@@ -3,3 +3,4 @@ mod StoredFiles
 pub mod Appended
 pub mod Grown
 pub mod ReadSoFar
+pub mod PrintedPieces

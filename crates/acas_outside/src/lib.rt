@@ -1,5 +1,6 @@
-//! The outside of the program: folders that are read and written, sinks that are written, and whole files over
-//! them.
+//! The outside of the program: folders that are read and written, sinks that are written, whole files over them, and text that is
+//! printed piece by piece: a buffer that gathers pieces to blocks, so that a line costs no call on its sink, a pen that builds lines over
+//! it, and, in `proofs/`, what a loop over pieces keeps and what a failure in it leaves.
 //!
 //! A folder or a sink in memory tells what it holds. The files and streams of the system tell nothing.
 #![tactic(auto)]
@@ -10,6 +11,9 @@ mod folder;
 mod listed_calls;
 mod memory_folder;
 mod memory_sink;
+mod pen;
+mod print_buffer;
+mod print_fault;
 mod real;
 mod sink;
 mod stored;
@@ -21,6 +25,9 @@ pub use emitting::{emit, emit_four, emit_parts};
 pub use folder::{Folder, ReadMiss};
 pub use memory_folder::MemoryFolder;
 pub use memory_sink::MemorySink;
+pub use pen::Pen;
+pub use print_buffer::{BLOCK_BYTES, PrintBuffer};
+pub use print_fault::PrintFault;
 pub use real::{RealFolder, RealSink};
 pub use sink::{Failed, Sink};
 pub use storing::{store_file, write_piece};

@@ -7,8 +7,8 @@ use Rattle.acas_pass_laws.proofs.Deficits.{start_change, pull_change}
 use Rattle.acas_flight.proofs.Curves.{steady, approach_below, approach_above}
 use Rattle.acas_flight.proofs.Steps.{steady-add}
 use Rattle.acas_flight.proofs.Holding.{steady_below}
-use Rattle.acas_flight_curves.proofs.Rising.{held_below, held_at_most, approach_at_least}
-use Rattle.acas_flight_curves.proofs.Tangents.{faster, parts_of}
+use Rattle.acas_flight_laws.proofs.Rising.{held_below, held_at_most, approach_at_least}
+use Rattle.acas_flight_laws.proofs.Tangents.{faster, parts_of}
 use Rattle.acas_flight.specs.Curves.{approach, held}
 
 -- ---- time

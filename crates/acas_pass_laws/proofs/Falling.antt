@@ -3,8 +3,8 @@ use Rattle.std.proofs.Common.{◌≡◌, ℕ, ◌+◌, ◌-◌, ◌*◌, ◌∙�
 use Rattle.std.proofs.lemmas.Int.{ints}
 use Rattle.acas_frac.proofs.SignedProducts.{mul-neg_ℤ}
 use Rattle.acas_flight.proofs.Curves.{steady}
-use Rattle.acas_flight_curves.proofs.Mirror.{steady_turned}
-use Rattle.acas_flight_curves.proofs.Held.{down, turned}
+use Rattle.acas_flight_laws.proofs.Mirror.{steady_turned}
+use Rattle.acas_flight_laws.proofs.Held.{down, turned}
 use Rattle.acas_pass_laws.proofs.Changes.{longer_below, longer_below_least, start_below, hold_below, pull_below}
 use Rattle.acas_flight.specs.Curves.{held}
 

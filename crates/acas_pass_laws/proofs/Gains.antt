@@ -5,7 +5,7 @@ use Rattle.acas_frac.proofs.SignedProducts.{mul-le_ℤ, mul-lt_ℤ}
 use Rattle.acas_frac.proofs.IntRing.{at, num, ◌⊕◌, ◌⊖◌, ◌⊗◌, ring}
 use Rattle.acas_frac.proofs.Orders.{by_above, by_below, cases_lt_ℤ}
 use Rattle.acas_flight.proofs.Curves.{steady}
-use Rattle.acas_flight_curves.proofs.Mirror.{steady_turned}
+use Rattle.acas_flight_laws.proofs.Mirror.{steady_turned}
 use Rattle.acas_pass_laws.proofs.Changes.{longer_below, longer_below_least}
 use Rattle.acas_pass_laws.proofs.Falling.{longer_above, longer_above_least}
 use Rattle.acas_passes.specs.Value.{IsLessThanAbove, thinnest}

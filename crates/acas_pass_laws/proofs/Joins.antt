@@ -1,7 +1,7 @@
 -- Where a pass of a search ends the next one begins.
 use Rattle.std.proofs.Common.{◌≡◌, ℕ, ◌+◌, ◌-◌, ◌*◌, ◌≤◌, ap, ap₂, ◌∙◌, sym, arith, ℤ, ◌-ℤ◌, ◌≤ℤ◌, unsigned_abs}
 use Rattle.std.proofs.lemmas.Int.{ints}
-use Rattle.acas_flight_curves.proofs.Rising.{scaled_le}
+use Rattle.acas_flight_laws.proofs.Rising.{scaled_le}
 use Rattle.acas_passes.specs.Flights.{flight}
 use Rattle.acas_passes.specs.Passes.{IsLast, AreJoined, toward, rising, falling}
 use Rattle.acas_passes.specs.Search.{Search, IsSearch, grain, unit, time_step, rate_step, over_square, low_time, high_time, pull_at_low, hold_at_low, pull_at_high, hold_at_high, low_flight, high_flight, high_flight_from, time_pass, altitude_pass, intruder_pass, aim_pass, pull_pass, hold_pass, own_pass, passes}

@@ -10,7 +10,7 @@ use Rattle.acas_pass_laws.proofs.Neighbours.{unit_some, pull_some}
 use Rattle.acas_pass_laws.proofs.Ends.{AllSome, map_each}
 use Rattle.acas_pass_laws.proofs.Touching.{meets, lasts}
 use Rattle.acas_pass_laws.proofs.Within.{AllFrom, each_from, of_low, of_from}
-use Rattle.acas_flight_curves.proofs.Rising.{scaled_le}
+use Rattle.acas_flight_laws.proofs.Rising.{scaled_le}
 use Rattle.acas_units.specs.declared.limits.TheConstants.{WINDOW_SECONDS}
 
 pub some_of : (s : Search) (is : IsSearch s) (w : Times) (c : Flight) → IsFlightFrom s.demand s.area w (unit s) c → (0 < c.pull) × (0 < (value (unit s) c).den)

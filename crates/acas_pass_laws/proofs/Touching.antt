@@ -4,9 +4,9 @@ use Rattle.std.proofs.lemmas.Int.{ints}
 use Rattle.acas_frac.proofs.SignedProducts.{le-from_mul_ℤ, mul-neg_ℤ, neg-mul_ℤ}
 use Rattle.acas_frac.proofs.IntRing.{at, num, ◌⊕◌, ◌⊖◌, ◌⊗◌, ring, zero-sub_ℤ}
 use Rattle.acas_frac.proofs.Orders.{unsigned_abs-le, by_below, by_above, cases_lt_ℤ}
-use Rattle.acas_flight_curves.proofs.Rising.{scaled_le}
-use Rattle.acas_flight_curves.proofs.Scales.{cancel_left}
-use Rattle.acas_flight_curves.proofs.Held.{held-scaled, min_scaled, sub_scaled}
+use Rattle.acas_flight_laws.proofs.Rising.{scaled_le}
+use Rattle.acas_flight_laws.proofs.Scales.{cancel_left}
+use Rattle.acas_flight_laws.proofs.Held.{held-scaled, min_scaled, sub_scaled}
 use Rattle.acas_passes.specs.Value.{IsWithinHalf}
 use Rattle.acas_flight.specs.Response.{Segment, Demand, scaled, climb, lasting, Meets, FollowsThroughout}
 use Rattle.acas_flight.specs.Curves.{approach, held}

@@ -3,7 +3,7 @@ use Rattle.std.proofs.Common.{◌≡◌, ℕ, ◌*◌, ◌<◌, ◌≤◌, ⊎_e
 use Rattle.std.proofs.lemmas.Int.{ints}
 use Rattle.std.proofs.lemmas.Bool.{cases_lt}
 use Rattle.acas_frac.proofs.IntRing.{at, num, ◌⊗◌, ring}
-use Rattle.acas_flight_curves.proofs.Rising.{scaled_le}
+use Rattle.acas_flight_laws.proofs.Rising.{scaled_le}
 use Rattle.acas_frac.specs.Fraction.{Fraction}
 use Rattle.acas_flight.specs.Values.{IsAtMost}
 use Rattle.acas_flight.specs.Response.{scaled}

@@ -13,7 +13,7 @@ use Rattle.acas_means.specs.Entries.{IsStateEntry}
 use Rattle.acas_means.specs.Layer.{IsLayer, no_pair}
 use Rattle.acas_plain.specs.Below.{AreBelow}
 use Rattle.acas_sweep.specs.Entries.{AreOver, IsWhole, listed_entry}
-use Rattle.acas_layers.specs.Layers.{all_layers}
+use Rattle.acas_base.specs.Layers.{all_layers}
 use Rattle.acas_sweep.specs.Layers.{AreLayers}
 use Rattle.acas_sweep.proofs.Placed.{below_or_at}
 use Rattle.acas_sweep.proofs.Below.{ArePairs, is_whole, next_entry}

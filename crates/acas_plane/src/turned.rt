@@ -1,5 +1,5 @@
 //! How many pairs were turned from one plane to the other.
-use acas_count::Counter;
+use acas_units::Counter;
 
 /// Work that only a turn of a block does: a pair that goes from one plane to the other.
 #[derive(Drop)]

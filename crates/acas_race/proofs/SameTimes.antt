@@ -4,7 +4,7 @@ use Rattle.acas_frac.specs.Fraction.{Fraction, Same}
 use Rattle.acas_frac.proofs.IntRing.{at, ◌⊗◌, ring}
 use Rattle.acas_flight.specs.Values.{IsOver}
 use Rattle.acas_flight.specs.Window.{Times}
-use Rattle.acas_flight_curves.proofs.Scales.{cancel_left}
+use Rattle.acas_flight_laws.proofs.Scales.{cancel_left}
 use Rattle.acas_flight_windows.proofs.NearestTimes.{above_same, below_same}
 use Rattle.acas_manoeuvre.specs.Race.{Race}
 use Rattle.acas_manoeuvre.specs.Least.{IsFirstLeastTime}

@@ -7,8 +7,7 @@ ghost use Rattle.acas_region_commands.specs.Calls.{CallsForRegions};
 
 use acas_boxes::read_boxes;
 use acas_command::{Cause, FileRole, read_model_file, read_text_file};
-use acas_outside::{Folder, Sink};
-use acas_print::PrintFault;
+use acas_outside::{Folder, PrintFault, Sink};
 use acas_report::write_regions;
 use std::alloc::Global;
 

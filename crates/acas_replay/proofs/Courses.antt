@@ -6,9 +6,9 @@ use Rattle.acas_spec.specs.Limits.{IsModel}
 use Rattle.acas_spec.specs.Model.{ModelData}
 use Rattle.acas_base.specs.Advices.{AdvicesData}
 use Rattle.acas_encounter.specs.Encounter.{EncounterData, IsEncounter, intruder_at, own_at, seconds}
-use Rattle.acas_second.specs.Contact.{HasContact}
-use Rattle.acas_second.specs.declared.second.Second.{Second}
-use Rattle.acas_second.proofs.Contacts.{contact_or_none}
+use Rattle.acas_replay.specs.Contact.{HasContact}
+use Rattle.acas_replay.specs.declared.second.Second.{Second}
+use Rattle.acas_replay.proofs.SecondContacts.{contact_or_none}
 use Rattle.acas_replay.specs.States.{second_from, start_of, state_after}
 use Rattle.acas_replay.specs.Flown.{IsFound}
 use Rattle.acas_replay.specs.Issue.{IsIssued}

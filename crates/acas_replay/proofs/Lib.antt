@@ -1,3 +1,7 @@
+pub mod Signs
+pub mod Parabolas
+pub mod Crossings
+pub mod SecondContacts
 pub mod Casts
 pub mod Bounds
 pub mod Layers
@@ -6,4 +10,4 @@ pub mod Issued
 pub mod Courses
 pub mod Texts
 pub mod Audits
-pub mod Contacts
+pub mod FlightContacts

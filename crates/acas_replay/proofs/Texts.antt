@@ -4,8 +4,8 @@ use Rattle.std.proofs.lemmas.List.{append-nil}
 use Rattle.acas_spec.specs.Model.{ModelData}
 use Rattle.acas_outside.specs.Bytes.{Appends, AppendsPart}
 use Rattle.acas_outside.proofs.Appended.{appends_none}
-use Rattle.acas_print.specs.Printing.{Prints, below}
-use Rattle.acas_print.proofs.PrintedPieces.{part_of_longer, part_of_next, prints_all, prints_both}
+use Rattle.acas_outside.specs.Printing.{Prints, below}
+use Rattle.acas_outside.proofs.PrintedPieces.{part_of_longer, part_of_next, prints_all, prints_both}
 use Rattle.acas_base.specs.Advices.{AdvicesData}
 use Rattle.acas_encounter.specs.Encounter.{EncounterData, seconds}
 use Rattle.acas_replay.specs.Replay.{Course, IsCourse, contacts, counts_line, line_of, replay_text, second_line, state_at}

@@ -3,12 +3,12 @@ use Rattle.std.specs.Prelude.{◌≡◌, ℕ, ◌+◌, ◌*◌, ◌<◌, ◌≤�
 use Rattle.acas_units.specs.declared.limits.TheConstants.{GREATEST_CLOSING, GREATEST_ALTITUDE, GREATEST_RATE}
 use Rattle.acas_units.specs.declared.ticks.TheConstants.{TICKS_PER_FOOT}
 use Rattle.acas_spec.specs.Model.{ModelData}
-use Rattle.acas_print.specs.Printing.{below}
+use Rattle.acas_outside.specs.Printing.{below}
 use Rattle.acas_base.specs.Advices.{AdvicesData, AreAdvicesOf}
 use Rattle.acas_encounter.specs.Encounter.{EncounterData, IsEncounterOf, intruder_at, own_at, seconds}
 use Rattle.acas_encounter.specs.declared.limits.TheConstants.{GREATEST_ACCELERATION, GREATEST_START_RANGE}
 use Rattle.acas_process.specs.Axis.{tent}
-use Rattle.acas_second.specs.Contact.{HasContact}
+use Rattle.acas_replay.specs.Contact.{HasContact}
 use Rattle.acas_replay.specs.States.{second_from}
 use Rattle.acas_replay.specs.Issue.{IsIssued}
 use Rattle.acas_replay.specs.Replay.{Course, IsCourse, contacts, replay_text, second_line, state_at}

@@ -1,3 +1,6 @@
+pub mod Contact
+pub mod Seconds
+pub mod Parabola
 pub mod States
 pub mod Issue
 pub mod Replay

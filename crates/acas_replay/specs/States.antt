@@ -2,7 +2,7 @@
 use Rattle.std.specs.Prelude.{ℕ, ℤ, ◌-ℤ◌}
 use Rattle.acas_encounter.specs.Encounter.{EncounterData}
 use Rattle.acas_process.specs.Step.{after_second}
-use Rattle.acas_second.specs.declared.second.Second.{Second}
+use Rattle.acas_replay.specs.declared.second.Second.{Second}
 use Rattle.acas_replay.specs.declared.state.EncounterState.{EncounterState}
 
 -- the state at which an encounter starts

@@ -5,7 +5,7 @@ ghost use Rattle.acas_spec.specs.Model.{ModelData};
 ghost use Rattle.acas_base.specs.Advices.{AdvicesData, AreAdvices, AreAdvicesOf};
 ghost use Rattle.acas_encounter.specs.Encounter.{EncounterData, IsEncounter, IsEncounterOf, seconds};
 ghost use Rattle.acas_flight.specs.Contact.{IsInContact};
-ghost use Rattle.acas_second.specs.Contact.{IsContactAt};
+ghost use Rattle.acas_replay.specs.Contact.{IsContactAt};
 ghost use Rattle.acas_replay.specs.Audited.{IsAudited, IsOfCells, flight_state, own_climb};
 ghost use Rattle.acas_replay.specs.Replay.{Course, IsCourse, IsReplay, state_at};
 ghost use Rattle.acas_replay.specs.States.{second_from, state_after};

@@ -2,14 +2,15 @@
 ghost use Rattle.std.specs.Prelude.{◌+◌, ◌<◌, IsTrue, ◌↔◌};
 ghost use Rattle.acas_base.specs.Advices.{AreAdvicesOf};
 ghost use Rattle.acas_encounter.specs.Encounter.{IsEncounterOf, seconds};
-ghost use Rattle.acas_second.specs.Contact.{HasContact};
-ghost use Rattle.acas_second.specs.Seconds.{IsSecond};
+ghost use Rattle.acas_replay.specs.Contact.{HasContact};
+ghost use Rattle.acas_replay.specs.Seconds.{IsSecond};
 
+use crate::contact::has_contact;
 use crate::issue::issued_advice;
+use crate::second::Second;
 use crate::state::EncounterState;
 use acas_base::{Advices, Model};
 use acas_encounter::Encounter;
-use acas_second::{Second, has_contact};
 
 /// An encounter, and the model and the advices of a table under which it is replayed.
 #[derive(Clone, Copy)]

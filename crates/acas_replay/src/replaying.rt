@@ -4,7 +4,7 @@ ghost use Rattle.acas_base.specs.Advices.{AreAdvicesOf};
 ghost use Rattle.acas_encounter.specs.Encounter.{IsEncounterOf, seconds};
 ghost use Rattle.acas_outside.specs.Bytes.{Appends, AppendsPart};
 ghost use Rattle.acas_outside.specs.Frame.{Emits};
-ghost use Rattle.acas_print.specs.Printing.{Prints};
+ghost use Rattle.acas_outside.specs.Printing.{Prints};
 ghost use Rattle.acas_replay.specs.Flown.{HasContacts, IsCourseOf, IsFlown, IsReplayable, line_in, lines_in, text_in};
 ghost use Rattle.acas_replay.specs.Replay.{Course, IsReplay};
 
@@ -12,8 +12,7 @@ use crate::lines::{write_counts, write_line};
 use crate::progress::{Progress, Replayed};
 use acas_base::{Advices, Model};
 use acas_encounter::Encounter;
-use acas_outside::{Failed, Sink};
-use acas_print::{Pen, PrintFault};
+use acas_outside::{Failed, Pen, PrintFault, Sink};
 use std::alloc::Global;
 
 /// Replays an encounter under the advice of a table of a model, and answers how many of its seconds are in contact: a line for each

@@ -2,8 +2,8 @@
 use Rattle.std.proofs.Common.{◌≡◌, ℕ, Bool, true, false, List, Option, refl, sym, ◌∙◌, ap}
 use Rattle.std.proofs.lemmas.Bool.{false≢true}
 use Rattle.acas_spec.specs.Model.{ModelData}
-use Rattle.acas_print.specs.Printing.{Prints}
-use Rattle.acas_print.proofs.PrintedPieces.{prints_nothing}
+use Rattle.acas_outside.specs.Printing.{Prints}
+use Rattle.acas_outside.proofs.PrintedPieces.{prints_nothing}
 use Rattle.acas_cells.specs.declared.name.CellName.{CellName}
 use Rattle.acas_rulings.specs.Rulings.{IsRulingOfCell}
 use Rattle.acas_rulings.specs.declared.ruling.Ruling.{Ruling}

@@ -12,9 +12,9 @@ ghost use Rattle.acas_report_cells.specs.Plans.{name_plan, place_cell, plan_of};
 use crate::audit::{Audit, Place};
 use crate::rulings::Rulings;
 use acas_cells::CellName;
-use acas_count::Counter;
 use acas_outside::{Failed, Sink};
 use acas_report_lines::{Pen, leaves_out, write_cell_line};
+use acas_units::Counter;
 
 /// Writes all cells.
 pub(crate) fn write_cells<R: Rulings, S: Sink>(

@@ -9,10 +9,9 @@ ghost use Rattle.acas_report_cells.specs.Report.{IsReport, IsReportBegun};
 use crate::audit::Audit;
 use crate::cells::write_cells;
 use crate::rulings::Rulings;
-use acas_count::Counter;
-use acas_outside::{Failed, Sink};
-use acas_print::PrintFault;
+use acas_outside::{Failed, PrintFault, Sink};
 use acas_report_lines::{Counts, Pen, write_counts};
+use acas_units::Counter;
 use std::alloc::Global;
 
 /// Writes the report of an audit, with rulings from a source of them, and answers its counts. It takes all its memory before the

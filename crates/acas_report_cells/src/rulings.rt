@@ -15,8 +15,8 @@ ghost use Rattle.acas_report_cells.specs.Plans.{place_cell};
 use crate::audit::Place;
 use acas_base::{Advices, Model};
 use acas_cells::{AdviceSet, CellName};
-use acas_count::Counter;
 use acas_rulings::Ruling;
+use acas_units::Counter;
 
 /// A source of rulings on cells.
 pub trait Rulings {

@@ -3,8 +3,8 @@ use Rattle.std.proofs.Common.{◌≡◌, ℕ, List, [], ◌∷◌, ◌++◌, len
 use Rattle.std.proofs.lemmas.List.{append-nil}
 use Rattle.acas_outside.specs.Bytes.{Appends, AppendsPart}
 use Rattle.acas_outside.proofs.Appended.{appends_none}
-use Rattle.acas_print.specs.Printing.{Prints}
-use Rattle.acas_print.proofs.PrintedPieces.{prints_both, prints_all, part_of_next, part_of_longer}
+use Rattle.acas_outside.specs.Printing.{Prints}
+use Rattle.acas_outside.proofs.PrintedPieces.{prints_both, prints_all, part_of_next, part_of_longer}
 use Rattle.acas_report_lines.specs.Report.{Ruled, counts_of}
 use Rattle.acas_report_lines.specs.Plan.{Plan, Progress, Wrote, Broke, lines_in, certified_in, reported_in, clear_in}
 use Rattle.acas_report_lines.specs.declared.counts.Counts.{Counts}

@@ -2,7 +2,7 @@
 use Rattle.std.proofs.Common.{◌≡◌, ℕ, ◌+◌, ◌<◌, ◌^◌, not, Bool, true, false, List, [], ◌∷◌, ◌++◌, Option, refl, sym, ◌∙◌, ap, subst, arith, cond, add-zero}
 use Rattle.std.proofs.lemmas.List.{append-nil}
 use Rattle.acas_outside.specs.Bytes.{AppendsPart}
-use Rattle.acas_print.specs.Printing.{Prints}
+use Rattle.acas_outside.specs.Printing.{Prints}
 use Rattle.acas_report_lines.specs.Report.{is_left_out, shown}
 use Rattle.acas_report_lines.specs.Plan.{Progress, Wrote, Broke, Room, names_in, lines_in, certified_in, reported_in, clear_in, total, single_plan}
 use Rattle.acas_report_lines.specs.declared.counts.Counts.{Counts}

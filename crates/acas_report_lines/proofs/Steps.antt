@@ -3,7 +3,7 @@ use Rattle.std.proofs.Common.{◌≡◌, ℕ, zero, suc, ◌+◌, ◌<◌, List,
 use Rattle.std.proofs.lemmas.List.{append-nil}
 use Rattle.std.proofs.lemmas.Grind.{flat_map-append}
 use Rattle.std.proofs.lemmas.Bool.{cases_lt}
-use Rattle.acas_print.proofs.PrintedPieces.{prints_nothing, prints_both, part_of_next}
+use Rattle.acas_outside.proofs.PrintedPieces.{prints_nothing, prints_both, part_of_next}
 use Rattle.acas_cells.specs.Cells.{below}
 use Rattle.acas_report_lines.specs.Report.{Ruled, shown}
 use Rattle.acas_report_lines.specs.Plan.{Plan, Progress, Wrote, Broke, Room, names_in, lines_in, certified_in, reported_in, clear_in}

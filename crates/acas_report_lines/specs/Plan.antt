@@ -2,7 +2,7 @@
 use Rattle.std.specs.Prelude.{◌≡◌, ℕ, ◌+◌, ◌<◌, ◌^◌, not, Bool, false, List, [], ◌∷◌, ◌++◌, length, Option, count_by}
 use Rattle.std.specs.List.{flat_map}
 use Rattle.acas_outside.specs.Bytes.{AppendsPart}
-use Rattle.acas_print.specs.Printing.{Prints}
+use Rattle.acas_outside.specs.Printing.{Prints}
 use Rattle.acas_rulings.specs.Boxes.{AuditedBox}
 use Rattle.acas_report_lines.specs.Text.{line_of_box}
 use Rattle.acas_report_lines.specs.Report.{Ruled, AreRuled, lines_of}

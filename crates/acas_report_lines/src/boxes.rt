@@ -12,8 +12,7 @@ use crate::lines::{write_box_counts, write_box_line};
 use crate::pen::Pen;
 use crate::said::Said;
 use acas_base::Model;
-use acas_outside::{Failed, Sink};
-use acas_print::PrintFault;
+use acas_outside::{Failed, PrintFault, Sink};
 use acas_rulings::{AuditBox, Boxes};
 use std::alloc::Global;
 

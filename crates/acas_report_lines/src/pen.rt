@@ -7,7 +7,7 @@ use std::alloc::{AllocError, Global};
 /// A pen that prints the lines, and the counts so far. Its memory is taken when it is made.
 #[derive(Drop)]
 pub struct Pen {
-    pub out: acas_print::Pen,
+    pub out: acas_outside::Pen,
     pub counts: Counts,
 }
 
@@ -19,7 +19,7 @@ impl Pen {
         ensures reported { IfOk result (λ pen. pen.counts.reported ≡ 0) }
         ensures clear { IfOk result (λ pen. pen.counts.clear ≡ 0) }
     {
-        let out = acas_print::Pen::make(alloc)?;
+        let out = acas_outside::Pen::make(alloc)?;
         let counts = Counts {
             certified: 0,
             reported: 0,

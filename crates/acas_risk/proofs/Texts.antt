@@ -6,8 +6,8 @@ use Rattle.acas_spec.specs.Model.{ModelData, states}
 use Rattle.acas_spec.specs.Table.{Policy}
 use Rattle.acas_outside.specs.Bytes.{Appends, AppendsPart}
 use Rattle.acas_outside.proofs.Appended.{appends_none}
-use Rattle.acas_print.specs.Printing.{Prints, below}
-use Rattle.acas_print.proofs.PrintedPieces.{part_of_longer, part_of_next, prints_all, prints_both}
+use Rattle.acas_outside.specs.Printing.{Prints, below}
+use Rattle.acas_outside.proofs.PrintedPieces.{part_of_longer, part_of_next, prints_all, prints_both}
 use Rattle.acas_units.specs.declared.pair.Pair.{Pair}
 use Rattle.acas_risk.specs.RiskText.{RiskRow, risk_line, risk_lines, risk_row, risk_text}
 use Rattle.acas_risk.specs.Rows.{AreRiskValues, row_at}

@@ -5,7 +5,7 @@ use Rattle.acas_spec.specs.Model.{ModelData, states}
 use Rattle.acas_spec.specs.Table.{Policy}
 use Rattle.acas_units.specs.Printed.{millionths_text}
 use Rattle.acas_units.specs.declared.pair.Pair.{Pair}
-use Rattle.acas_print.specs.Printing.{below}
+use Rattle.acas_outside.specs.Printing.{below}
 use Rattle.acas_grid.specs.States.{state_present, state_vertex}
 use Rattle.acas_command.specs.Fields.{field, state_fields}
 use Rattle.acas_policies.specs.Policies.{always_clear, counting_contact}

@@ -12,8 +12,7 @@ use crate::risk_lines::{write_risk_line, write_states_line};
 use crate::risk_values::{RiskValues, risk_values};
 use acas_base::{Advices, Model};
 use acas_means::LayerMeans;
-use acas_outside::{Failed, Sink};
-use acas_print::{Pen, PrintFault};
+use acas_outside::{Failed, Pen, PrintFault, Sink};
 use std::alloc::Global;
 
 /// Writes for each state at the horizon, in order, bounds of the chance of contact under a table's policy and under the policy that is

@@ -7,7 +7,7 @@ use Rattle.acas_spec.specs.declared.place.Vertex.{Vertex}
 use Rattle.acas_frac.specs.Rounding.{down, up}
 use Rattle.acas_grid.specs.States.{state_present, state_vertex}
 use Rattle.acas_grid.proofs.StateNumbers.{state_present-below}
-use Rattle.acas_print.specs.Printing.{below}
+use Rattle.acas_outside.specs.Printing.{below}
 use Rattle.acas_policies.specs.Allowed.{SaysAdvisories}
 use Rattle.acas_process.specs.Cost.{IsEntry}
 use Rattle.acas_policies.specs.Policies.{counting_contact}

@@ -9,8 +9,7 @@ ghost use Rattle.acas_risk_commands.specs.Calls.{CallsForRisk};
 
 use acas_command::{Cause, read_model_file};
 use acas_means::LayerMeans;
-use acas_outside::{Folder, Sink};
-use acas_print::PrintFault;
+use acas_outside::{Folder, PrintFault, Sink};
 use acas_risk::write_risk;
 use acas_table_file::read_table_file;
 use std::alloc::Global;

@@ -9,3 +9,8 @@ pub mod Areas
 pub mod Somes
 pub mod Ranges
 pub mod RulingSomes
+pub mod CoursePulls
+pub mod MeetingOnes
+pub mod LeastTimes
+pub mod PrintedCourses
+pub mod MeetingSomes

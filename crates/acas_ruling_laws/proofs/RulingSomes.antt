@@ -19,7 +19,7 @@ use Rattle.acas_cells.specs.declared.name.CellName.{CellName}
 use Rattle.acas_rulings.specs.declared.ruling.Ruling.{Ruling}
 use Rattle.acas_rulings.specs.declared.ruling.Ruling.TheVariants.{Certified, Reported}
 use Rattle.acas_rulings.specs.Rulings.{IsRulingOfBox, IsRulingOfCell}
-use Rattle.acas_cell.proofs.Showing.{reported_box, reported_cell}
+use Rattle.acas_witness.proofs.Showing.{reported_box, reported_cell}
 use Rattle.acas_ruling_laws.proofs.Areas.{rates_at, rises_at}
 use Rattle.acas_ruling_laws.proofs.Ranges.{range_of_box, range_of_cell}
 use Rattle.acas_ruling_laws.proofs.Somes.{IsFlyable, clear_or_witness, endangered, time_of}

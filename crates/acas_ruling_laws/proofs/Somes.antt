@@ -10,7 +10,7 @@ use Rattle.acas_frac.proofs.Reduced.{num_ahead}
 use Rattle.acas_flight.specs.Response.{Demand, demand_of, lasting}
 use Rattle.acas_flight.specs.Window.{Times, IsDuring}
 use Rattle.acas_flight.specs.Clear.{Area, IsClear, IsEndangeredDuring}
-use Rattle.acas_flight_curves.proofs.Models.{demand_can_be_met}
+use Rattle.acas_flight_laws.proofs.Models.{demand_can_be_met}
 use Rattle.acas_areas.specs.Limits.{AreEnds}
 use Rattle.acas_passes.specs.Search.{AreRates, CanMeet, IsMoment, IsSearch, unit}
 use Rattle.acas_pass_laws.proofs.Founds.{finds}

@@ -1,5 +1,6 @@
-//! The laws of witnesses and rulings. The functions do nothing: each clause is a law.
-ghost use Rattle.std.specs.Prelude.{◌≡◌, ℕ, ◌<◌, ◌≤ℤ◌};
+//! The laws of witnesses, of rulings and of verdicts against an intruder that may change its rate. The functions do nothing: each clause
+//! is a law.
+ghost use Rattle.std.specs.Prelude.{◌≡◌, ℕ, ◌<◌, ◌≤◌, ◌≤ℤ◌};
 ghost use Rattle.std.specs.List.{All};
 ghost use Rattle.acas_spec.specs.Limits.{IsModel};
 ghost use Rattle.acas_spec.specs.Model.{ModelData};
@@ -8,7 +9,7 @@ ghost use Rattle.acas_flight.specs.Response.{demand_of};
 ghost use Rattle.acas_flight.specs.Window.{Times};
 ghost use Rattle.acas_flight.specs.Clear.{Area, IsClear, area_of_box};
 ghost use Rattle.acas_areas.specs.Limits.{AreEnds, IsArea};
-ghost use Rattle.acas_passes.specs.Search.{AreRates};
+ghost use Rattle.acas_passes.specs.Search.{AreRates, fastest};
 ghost use Rattle.acas_rulings.specs.declared.flight.Flight.{Flight};
 ghost use Rattle.acas_rulings.specs.Witness.{IsWitnessOf};
 ghost use Rattle.acas_rulings.specs.Printed.{flight_fractions};
@@ -18,6 +19,9 @@ ghost use Rattle.acas_cells.specs.Order.{cell_of};
 ghost use Rattle.acas_cells.specs.declared.name.CellName.{CellName};
 ghost use Rattle.acas_rulings.specs.declared.ruling.Ruling.{Ruling};
 ghost use Rattle.acas_rulings.specs.Rulings.{IsRulingOfBox, IsRulingOfCell};
+ghost use Rattle.acas_manoeuvre.specs.Intruder.{Manoeuvre, RatesFit};
+ghost use Rattle.acas_meetings.specs.Verdicts.{IsMeetVerdict};
+ghost use Rattle.acas_meetings.specs.declared.verdict.MeetVerdict.{MeetVerdict};
 
 /// An area that is not clear in a window has a witness whose fractions are in lowest terms, and no other: the rule says every number
 /// that is printed. The area is in order, of rates within the limits.
@@ -50,4 +54,16 @@ pub fn rulings_are_one()
         (r : Ruling) × IsRulingOfBox m b r }
     ensures boxes_one { (m : ModelData) (b : AuditedBox) (r s : Ruling) → IsModel m → IsBoxOf m b →
         IsRulingOfBox m b r → IsRulingOfBox m b s → r ≡ s }
+{}
+
+/// Each box of a model has a verdict against an intruder that may change its rate, and no other: the rule says every number that is
+/// printed. The intruder has some acceleration and may have the box's rates; a box has a verdict where its altitudes and rates are
+/// within the limits.
+pub fn meetings_are_one()
+    ensures some { (m : ModelData) (may : Manoeuvre) (b : AuditedBox) → IsModel m → IsBoxOf m b →
+        IsArea (area_of_box b.states) → 0 < may.accel → may.rate ≤ fastest → RatesFit may b.states.intruder →
+        (v : MeetVerdict) × IsMeetVerdict m may b v }
+    ensures one { (m : ModelData) (may : Manoeuvre) (b : AuditedBox) (v u : MeetVerdict) → IsModel m →
+        IsBoxOf m b →
+        0 < may.accel → IsMeetVerdict m may b v → IsMeetVerdict m may b u → v ≡ u }
 {}

@@ -16,12 +16,12 @@ use Rattle.acas_report_lines.specs.declared.counts.Counts.{Counts}
 use Rattle.acas_report_lines.specs.declared.counts.Which.{Which}
 use Rattle.acas_report_lines.specs.declared.meet_counts.MeetCounts.{MeetCounts}
 use Rattle.acas_report_cells.specs.Report.{IsReport, IsReportBegun}
-use Rattle.acas_meeting_laws.proofs.Ones.{verdict-one}
-use Rattle.acas_meeting_laws.proofs.Somes.{verdict-some}
 use Rattle.acas_report_laws.proofs.Reports.{begun_audit, begun_meetings, begun_regions, one_audit, one_meetings, one_regions, some_audit, some_meetings, some_regions}
 use Rattle.acas_safeable.specs.SafeableText.{IsSafeableBegun, IsSafeableReport}
 use Rattle.acas_safeable.specs.declared.counts.SafeCounts.{SafeCounts}
 use Rattle.acas_safeable.proofs.Reports.{begun_report, one_report, some_report}
+use Rattle.acas_ruling_laws.proofs.MeetingOnes.{verdict-one}
+use Rattle.acas_ruling_laws.proofs.MeetingSomes.{verdict-some}
 use Rattle.acas_ruling_laws.proofs.RulingOnes.{boxes-one, cells-one}
 use Rattle.acas_ruling_laws.proofs.RulingSomes.{boxes-some, cells-some}
 

@@ -5,7 +5,6 @@ use Rattle.acas_frac.specs.Fraction.{Fraction}
 use Rattle.acas_frac.proofs.Orders.{cases_lt_ℤ}
 use Rattle.acas_flight.proofs.Between.{test_ge}
 use Rattle.acas_flight.proofs.Holding.{low_hold-above}
-use Rattle.acas_flight_curves.proofs.Safe.{high_pull-some, low_pull-some}
 use Rattle.acas_flight.specs.Border.{IsNearestTime, border_of, gap_number, high_border_of, low_border_of}
 use Rattle.acas_flight.specs.Clear.{Area, IsClear, IsClearAbove, IsClearBelow}
 use Rattle.acas_flight.specs.Curves.{high_hold, high_pull, low_hold, low_pull}
@@ -14,7 +13,8 @@ use Rattle.acas_flight.specs.Response.{Demand}
 use Rattle.acas_flight.specs.Window.{Times}
 use Rattle.acas_areas.specs.Chases.{StaysOver}
 use Rattle.acas_areas.specs.Limits.{AreEnds}
-use Rattle.acas_flight_curves.proofs.Numbers.{natural}
+use Rattle.acas_flight_laws.proofs.Safe.{high_pull-some, low_pull-some}
+use Rattle.acas_flight_laws.proofs.Numbers.{natural}
 use Rattle.acas_flight_windows.proofs.NearestTimes.{nearest}
 use Rattle.acas_region.proofs.Clears.{above_by, below_by, both_decide, either_decides, first_decides, nearest_decides}
 

@@ -9,8 +9,8 @@ use Rattle.acas_cells.specs.Cells.{Cell, cells_of}
 use Rattle.acas_cells.specs.Cells as cells
 use Rattle.acas_outside.specs.Bytes.{Appends, AppendsPart}
 use Rattle.acas_outside.proofs.Appended.{appends_none}
-use Rattle.acas_print.specs.Printing.{Prints, below}
-use Rattle.acas_print.proofs.PrintedPieces.{part_of_longer, part_of_next, prints_all, prints_both, prints_nothing}
+use Rattle.acas_outside.specs.Printing.{Prints, below}
+use Rattle.acas_outside.proofs.PrintedPieces.{part_of_longer, part_of_next, prints_all, prints_both, prints_nothing}
 use Rattle.acas_safeable.specs.Outlooks.{is_looked_at}
 use Rattle.acas_safeable.specs.SafeableText.{cell_line, cell_text}
 use Rattle.acas_safeable.specs.Walk.{cell_count, numbered_cell}

@@ -7,7 +7,7 @@ ghost use Rattle.acas_cells.specs.Cells.{Cell, IsCellOf, cells_of};
 ghost use Rattle.acas_cells.specs.Corners.{is_clear_cell};
 ghost use Rattle.acas_outside.specs.Bytes.{AppendsPart};
 ghost use Rattle.acas_outside.specs.Frame.{Emits};
-ghost use Rattle.acas_print.specs.Printing.{Prints};
+ghost use Rattle.acas_outside.specs.Printing.{Prints};
 ghost use Rattle.acas_safeable.specs.Outlooks.{AreOutlooks};
 ghost use Rattle.acas_safeable.specs.SafeableText.{cell_text, counts_of};
 ghost use Rattle.acas_safeable.specs.View.{cell_of};
@@ -20,8 +20,7 @@ use crate::lines::write_cell_line;
 use crate::outlook::ClearCell;
 use acas_base::{Advices, Model};
 use acas_cells::advices_at;
-use acas_outside::{Failed, Sink};
-use acas_print::Pen;
+use acas_outside::{Failed, Pen, Sink};
 
 /// Writes the lines of all cells, and answers how many there are of each kind.
 pub(crate) fn write_cells<S: Sink>(

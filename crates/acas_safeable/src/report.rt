@@ -12,8 +12,7 @@ use crate::cells::write_cells;
 use crate::counts::SafeCounts;
 use crate::lines::write_counts;
 use acas_base::{Advices, Model};
-use acas_outside::{Failed, Sink};
-use acas_print::{Pen, PrintFault};
+use acas_outside::{Failed, Pen, PrintFault, Sink};
 use std::alloc::Global;
 
 /// Writes a line for each cell in which a table advises nothing and contact cannot come within the second, in order, with the advisory

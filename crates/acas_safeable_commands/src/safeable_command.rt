@@ -7,8 +7,7 @@ ghost use Rattle.acas_safeable_commands.specs.Calls.{CallsForSafeable};
 
 use acas_command::{Cause, read_model_file};
 use acas_means::LayerMeans;
-use acas_outside::{Folder, Sink};
-use acas_print::PrintFault;
+use acas_outside::{Folder, PrintFault, Sink};
 use acas_safeable::write_safeable;
 use acas_table_file::read_table_file;
 use std::alloc::Global;

@@ -8,11 +8,10 @@ ghost use Rattle.acas_means.specs.Values.{counted, layer_mean};
 ghost use Rattle.acas_step_choices.specs.Backups.{IsBackup, IsStateOver};
 
 use acas_base::Model;
-use acas_count::Counter;
 use acas_frac::Rounding;
 use acas_means::{Side, with_cost};
 use acas_spec::Choice;
-use acas_units::Pair;
+use acas_units::{Counter, Pair};
 
 /// Work that only the calls here do: the upper value of a choice, formed of its mean.
 #[derive(Drop)]

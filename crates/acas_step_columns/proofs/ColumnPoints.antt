@@ -12,12 +12,12 @@ use Rattle.acas_step.specs.Ends.{FitsGrid, weight_of_cell}
 use Rattle.acas_means.specs.Layer.{AreWithin, layer_values, value_at}
 use Rattle.acas_step_narrow.specs.Narrow.{sum_over}
 use Rattle.acas_step_narrow.specs.Raised.{along_v0, blended, raised_at}
-use Rattle.acas_grid_units.specs.Units.{AreUnits}
-use Rattle.acas_step_stencils.specs.Cells.{IsUnitCell}
 use Rattle.acas_step.specs.declared.cell.Cell.{Cell}
 use Rattle.acas_means.specs.declared.layer.Side.{Side}
+use Rattle.acas_step_stencils.specs.Units.{AreUnits}
+use Rattle.acas_step_stencils.specs.Cells.{IsUnitCell}
 use Rattle.acas_step_stencils.specs.declared.stencils.UnitCell.{UnitCell}
-use Rattle.acas_grid_units.specs.declared.units.Units.{Units}
+use Rattle.acas_step_stencils.specs.declared.units.Units.{Units}
 use Rattle.acas_step_stencils.proofs.ColumnVertices.{vertex_in-vertex_number}
 use Rattle.acas_step_narrow.proofs.ColumnSizes.{rates_same}
 use Rattle.acas_step_narrow.proofs.RaisedLaws.{raised-pos}

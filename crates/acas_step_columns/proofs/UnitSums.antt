@@ -14,13 +14,13 @@ use Rattle.acas_process.proofs.CellLaws.{two_scaled}
 use Rattle.acas_step.specs.Ends.{at_both, over_ends, weight_of_cell}
 use Rattle.acas_means.specs.Layer.{layer_values, value_at}
 use Rattle.acas_step_narrow.specs.Narrow.{sum_over}
-use Rattle.acas_grid_units.specs.Units.{AreUnits}
-use Rattle.acas_step_stencils.specs.Cells.{IsRoundIn}
 use Rattle.acas_step.specs.declared.cell.Cell.{Cell}
 use Rattle.acas_step.specs.declared.cell.Ends.{Ends}
 use Rattle.acas_means.specs.declared.layer.Side.{Side}
-use Rattle.acas_grid_units.specs.declared.units.Units.{Units}
 use Rattle.acas_step_narrow.proofs.RaisedMeans.{interpolated_is}
+use Rattle.acas_step_stencils.specs.Units.{AreUnits}
+use Rattle.acas_step_stencils.specs.Cells.{IsRoundIn}
+use Rattle.acas_step_stencils.specs.declared.units.Units.{Units}
 use Rattle.acas_step_stencils.proofs.UnitLaws.{exact, exact-IsRound, exact_ends, unit_product}
 
 width_out : (unit l m : ℕ) → unit * l + unit * m ≡ unit * (l + m)

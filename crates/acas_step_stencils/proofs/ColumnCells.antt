@@ -11,16 +11,16 @@ use Rattle.acas_grid.specs.States.{vertex_at}
 use Rattle.acas_process.specs.Step.{moved}
 use Rattle.acas_process.proofs.AxisLaws.{distance-add}
 use Rattle.acas_means.specs.Columns.{columns, vertex_in}
-use Rattle.acas_grid_units.specs.Units.{AreUnits, IsGapIn}
-use Rattle.acas_step_stencils.specs.Stencils.{IsStencil}
-use Rattle.acas_step_stencils.specs.Cells.{AreVertexCells, HoldsRates, IsEndsIn, IsRoundIn, IsUnitCell, IsVertexCell}
 use Rattle.acas_step.specs.declared.cell.Cell.{Cell}
 use Rattle.acas_step.specs.declared.cell.Ends.{Ends}
-use Rattle.acas_grid_units.specs.declared.units.Units.{Units}
+use Rattle.acas_step_stencils.specs.Units.{AreUnits, IsGapIn}
+use Rattle.acas_step_stencils.specs.Stencils.{IsStencil}
+use Rattle.acas_step_stencils.specs.Cells.{AreVertexCells, HoldsRates, IsEndsIn, IsRoundIn, IsUnitCell, IsVertexCell}
+use Rattle.acas_step_stencils.specs.declared.units.Units.{Units}
 use Rattle.acas_step_stencils.specs.declared.stencils.Stencil.{Stencil}
 use Rattle.acas_step_stencils.specs.declared.stencils.UnitCell.{UnitCell}
 use Rattle.acas_step_stencils.specs.declared.vertex_cells.VertexCell.{VertexCell}
-use Rattle.acas_grid_units.proofs.GapLaws.{offset-within}
+use Rattle.acas_step_stencils.proofs.GapLaws.{offset-within}
 use Rattle.acas_step_stencils.proofs.UnitLaws.{ends_in-IsEndsIn, known_cell}
 use Rattle.acas_step_stencils.proofs.ColumnVertices.{moved_in_column-v0, moved_in_column-v1}
 

@@ -10,15 +10,15 @@ use Rattle.acas_grid.specs.States.{vertex_at}
 use Rattle.acas_process.specs.Step.{command, moved}
 use Rattle.acas_means.specs.Columns.{columns, vertex_in}
 use Rattle.acas_step.specs.Second.{led_past}
-use Rattle.acas_grid_units.specs.Units.{AreUnits, IsAbove}
-use Rattle.acas_grid_units.specs.Heights.{AreHeights, IsLedTo}
+use Rattle.acas_step_stencils.specs.Units.{AreUnits, IsAbove}
+use Rattle.acas_step_stencils.specs.Heights.{AreHeights, IsLedTo}
 use Rattle.acas_step_stencils.specs.Stencils.{IsStencil, IsStencilOf, climb_from}
-use Rattle.acas_grid_units.specs.declared.heights.HeightPlace.{HeightPlace}
-use Rattle.acas_grid_units.specs.declared.units.Units.{Units}
+use Rattle.acas_step_stencils.specs.declared.heights.HeightPlace.{HeightPlace}
+use Rattle.acas_step_stencils.specs.declared.units.Units.{Units}
 use Rattle.acas_step_stencils.specs.declared.column_stencils.ColumnStencil.{ColumnStencil}
 use Rattle.acas_step_stencils.specs.declared.stencils.Stencil.{Stencil}
-use Rattle.acas_grid_units.proofs.GapLaws.{above-moved}
-use Rattle.acas_grid_units.proofs.HeightLaws.{height_above, height_led_to}
+use Rattle.acas_step_stencils.proofs.GapLaws.{above-moved}
+use Rattle.acas_step_stencils.proofs.HeightLaws.{height_above, height_led_to}
 use Rattle.acas_step_stencils.proofs.ColumnVertices.{moved_in_column-v0, moved_in_column-v1, vertex_at-column, vertex_at-vertex_in}
 
 -- ---- the climb of a column

@@ -6,12 +6,12 @@ use Rattle.acas_spec.specs.Model.{GridData}
 use Rattle.acas_spec.specs.declared.place.Vertex.{Vertex}
 use Rattle.acas_grid.specs.States.{vertex_at}
 use Rattle.acas_means.specs.Columns.{columns, vertex_in}
-use Rattle.acas_grid_units.specs.Heights.{AreHeights, IsEvenGap}
-use Rattle.acas_grid_units.specs.Units.{AreUnits}
+use Rattle.acas_step_stencils.specs.Heights.{AreHeights, IsEvenGap}
+use Rattle.acas_step_stencils.specs.Units.{AreUnits}
 use Rattle.acas_step_stencils.specs.Cells.{IsVertexCell}
-use Rattle.acas_grid_units.specs.declared.units.Units.{Units}
+use Rattle.acas_step_stencils.specs.declared.units.Units.{Units}
 use Rattle.acas_step_stencils.specs.declared.vertex_cells.VertexCell.{VertexCell}
-use Rattle.acas_grid_units.proofs.EvenHeights.{even-gap}
+use Rattle.acas_step_stencils.proofs.EvenHeights.{even-gap}
 use Rattle.acas_step_stencils.proofs.ColumnVertices.{vertex_at-column, vertex_at-vertex_in}
 
 -- two numbers are the same if so many times each of them is

@@ -1,3 +1,6 @@
+pub mod GapLaws
+pub mod HeightLaws
+pub mod EvenHeights
 pub mod UnitLaws
 pub mod StencilLaws
 pub mod ColumnVertices

@@ -17,11 +17,11 @@ use Rattle.acas_process.proofs.AxisLaws.{distance-add}
 use Rattle.acas_means.specs.Columns.{columns}
 use Rattle.acas_step.specs.Ends.{column_of}
 use Rattle.acas_step.specs.Ends.{FitsGrid, IsEnds, IsRound}
-use Rattle.acas_grid_units.specs.Units.{IsAbove}
-use Rattle.acas_step_stencils.specs.Stencils.{IsColumnStencil, IsStencilNumbered, IsStencilOf, stencil_count}
 use Rattle.acas_step.specs.declared.cell.Cell.{Cell}
 use Rattle.acas_step.specs.declared.cell.Ends.{Ends}
-use Rattle.acas_grid_units.specs.declared.units.Units.{Units}
+use Rattle.acas_step_stencils.specs.Units.{IsAbove}
+use Rattle.acas_step_stencils.specs.Stencils.{IsColumnStencil, IsStencilNumbered, IsStencilOf, stencil_count}
+use Rattle.acas_step_stencils.specs.declared.units.Units.{Units}
 use Rattle.acas_step_stencils.specs.declared.column_stencils.ColumnStencil.{ColumnStencil}
 
 -- what is left of the gap is the distance to the upper end

@@ -16,16 +16,16 @@ use Rattle.acas_process.specs.Axis.{gap}
 use Rattle.acas_process.proofs.AxisLaws.{distance-add}
 use Rattle.acas_step.specs.Ends.{FitsAxis, IsRound}
 use Rattle.acas_step.specs.Sizes.{altitude_gap, rate_gap}
-use Rattle.acas_grid_units.specs.Units.{AreGapsWithin, AreUnits, DivideUnits, IsAbove, IsGapIn}
-use Rattle.acas_step_stencils.specs.Stencils.{DivideOffsets, IsColumnStencil, IsCountedIn}
-use Rattle.acas_step_stencils.specs.Cells.{IsEndsIn, IsKnownCell, IsRoundIn, IsVertexCell}
 use Rattle.acas_step.specs.declared.cell.Cell.{Cell}
 use Rattle.acas_step.specs.declared.cell.Ends.{Ends}
-use Rattle.acas_grid_units.specs.declared.units.Units.{Units}
+use Rattle.acas_step.proofs.CornerLaws.{fits_grid}
+use Rattle.acas_step_stencils.specs.Units.{AreGapsWithin, AreUnits, DivideUnits, IsAbove, IsGapIn}
+use Rattle.acas_step_stencils.specs.Stencils.{DivideOffsets, IsColumnStencil, IsCountedIn}
+use Rattle.acas_step_stencils.specs.Cells.{IsEndsIn, IsKnownCell, IsRoundIn, IsVertexCell}
+use Rattle.acas_step_stencils.specs.declared.units.Units.{Units}
 use Rattle.acas_step_stencils.specs.declared.column_stencils.ColumnStencil.{ColumnStencil}
 use Rattle.acas_step_stencils.specs.declared.vertex_cells.VertexCell.{VertexCell}
-use Rattle.acas_step.proofs.CornerLaws.{fits_grid}
-use Rattle.acas_grid_units.proofs.GapLaws.{above-counted, above-same, gaps_within}
+use Rattle.acas_step_stencils.proofs.GapLaws.{above-counted, above-same, gaps_within}
 
 -- ---- gaps
 

@@ -10,10 +10,10 @@ use Rattle.acas_grid.specs.States.{vertex_at}
 use Rattle.acas_process.specs.Axis.{distance}
 use Rattle.acas_frac.specs.Divisor.{IsDivisor}
 use Rattle.acas_step.specs.Ends.{FitsGrid, weight_of_cell}
-use Rattle.acas_grid_units.specs.Units.{IsGapIn}
 use Rattle.acas_step.specs.declared.cell.Cell.{Cell}
 use Rattle.acas_step.specs.declared.cell.Ends.{Ends}
-use Rattle.acas_grid_units.specs.declared.units.Units.{Units}
+use Rattle.acas_step_stencils.specs.Units.{IsGapIn}
+use Rattle.acas_step_stencils.specs.declared.units.Units.{Units}
 use Rattle.acas_step_stencils.specs.declared.stencils.UnitCell.{UnitCell}
 use Rattle.acas_step_stencils.specs.declared.vertex_cells.VertexCell.{VertexCell}
 

@@ -1,2 +1,4 @@
+pub mod Units
+pub mod Heights
 pub mod Cells
 pub mod Stencils

@@ -11,10 +11,10 @@ use Rattle.acas_frac.specs.Divisor.{IsDivisor}
 use Rattle.acas_frac.specs.declared.divisor.Divisor.{Divisor}
 use Rattle.acas_means.specs.Columns.{columns, vertex_in}
 use Rattle.acas_step.specs.Second.{led_past}
-use Rattle.acas_grid_units.specs.Heights.{AreHeights, IsEvenGap, IsInGaps}
-use Rattle.acas_grid_units.specs.Units.{AreUnits, IsAbove}
+use Rattle.acas_step_stencils.specs.Heights.{AreHeights, IsEvenGap, IsInGaps}
+use Rattle.acas_step_stencils.specs.Units.{AreUnits, IsAbove}
 use Rattle.acas_step_stencils.specs.Cells.{AreVertexCells, IsVertexCell}
-use Rattle.acas_grid_units.specs.declared.units.Units.{Units}
+use Rattle.acas_step_stencils.specs.declared.units.Units.{Units}
 use Rattle.acas_step_stencils.specs.declared.column_stencils.ColumnStencil.{ColumnStencil}
 use Rattle.acas_step_stencils.specs.declared.stencils.CellSize.{CellSize}
 use Rattle.acas_step_stencils.specs.declared.stencils.Rise.{Rise}

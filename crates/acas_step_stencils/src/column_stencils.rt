@@ -4,13 +4,13 @@ ghost use Rattle.std.specs.Prelude.{◌≡◌, ℕ, ◌*◌, ◌<◌, ◌≤◌,
 ghost use Rattle.std.specs.Int.{◌∣◌};
 ghost use Rattle.acas_grid.specs.Grid.{IsVertex};
 ghost use Rattle.acas_means.specs.Columns.{columns};
-ghost use Rattle.acas_grid_units.specs.Units.{AreUnits, DivideGaps, DivideUnits};
+ghost use Rattle.acas_step_stencils.specs.Units.{AreUnits, DivideGaps, DivideUnits};
 ghost use Rattle.acas_step_stencils.specs.Stencils.{AreStencils, IsStencilNumbered, IsStencilOf, climb_from, stencil_count, DivideOffsets, IsCountedIn};
 ghost use Rattle.acas_step_stencils.specs.declared.column_stencils.ColumnStencil.{ColumnStencil};
 
+use crate::units::{Units, common, grid_units, in_unit};
 use acas_base::Model;
 use acas_grid::{Grid, Vertex, vertex_at};
-use acas_grid_units::{Units, common, grid_units, in_unit};
 use acas_means::column_count;
 use acas_step::{cell_near, column_of_cell, led_past, moved_from};
 

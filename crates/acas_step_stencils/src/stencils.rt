@@ -9,20 +9,20 @@ ghost use Rattle.acas_process.specs.Step as process;
 ghost use Rattle.acas_means.specs.Columns.{columns, vertex_in};
 ghost use Rattle.acas_step.specs.Corners.{AreCorners, IsInterpolation, IsWeighting};
 ghost use Rattle.acas_step.specs.Ends.{FitsGrid, IsEnds, IsRound};
-ghost use Rattle.acas_grid_units.specs.Units.{IsAbove, AreUnits};
-ghost use Rattle.acas_grid_units.specs.Heights.{IsLedTo};
+ghost use Rattle.acas_step_stencils.specs.Units.{IsAbove, AreUnits};
+ghost use Rattle.acas_step_stencils.specs.Heights.{IsLedTo};
 ghost use Rattle.acas_step_stencils.specs.Stencils.{AreStencilsOf, HaveStencil, HaveVertex, IsDivisorAbove, IsRise, IsSizeAbove, IsStencil, IsStencilOf, point_from};
 ghost use Rattle.acas_step_stencils.specs.Cells.{HoldsRates, IsUnitCell, IsVertexCell};
 
 use crate::column_stencils::{ColumnStencil, count_of, fill_in_units};
+use crate::heights::{
+    ClimbInGaps, HeightPlace, climb_in_gaps, even_gap, heights_of, place_after, place_by_search,
+};
+use crate::units::{Units, gap_at};
 use crate::vertex_cells::{VertexCell, vertex_cells};
 use acas_base::Model;
 use acas_frac::Divisor;
 use acas_grid::{Axis, Grid, vertex_at};
-use acas_grid_units::{
-    ClimbInGaps, HeightPlace, Units, climb_in_gaps, even_gap, gap_at, heights_of, place_after,
-    place_by_search,
-};
 use acas_means::{column_count, vertex_in_column};
 use acas_step::{Cell, CornerSet, Ends, corner_set, total_weight};
 use std::alloc::{AllocError, Global};

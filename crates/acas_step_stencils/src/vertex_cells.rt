@@ -3,12 +3,12 @@ ghost use Rattle.std.specs.Prelude.{◌≡◌, ◌<◌, length, IfOk};
 ghost use Rattle.acas_spec.specs.Limits.{IsGrid};
 ghost use Rattle.acas_spec.specs.Model.{vertices};
 ghost use Rattle.acas_grid.specs.States as numbers;
-ghost use Rattle.acas_grid_units.specs.Units.{AreUnits, DivideGaps};
+ghost use Rattle.acas_step_stencils.specs.Units.{AreUnits, DivideGaps};
 ghost use Rattle.acas_step_stencils.specs.Cells.{AreVertexCells, IsVertexCell};
 
+use crate::units::{Units, gap_in};
 use acas_frac::Divisor;
 use acas_grid::{Grid, vertex_at};
-use acas_grid_units::{Units, gap_in};
 use acas_step::product;
 use std::alloc::{AllocError, Global};
 

@@ -1,7 +1,7 @@
 -- All layers of a compiled table, and how many backups they take.
 use Rattle.std.specs.Prelude.{◌≡◌, ◌≢◌, ℕ, ◌+◌, ◌*◌, ◌<◌, ◌≤◌, List, get_or}
 use Rattle.acas_spec.specs.Model.{GridData, ModelData, states, vertices}
-use Rattle.acas_layers.specs.Layers.{LayersData, advice_of, pairs_of}
+use Rattle.acas_base.specs.Layers.{LayersData, advice_of, pairs_of}
 use Rattle.acas_process.specs.Compiled.{compiled}
 use Rattle.acas_means.specs.Choices.{choice_count}
 use Rattle.acas_means.specs.Layer.{IsLayer}

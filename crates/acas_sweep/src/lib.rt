@@ -11,7 +11,7 @@ mod room;
 mod sink;
 mod stream;
 
-pub use acas_layers::Layers;
+pub use acas_base::Layers;
 pub use ending::terminal_entry;
 pub use laws::{advices_are_advisories, backups_are_few};
 pub use order::vertex_after;

@@ -8,8 +8,8 @@ ghost use Rattle.acas_table_file.specs.AcceptedFile.{IsLayersFile, RefusesTable}
 ghost use Rattle.acas_command.specs.Outside.{beside};
 
 use acas_accept::{AcceptFault, accept_layers};
+use acas_base::Layers;
 use acas_command::{Cause, FileRole, ModelFile};
-use acas_layers::Layers;
 use acas_means::LayerMeans;
 use acas_outside::Folder;
 use std::alloc::Global;

@@ -9,8 +9,8 @@ use Rattle.acas_outside.specs.Bytes.{AppendsPart}
 use Rattle.acas_outside.specs.Counts.{Rose}
 use Rattle.acas_outside.specs.Frame.{Emits}
 use Rattle.acas_outside.specs.declared.sink.Sink.{Ghosts as SinkMeanings}
-use Rattle.acas_print.specs.Printing.{Prints, below}
-use Rattle.acas_print.proofs.PrintedPieces.{part_of_below, prints_both, prints_nothing}
+use Rattle.acas_outside.specs.Printing.{Prints, below}
+use Rattle.acas_outside.proofs.PrintedPieces.{part_of_below, prints_both, prints_nothing}
 use Rattle.acas_process.specs.Compiled.{compiled}
 use Rattle.acas_means.specs.Layer.{no_pair, pair_at}
 use Rattle.acas_sweep.specs.Handed.{AddsBelow, CutBelow, compiled_layer, state_advice, state_pair}

@@ -3,7 +3,7 @@ use Rattle.std.specs.Prelude.{◌≡◌, ◌++◌, ⊤}
 use Rattle.acas_outside.specs.Bytes.{AppendsPart}
 use Rattle.acas_outside.specs.Frame.{Emits}
 use Rattle.acas_outside.specs.declared.sink.Sink.{Ghosts as SinkMeanings}
-use Rattle.acas_print.specs.Printing.{Prints}
+use Rattle.acas_outside.specs.Printing.{Prints}
 use Rattle.acas_sweep.specs.Handed.{LayerData}
 use Rattle.acas_table_lines.specs.ValuesText.{listed_lines}
 use Rattle.acas_table_lines.specs.declared.line_rows.LineRows.{LineRows}

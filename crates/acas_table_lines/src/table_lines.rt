@@ -3,7 +3,7 @@ ghost use Rattle.std.specs.Prelude.{◌≡◌, ◌<◌, ◌≤◌, ◌++◌, [],
 ghost use Rattle.acas_spec.specs.Model.{states};
 ghost use Rattle.acas_outside.specs.Bytes.{AppendsPart};
 ghost use Rattle.acas_outside.specs.Frame.{Emits};
-ghost use Rattle.acas_print.specs.Printing.{Prints};
+ghost use Rattle.acas_outside.specs.Printing.{Prints};
 ghost use Rattle.acas_table_lines.specs.Heads.{BeginsLine, HasHead};
 ghost use Rattle.acas_table_lines.specs.LayerParts.{layer_data, IsWholeLayer};
 ghost use Rattle.acas_table_lines.specs.ValuesText.{listed_line, listed_lines};
@@ -11,8 +11,7 @@ ghost use Rattle.acas_table_lines.specs.ValuesText.{listed_line, listed_lines};
 use crate::entry_lines::{write_entry, write_head};
 use acas_base::Model;
 use acas_grid::{state_present, state_vertex};
-use acas_outside::{Failed, Sink};
-use acas_print::PrintBuffer;
+use acas_outside::{Failed, PrintBuffer, Sink};
 use acas_units::{LINE_BYTES, Line, Pair};
 use std::alloc::{AllocError, Global};
 

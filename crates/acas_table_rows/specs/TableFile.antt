@@ -4,7 +4,7 @@ use Rattle.std.specs.List.{range_with_len}
 use Rattle.acas_spec.specs.Model.{ModelData}
 use Rattle.acas_units.specs.declared.pair.Entry.{Entry}
 use Rattle.acas_process.specs.Compiled.{compiled}
-use Rattle.acas_layers.specs.Layers.{LayersData, advice_of, pairs_of}
+use Rattle.acas_base.specs.Layers.{LayersData, advice_of, pairs_of}
 use Rattle.acas_table_text.specs.Layers.{layer_entries, table_text}
 use Rattle.acas_table_text.specs.Shape.{shape_of}
 use Rattle.acas_table_text.specs.Growth.{front}

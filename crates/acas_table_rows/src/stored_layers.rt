@@ -9,8 +9,8 @@ ghost use Rattle.acas_table_text.specs.declared.format.Format.TheVariants.{Layer
 ghost use Rattle.acas_table_writer.specs.Writer.{HasWritten, new_writer, writer_state};
 ghost use Rattle.acas_table_rows.specs.TableFile.{entries_of, text_of_all};
 
+use acas_base::Layers;
 use acas_command::ModelFile;
-use acas_layers::Layers;
 use acas_outside::{Failed, Folder};
 use acas_table_writer::TableWriter;
 

@@ -56,15 +56,7 @@ pub fn store_swept<M: LayerMeans, F: Folder>(
     let mut writer = writer;
     writer.start(folder, name)?;
     let mut begun = BegunWriter { writer };
-    append_swept(
-        found,
-        sweep,
-        &mut begun,
-        folder,
-        name,
-        backups,
-        turned,
-    )?;
+    append_swept(found, sweep, &mut begun, folder, name, backups, turned)?;
     let mut writer = begun.writer;
     writer.finish(folder, name)
 }

@@ -1,5 +1,5 @@
 //! Tests of numbers, of grids, of blocks of two planes and of the outside: the public calls of `acas_units`, `acas_frac`, `acas_grid`,
-//! `acas_plane`, `acas_outside` and `acas_print`, with values worked out by hand.
+//! `acas_plane` and `acas_outside`, with values worked out by hand.
 #![tactic(auto)]
 
 #[cfg(test)]

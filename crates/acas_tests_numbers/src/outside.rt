@@ -2,10 +2,9 @@
 ghost use Rattle.std.specs.Prelude.{IsTrue};
 
 use acas_outside::{
-    Failed, Folder, MemoryFolder, MemorySink, ReadFault, ReadMiss, Sink, emit, emit_four,
-    emit_parts, read_whole, store_file, write_piece,
+    Failed, Folder, MemoryFolder, MemorySink, PrintBuffer, ReadFault, ReadMiss, Sink, emit,
+    emit_four, emit_parts, read_whole, store_file, write_piece,
 };
-use acas_print::PrintBuffer;
 use std::alloc::{AllocError, Global};
 
 // A folder of which the reads, creates and appends of these numbers fail.

@@ -1,6 +1,6 @@
 //! Whole replays.
 use crate::rows::{row_replayed, sink_with};
-use acas_print::PrintFault;
+use acas_outside::PrintFault;
 use std::alloc::Global;
 
 // A second that is in contact only between its ends, and then one that is not.

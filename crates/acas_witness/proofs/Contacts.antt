@@ -9,7 +9,7 @@ use Rattle.acas_flight.specs.Clear.{Area}
 use Rattle.acas_flight.specs.Window.{Times, IsDuring}
 use Rattle.acas_flight.specs.Values.{IsOver}
 use Rattle.acas_frac.proofs.IntRing.{at, ◌⊗◌, ring, mul_swapped_ℤ}
-use Rattle.acas_flight_curves.proofs.Rising.{scaled_le}
+use Rattle.acas_flight_laws.proofs.Rising.{scaled_le}
 use Rattle.acas_areas.specs.Limits.{IsHeldCurve, IsOneAtMostNotWhole, IsEnd}
 use Rattle.acas_passes.specs.Value.{thinnest}
 use Rattle.acas_passes.specs.Flights.{Flight}

@@ -1,1 +1,2 @@
 pub mod Contacts
+pub mod Showing

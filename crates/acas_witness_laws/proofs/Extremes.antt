@@ -17,12 +17,12 @@ use Rattle.acas_flight.specs.Values.{IsOver}
 use Rattle.acas_flight.proofs.Between.{test_ge}
 use Rattle.acas_frac.proofs.IntRing.{at, ◌⊗◌, ring}
 use Rattle.acas_frac.proofs.Orders.{cases_lt_ℤ}
-use Rattle.acas_flight_curves.proofs.Scales.{cancel_left}
 use Rattle.acas_flight_windows.proofs.EndTimes.{first_least, last_least}
-use Rattle.acas_flight_curves.proofs.Gaps.{IsGapAt-of, low_extreme_of, high_extreme_of}
-use Rattle.acas_flight_curves.proofs.Safe.{low_pull-some, high_pull-some}
 use Rattle.acas_areas.specs.Limits.{AreEnds, IsEnd}
-use Rattle.acas_flight_curves.proofs.Numbers.{natural}
+use Rattle.acas_flight_laws.proofs.Scales.{cancel_left}
+use Rattle.acas_flight_laws.proofs.Gaps.{IsGapAt-of, low_extreme_of, high_extreme_of}
+use Rattle.acas_flight_laws.proofs.Safe.{low_pull-some, high_pull-some}
+use Rattle.acas_flight_laws.proofs.Numbers.{natural}
 use Rattle.acas_flight_windows.proofs.LeastGaps.{least_of_nearest}
 use Rattle.acas_flight_windows.proofs.NearestTimes.{nearest}
 use Rattle.acas_passes.specs.Search.{IsMoment}

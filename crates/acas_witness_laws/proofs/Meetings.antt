@@ -4,8 +4,8 @@ use Rattle.std.proofs.lemmas.Int.{ints}
 use Rattle.acas_frac.proofs.SignedProducts.{mul-neg_ℤ}
 use Rattle.acas_frac.proofs.IntRing.{at, num, ◌⊕◌, ◌⊖◌, ◌⊗◌, ring}
 use Rattle.acas_frac.proofs.Orders.{cases_lt_ℤ, neg-lt_ℤ}
-use Rattle.acas_flight_curves.proofs.Gaps.{low_pull-border, high_pull-border, least_gap-border, greatest_gap-border}
 use Rattle.acas_flight_windows.proofs.GapScales.{over_at_other}
+use Rattle.acas_flight_laws.proofs.Gaps.{low_pull-border, high_pull-border, least_gap-border, greatest_gap-border}
 use Rattle.acas_flight_laws.proofs.Endangered.{IsDuring-finer}
 use Rattle.acas_frac.specs.Fraction.{Fraction, Same}
 use Rattle.acas_passes.specs.Value.{is_below, IsWithinHalf}

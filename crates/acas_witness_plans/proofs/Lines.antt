@@ -1,7 +1,7 @@
 -- The value of a flight of the code is that of its numbers over q.
 use Rattle.std.proofs.Common.{◌≡◌, ℕ, ◌*◌, ◌<◌, refl, ap, ap₂, sym, ◌∙◌, [], ◌∷◌, ℤ, pos, ◌+ℤ◌, ◌-ℤ◌, ◌*ℤ◌, mul-pos}
 use Rattle.acas_frac.proofs.IntRing.{at, num, ◌⊕◌, ◌⊖◌, ◌⊗◌, ring}
-use Rattle.acas_flight_curves.proofs.Scales.{cancel_left}
+use Rattle.acas_flight_laws.proofs.Scales.{cancel_left}
 use Rattle.acas_frac.specs.Fraction.{Fraction, Same}
 use Rattle.acas_flight.specs.Values.{IsOver, IsHeld}
 use Rattle.acas_flight.specs.Curves.{held}

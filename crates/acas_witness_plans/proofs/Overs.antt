@@ -2,8 +2,8 @@
 use Rattle.std.proofs.Common.{◌≡◌, ℕ, ◌+◌, ◌-◌, ◌*◌, ◌<◌, ◌≤◌, refl, ap, ap₂, sym, ◌∙◌, arith, cond, [], ◌∷◌, ℤ, pos, ◌+ℤ◌, ◌-ℤ◌, ◌*ℤ◌, ◌≤ℤ◌, unsigned_abs, int_lt, min, mul-pos}
 use Rattle.std.proofs.lemmas.Int.{ints, unsigned_abs-mul}
 use Rattle.acas_frac.proofs.IntRing.{at, num, ◌⊕◌, ◌⊖◌, ◌⊗◌, ring}
-use Rattle.acas_flight_curves.proofs.Held.{min_scaled, sub_scaled}
-use Rattle.acas_flight_curves.proofs.Gaps.{test_scaled, cond_times, cond_none}
+use Rattle.acas_flight_laws.proofs.Held.{min_scaled, sub_scaled}
+use Rattle.acas_flight_laws.proofs.Gaps.{test_scaled, cond_times, cond_none}
 use Rattle.acas_frac.specs.Fraction.{Fraction, whole_of}
 use Rattle.acas_flight.specs.Values.{IsOver}
 use Rattle.acas_flight.specs.Curves.{low_pull, low_hold}

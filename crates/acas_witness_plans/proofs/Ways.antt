@@ -2,7 +2,7 @@
 use Rattle.std.proofs.Common.{◌≡◌, ℕ, ◌+◌, ◌-◌, ◌*◌, ◌<◌, ◌≤◌, refl, ap, ap₂, sym, ◌∙◌, arith, [], ◌∷◌, ℤ, pos, ◌-ℤ◌, ◌*ℤ◌, unsigned_abs, mul-pos}
 use Rattle.std.proofs.lemmas.Int.{unsigned_abs-mul}
 use Rattle.acas_frac.proofs.IntRing.{at, num, ◌⊖◌, ◌⊗◌, ring}
-use Rattle.acas_flight_curves.proofs.Held.{sub_scaled}
+use Rattle.acas_flight_laws.proofs.Held.{sub_scaled}
 use Rattle.acas_frac.specs.Fraction.{Fraction}
 use Rattle.acas_passes.specs.Passes.{Pass, IsLast}
 

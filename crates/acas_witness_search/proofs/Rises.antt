@@ -7,8 +7,8 @@ use Rattle.acas_frac.proofs.Squares.{sq}
 use Rattle.acas_frac.proofs.Orders.{by_above, by_below, cases_lt_ℤ}
 use Rattle.acas_flight.proofs.Between.{test_lt}
 use Rattle.acas_flight.proofs.Curves.{steady, approach_below, approach_above}
-use Rattle.acas_flight_curves.proofs.Rising.{scaled_le}
-use Rattle.acas_flight_curves.proofs.Tangents.{faster}
+use Rattle.acas_flight_laws.proofs.Rising.{scaled_le}
+use Rattle.acas_flight_laws.proofs.Tangents.{faster}
 use Rattle.acas_pass_laws.proofs.Deficits.{start_change}
 use Rattle.acas_pass_laws.proofs.Neighbours.{next, rising_next, falling_next}
 use Rattle.acas_flight.specs.Curves.{approach, held}

@@ -1,6 +1,6 @@
 use Rattle.std.proofs.Common.{◌+◌}
 use Rattle.std.proofs.lemmas.Result.{IfOk-weaker}
-use Rattle.acas_layers.specs.Layers.{LayersData}
+use Rattle.acas_base.specs.Layers.{LayersData}
 use Rattle.acas_accept.specs.Answers.{AreWhole, HasLayers}
 use Rattle.acas_accept.specs.Keeping.{AreLayersBelow}
 use Rattle.acas_accept.proofs.Accepting.{given_as, has_layers}

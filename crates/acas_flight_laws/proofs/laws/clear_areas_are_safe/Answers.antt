@@ -1,5 +1,5 @@
 use Rattle.acas_flight_laws.proofs.Dangers.{clear_cell_is_safe, clear_box_is_safe}
-use Rattle.acas_flight_curves.proofs.Safe as safe
+use Rattle.acas_flight_laws.proofs.Safe as safe
 use Rattle.acas_flight_laws.proofs.laws.clear_areas_are_safe.Goals as goal
 
 pub returns : goal.returns

@@ -3,7 +3,7 @@ use Rattle.std.proofs.lemmas.Int.{ints}
 use Rattle.acas_frac.specs.Fraction.{Fraction}
 use Rattle.acas_flight.specs.Response.{demand_of}
 use Rattle.acas_flight.specs.Clear.{area_of_box}
-use Rattle.acas_flight_curves.proofs.Models.{demand_can_be_met}
+use Rattle.acas_flight_laws.proofs.Models.{demand_can_be_met}
 use Rattle.acas_areas.specs.View.{times_of}
 use Rattle.acas_passes.specs.Search.{unit}
 use Rattle.acas_rulings.specs.Boxes.{audited}

@@ -1,6 +1,6 @@
 use Rattle.std.proofs.Common.{◌≡◌, length, ap, subst, sym, ◌∙◌, arith}
 use Rattle.acas_spec.specs.Model.{GridData, entries}
-use Rattle.acas_layers.specs.Layers.{LayersData}
+use Rattle.acas_base.specs.Layers.{LayersData}
 use Rattle.acas_sweep.specs.Layers.{AreLayers}
 use Rattle.acas_plain.proofs.Below.{are_layers, same_lists, written_back}
 use Rattle.acas_plain.proofs.list.sweep_list.Goals as goal

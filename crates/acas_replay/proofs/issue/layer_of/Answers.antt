@@ -2,12 +2,11 @@ use Rattle.std.proofs.Common.{◌≡◌, ◌∙◌, ap, ℕ, ◌<◌, ℤ, pos, 
 use Rattle.std.specs.Int.{div_ceil}
 use Rattle.std.proofs.lemmas.Int.{ints}
 use Rattle.acas_units.specs.declared.limits.TheConstants.{GREATEST_CLOSING, GREATEST_RADIUS}
-use Rattle.acas_second.specs.declared.second.TheConstants.{LARGEST_RANGE}
-use Rattle.acas_second.proofs.Casts.{whole}
 use Rattle.acas_spec.specs.Model.{ModelData}
+use Rattle.acas_replay.specs.declared.second.TheConstants.{LARGEST_RANGE}
 use Rattle.acas_replay.specs.Issue.{IsLayerOf}
 use Rattle.acas_replay.specs.declared.state.EncounterState.{EncounterState}
-use Rattle.acas_replay.proofs.Casts.{whole_difference}
+use Rattle.acas_replay.proofs.Casts.{whole, whole_difference}
 use Rattle.acas_replay.proofs.Layers.{first_layer, quotient_layer}
 use Rattle.acas_replay.proofs.issue.layer_of.Goals as goal
 

@@ -1,4 +1,4 @@
-use Rattle.acas_replay.proofs.Contacts.{of_flights}
+use Rattle.acas_replay.proofs.FlightContacts.{of_flights}
 use Rattle.acas_replay.proofs.laws.contact_is_that_of_flights.Goals as goal
 
 pub returns : goal.returns

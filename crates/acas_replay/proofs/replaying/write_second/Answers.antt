@@ -1,7 +1,7 @@
 use Rattle.std.proofs.Common.{◌≡◌, ◌∙◌, ◌++◌, List, ℕ, subst}
 use Rattle.acas_outside.specs.Bytes.{AppendsPart}
 use Rattle.acas_outside.proofs.Appended.{on_err_always}
-use Rattle.acas_print.specs.Printing.{Prints}
+use Rattle.acas_outside.specs.Printing.{Prints}
 use Rattle.acas_replay.specs.Replay.{Course, IsCourse, second_line}
 use Rattle.acas_replay.proofs.Texts.{found_line}
 use Rattle.acas_replay.proofs.replaying.write_second.Goals as goal

@@ -2,8 +2,8 @@ use Rattle.std.proofs.Common.{◌<◌, ◌++◌, arith}
 use Rattle.acas_encounter.specs.Encounter.{seconds}
 use Rattle.acas_outside.specs.Bytes.{AppendsPart}
 use Rattle.acas_outside.proofs.Appended.{on_err_always}
-use Rattle.acas_print.specs.Printing.{below}
-use Rattle.acas_print.proofs.PrintedPieces.{part_of_below, prints_below}
+use Rattle.acas_outside.specs.Printing.{below}
+use Rattle.acas_outside.proofs.PrintedPieces.{part_of_below, prints_below}
 use Rattle.acas_replay.specs.Replay.{Course, IsCourse, second_line}
 use Rattle.acas_replay.proofs.replaying.write_seconds.Goals as goal
 

@@ -1,5 +1,5 @@
 use Rattle.acas_outside.specs.Frame.{Emits}
-use Rattle.acas_print.specs.Printing.{Prints, below}
+use Rattle.acas_outside.specs.Printing.{Prints, below}
 use Rattle.acas_replay.specs.Flown.{HasFlown}
 use Rattle.acas_replay.specs.Replay.{Course, IsCourse, second_line}
 use Rattle.acas_replay.proofs.replaying.write_seconds.Given as goal

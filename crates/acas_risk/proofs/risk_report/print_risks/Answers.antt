@@ -2,8 +2,8 @@ use Rattle.std.proofs.Common.{◌≡◌, ◌<◌, ◌++◌, List, ℕ, Option, �
 use Rattle.acas_spec.specs.Model.{GridData, states}
 use Rattle.acas_outside.specs.Bytes.{AppendsPart}
 use Rattle.acas_outside.proofs.Appended.{on_err_always}
-use Rattle.acas_print.specs.Printing.{Prints, below}
-use Rattle.acas_print.proofs.PrintedPieces.{part_of_below, prints_below}
+use Rattle.acas_outside.specs.Printing.{Prints, below}
+use Rattle.acas_outside.proofs.PrintedPieces.{part_of_below, prints_below}
 use Rattle.acas_risk.specs.RiskText.{risk_line}
 use Rattle.acas_risk.specs.Rows.{row_at}
 use Rattle.acas_risk.proofs.Texts.{part_at_last, part_before_last, states_line, whole_text}

@@ -1,5 +1,5 @@
 use Rattle.acas_outside.specs.Frame.{Emits}
-use Rattle.acas_print.specs.Printing.{Prints, below}
+use Rattle.acas_outside.specs.Printing.{Prints, below}
 use Rattle.acas_risk.specs.RiskText.{risk_line}
 use Rattle.acas_risk.specs.Rows.{row_at}
 use Rattle.acas_risk.proofs.risk_report.print_risks.Given as goal

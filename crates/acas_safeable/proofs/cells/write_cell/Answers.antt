@@ -3,7 +3,7 @@ use Rattle.acas_cells.specs.Cells.{Cell, cell_at}
 use Rattle.acas_cells.specs.Corners.{is_clear_cell}
 use Rattle.acas_outside.specs.Bytes.{AppendsPart}
 use Rattle.acas_outside.proofs.Appended.{on_err_always}
-use Rattle.acas_print.specs.Printing.{Prints}
+use Rattle.acas_outside.specs.Printing.{Prints}
 use Rattle.acas_safeable.specs.Outlooks.{AreOutlooks, is_looked_at}
 use Rattle.acas_safeable.specs.SafeableText.{cell_text}
 use Rattle.acas_safeable.specs.declared.outlook.Outlook.{Outlook}

@@ -3,8 +3,8 @@ use Rattle.std.specs.List.{flat_map}
 use Rattle.acas_cells.specs.Cells.{Cell, cells_of}
 use Rattle.acas_outside.specs.Bytes.{AppendsPart}
 use Rattle.acas_outside.proofs.Appended.{on_err_always}
-use Rattle.acas_print.specs.Printing.{Prints, below}
-use Rattle.acas_print.proofs.PrintedPieces.{part_of_below, prints_below}
+use Rattle.acas_outside.specs.Printing.{Prints, below}
+use Rattle.acas_outside.proofs.PrintedPieces.{part_of_below, prints_below}
 use Rattle.acas_safeable.specs.Outlooks.{AreOutlooks}
 use Rattle.acas_safeable.specs.SafeableText.{cell_text}
 use Rattle.acas_safeable.specs.Walk.{cell_count, cells_below, counts_in, numbered_cell}

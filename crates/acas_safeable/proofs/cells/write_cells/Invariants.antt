@@ -1,7 +1,7 @@
 use Rattle.std.proofs.Common.{◌≡◌, ◌≤◌}
 use Rattle.acas_cells.specs.Cells.{Cell}
 use Rattle.acas_outside.specs.Frame.{Emits}
-use Rattle.acas_print.specs.Printing.{Prints, below}
+use Rattle.acas_outside.specs.Printing.{Prints, below}
 use Rattle.acas_safeable.specs.Outlooks.{AreOutlooks}
 use Rattle.acas_safeable.specs.SafeableText.{cell_text}
 use Rattle.acas_safeable.specs.Walk.{cells_below, counts_in, numbered_cell, total}

@@ -6,7 +6,7 @@ use Rattle.acas_spec.specs.declared.place.Vertex.{Vertex}
 use Rattle.acas_grid.specs.States.{vertex_at}
 use Rattle.acas_process.specs.Step.{moved}
 use Rattle.acas_step_stencils.specs.Stencils.{IsColumnStencil, climb_from}
-use Rattle.acas_grid_units.specs.declared.units.Units.{Units}
+use Rattle.acas_step_stencils.specs.declared.units.Units.{Units}
 use Rattle.acas_step_stencils.specs.declared.column_stencils.ColumnStencil.{ColumnStencil}
 use Rattle.acas_step_stencils.proofs.StencilLaws.{column_round}
 use Rattle.acas_step_stencils.proofs.column_stencils.column_stencil.Goals as goal

@@ -3,7 +3,7 @@ use Rattle.acas_spec.specs.Model.{GridData}
 use Rattle.acas_grid.specs.States.{vertex_at}
 use Rattle.acas_process.specs.Step.{moved}
 use Rattle.acas_means.specs.Columns.{columns}
-use Rattle.acas_grid_units.specs.Units.{DivideGaps}
+use Rattle.acas_step_stencils.specs.Units.{DivideGaps}
 use Rattle.acas_step_stencils.specs.Stencils.{climb_from}
 use Rattle.acas_step_stencils.proofs.UnitLaws.{stencil-counted}
 use Rattle.acas_step_stencils.proofs.column_stencils.fill_in_units.Goals as goal

@@ -1,5 +1,5 @@
 use Rattle.std.proofs.Common.{pos}
-use Rattle.acas_grid_units.proofs.GapLaws.{grid_finer}
+use Rattle.acas_step_stencils.proofs.GapLaws.{grid_finer}
 use Rattle.acas_step_stencils.proofs.UnitLaws.{offsets_more}
 use Rattle.acas_step_stencils.proofs.column_stencils.units_of.Goals as goal
 

@@ -1,5 +1,5 @@
 use Rattle.std.proofs.Common.{ℕ, ◌<◌, get_or}
-use Rattle.acas_grid_units.specs.Units.{AreUnits, DivideGaps}
+use Rattle.acas_step_stencils.specs.Units.{AreUnits, DivideGaps}
 use Rattle.acas_step_stencils.specs.Stencils.{DivideOffsets}
 use Rattle.acas_step_stencils.specs.declared.column_stencils.ColumnStencil.{ColumnStencil}
 use Rattle.acas_step_stencils.proofs.column_stencils.units_of.Given as goal

@@ -3,7 +3,7 @@ use Rattle.acas_spec.specs.Model.{GridData}
 use Rattle.acas_spec.specs.declared.place.Vertex.{Vertex}
 use Rattle.acas_step.specs.Ends.{IsRound}
 use Rattle.acas_step.proofs.CornerLaws.{fits_grid}
-use Rattle.acas_grid_units.proofs.GapLaws.{above-same}
+use Rattle.acas_step_stencils.proofs.GapLaws.{above-same}
 use Rattle.acas_step_stencils.proofs.stencils.cell_of_stencil.Goals as goal
 
 pub returns-clause-round : goal.returns-clause-round

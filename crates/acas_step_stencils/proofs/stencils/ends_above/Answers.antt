@@ -1,5 +1,5 @@
 use Rattle.std.proofs.Common.{ℕ, ◌*◌, ap, arith}
-use Rattle.acas_grid_units.proofs.GapLaws.{offset-le}
+use Rattle.acas_step_stencils.proofs.GapLaws.{offset-le}
 use Rattle.acas_step_stencils.proofs.StencilLaws.{above-IsEnds}
 use Rattle.acas_step_stencils.proofs.stencils.ends_above.Goals as goal
 

@@ -1,8 +1,8 @@
 use Rattle.std.proofs.Common.{◌∙◌, arith}
 use Rattle.acas_grid.specs.States.{vertex_at}
-use Rattle.acas_step_stencils.specs.Cells.{IsRoundIn}
 use Rattle.acas_step.specs.declared.cell.Cell.{Cell}
-use Rattle.acas_grid_units.proofs.GapLaws.{offset-within}
+use Rattle.acas_step_stencils.specs.Cells.{IsRoundIn}
+use Rattle.acas_step_stencils.proofs.GapLaws.{offset-within}
 use Rattle.acas_step_stencils.proofs.UnitLaws.{ends_in-IsEndsIn, known_cell}
 use Rattle.acas_step_stencils.proofs.stencils.unit_cell_of.Goals as goal
 

@@ -2,7 +2,7 @@ use Rattle.std.proofs.Common.{refl, sym, subst, ◌∙◌, arith}
 use Rattle.acas_spec.specs.Model.{GridData}
 use Rattle.acas_spec.specs.declared.place.Vertex.{Vertex}
 use Rattle.acas_step.specs.Sizes.{altitude_gap, rate_gap}
-use Rattle.acas_grid_units.specs.Units.{AreGapsWithin}
+use Rattle.acas_step_stencils.specs.Units.{AreGapsWithin}
 use Rattle.acas_step_stencils.specs.Cells.{IsVertexCell}
 use Rattle.acas_step_stencils.specs.declared.vertex_cells.VertexCell.{VertexCell}
 use Rattle.acas_step_stencils.proofs.UnitLaws.{altitude_gaps, intruder_gaps, own_gaps}

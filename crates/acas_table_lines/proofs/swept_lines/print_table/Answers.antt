@@ -3,7 +3,7 @@ use Rattle.acas_outside.specs.Bytes.{Appends, AppendsPart}
 use Rattle.acas_outside.specs.Frame.{Emits}
 use Rattle.acas_outside.specs.declared.sink.Sink.{Ghosts as SinkMeanings}
 use Rattle.acas_outside.proofs.Appended.{on_err_always}
-use Rattle.acas_print.proofs.PrintedPieces.{part_of_waiting, prints_all}
+use Rattle.acas_outside.proofs.PrintedPieces.{part_of_waiting, prints_all}
 use Rattle.acas_table_lines.proofs.SweptLines.{lines_added, lines_cut, out_added, out_cut}
 use Rattle.acas_table_lines.proofs.TableLines.{values_text-behind_nothing}
 use Rattle.acas_table_lines.proofs.swept_lines.print_table.Goals as goal

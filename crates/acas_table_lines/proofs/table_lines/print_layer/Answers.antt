@@ -1,7 +1,7 @@
 use Rattle.std.proofs.Common.{◌<◌, arith}
 use Rattle.acas_spec.specs.Model.{states}
 use Rattle.acas_outside.proofs.Appended.{on_err_always}
-use Rattle.acas_print.proofs.PrintedPieces.{part_of_below, prints_below}
+use Rattle.acas_outside.proofs.PrintedPieces.{part_of_below, prints_below}
 use Rattle.acas_table_lines.specs.LayerParts.{layer_data}
 use Rattle.acas_table_lines.specs.ValuesText.{listed_line}
 use Rattle.acas_table_lines.proofs.Heads.{begins_next}

@@ -1,5 +1,5 @@
 use Rattle.acas_outside.specs.Frame.{Emits}
-use Rattle.acas_print.specs.Printing.{Prints, below}
+use Rattle.acas_outside.specs.Printing.{Prints, below}
 use Rattle.acas_table_lines.specs.Heads.{HasHead}
 use Rattle.acas_table_lines.specs.LayerParts.{layer_data}
 use Rattle.acas_table_lines.specs.ValuesText.{listed_line}

@@ -2,12 +2,11 @@ use Rattle.std.proofs.Common.{◌≡◌, ◌∙◌, refl, ℕ, ℤ, unsigned_abs
 use Rattle.std.proofs.lemmas.Int.{ints}
 use Rattle.acas_units.specs.declared.limits.TheConstants.{GREATEST_CLOSING, GREATEST_SECONDS}
 use Rattle.acas_encounter.specs.declared.limits.TheConstants.{GREATEST_ACCELERATION}
-use Rattle.acas_second.specs.declared.second.TheConstants.{LARGEST_RANGE}
-use Rattle.acas_second.proofs.Casts.{fits, whole, whole_sum}
+use Rattle.acas_replay.specs.declared.second.TheConstants.{LARGEST_RANGE}
 use Rattle.acas_replay.specs.Flown.{altitude_size, rate_size}
 use Rattle.acas_replay.specs.declared.state.EncounterState.{EncounterState}
 use Rattle.acas_replay.proofs.Bounds.{reached_next}
-use Rattle.acas_replay.proofs.Casts.{whole_difference}
+use Rattle.acas_replay.proofs.Casts.{fits, whole, whole_difference, whole_sum}
 use Rattle.acas_replay.proofs.state.EncounterState.after.Goals as goal
 
 same_state : {a : ℕ} {r c h v x r' c' h' v' x' : ℤ} → r ≡ r' → c ≡ c' → h ≡ h' → v ≡ v' → x ≡ x' →

@@ -2,11 +2,10 @@ use Rattle.std.proofs.Common.{◌≡◌, refl, ℤ, unsigned_abs, arith}
 use Rattle.std.proofs.lemmas.Int.{ints}
 use Rattle.acas_units.specs.declared.limits.TheConstants.{GREATEST_CLOSING, GREATEST_SECONDS}
 use Rattle.acas_encounter.specs.declared.limits.TheConstants.{GREATEST_ACCELERATION}
-use Rattle.acas_second.specs.declared.second.Second.{Second}
-use Rattle.acas_second.specs.declared.second.TheConstants.{LARGEST_RANGE}
-use Rattle.acas_second.proofs.Casts.{whole}
+use Rattle.acas_replay.specs.declared.second.Second.{Second}
+use Rattle.acas_replay.specs.declared.second.TheConstants.{LARGEST_RANGE}
 use Rattle.acas_replay.specs.Flown.{altitude_size, rate_size}
-use Rattle.acas_replay.proofs.Casts.{whole_difference}
+use Rattle.acas_replay.proofs.Casts.{whole, whole_difference}
 use Rattle.acas_replay.proofs.state.EncounterState.second.Goals as goal
 
 same_second : {r c h v a r' c' h' v' a' : ℤ} → r ≡ r' → c ≡ c' → h ≡ h' → v ≡ v' → a ≡ a' →

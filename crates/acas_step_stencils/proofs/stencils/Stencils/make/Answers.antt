@@ -3,7 +3,7 @@ use Rattle.std.specs.Vec.{with_items}
 use Rattle.std.proofs.lemmas.Int.{ints}
 use Rattle.std.proofs.lemmas.List.{with_items_is}
 use Rattle.acas_spec.specs.Model.{GridData}
-use Rattle.acas_grid_units.specs.Heights.{AreHeights, IsEvenGap}
+use Rattle.acas_step_stencils.specs.Heights.{AreHeights, IsEvenGap}
 use Rattle.acas_step_stencils.specs.Stencils.{AreStencils, stencil_count}
 use Rattle.acas_step_stencils.specs.Cells.{AreVertexCells}
 use Rattle.acas_step_stencils.specs.declared.column_stencils.ColumnStencil.{ColumnStencil}

@@ -1,7 +1,7 @@
 use Rattle.std.proofs.Common.{◌≡◌, ℕ, to_z, of_z, w32, List, length, get_or, ap, subst, ◌∙◌, arith}
 use Rattle.std.proofs.lemmas.Int.{ints}
-use Rattle.acas_grid_units.specs.Heights.{IsLedTo}
-use Rattle.acas_grid_units.proofs.HeightLaws.{first_height}
+use Rattle.acas_step_stencils.specs.Heights.{IsLedTo}
+use Rattle.acas_step_stencils.proofs.HeightLaws.{first_height}
 use Rattle.acas_step_stencils.proofs.stencils.Stencils.place_risen.Goals as goal
 
 pub place_after-requires-clause-some : goal.place_after-requires-clause-some

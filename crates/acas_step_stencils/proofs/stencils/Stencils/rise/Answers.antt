@@ -4,7 +4,7 @@ use Rattle.acas_spec.specs.Limits.{IsGrid}
 use Rattle.acas_spec.specs.Model.{GridData, vertices}
 use Rattle.acas_means.specs.Columns.{columns}
 use Rattle.acas_means.proofs.ColumnLaws.{vertex_in-below}
-use Rattle.acas_grid_units.specs.Heights.{IsInGaps}
+use Rattle.acas_step_stencils.specs.Heights.{IsInGaps}
 use Rattle.acas_step_stencils.proofs.ColumnCells.{vertex_cell-read}
 use Rattle.acas_step_stencils.proofs.stencils.Stencils.rise.Goals as goal
 

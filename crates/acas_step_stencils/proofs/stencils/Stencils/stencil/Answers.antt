@@ -2,8 +2,8 @@ use Rattle.std.proofs.Common.{◌≡◌, ℕ, ◌<◌, to_z, of_z, w32, List, le
 use Rattle.std.proofs.lemmas.Int.{ints}
 use Rattle.acas_spec.specs.Model.{GridData, vertices}
 use Rattle.acas_means.specs.Columns.{vertex_in}
-use Rattle.acas_grid_units.specs.Heights.{IsLedTo}
-use Rattle.acas_grid_units.proofs.HeightLaws.{first_height}
+use Rattle.acas_step_stencils.specs.Heights.{IsLedTo}
+use Rattle.acas_step_stencils.proofs.HeightLaws.{first_height}
 use Rattle.acas_step_stencils.proofs.ColumnHeights.{column-IsStencil}
 use Rattle.acas_step_stencils.proofs.stencils.Stencils.stencil.Goals as goal
 

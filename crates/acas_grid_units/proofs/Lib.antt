@@ -1,3 +1,0 @@
-pub mod GapLaws
-pub mod HeightLaws
-pub mod EvenHeights

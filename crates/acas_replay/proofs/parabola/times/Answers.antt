@@ -1,0 +1,13 @@
+use Rattle.std.proofs.Common.{arith}
+use Rattle.acas_frac.proofs.Bounds.{product_size}
+use Rattle.acas_replay.specs.declared.parabola.TheConstants.{LARGEST_LEVEL, LARGEST_SQUARE}
+use Rattle.acas_replay.proofs.Casts.{whole_product}
+use Rattle.acas_replay.proofs.parabola.times.Goals as goal
+
+pub returns-clause-value : goal.returns-clause-value
+returns-clause-value c = whole_product c.args.a c.args.b LARGEST_LEVEL LARGEST_SQUARE c.requires.a c.requires.b (omega arith) (omega arith) (omega arith)
+
+pub returns-clause-size : goal.returns-clause-size
+returns-clause-size c =
+    rw (whole_product c.args.a c.args.b LARGEST_LEVEL LARGEST_SQUARE c.requires.a c.requires.b (omega arith) (omega arith) (omega arith))
+    (product_size c.args.a c.args.b LARGEST_LEVEL LARGEST_SQUARE c.requires.a c.requires.b)

@@ -1,5 +1,0 @@
-pub mod Signs
-pub mod Parabolas
-pub mod Crossings
-pub mod Contacts
-pub mod Casts

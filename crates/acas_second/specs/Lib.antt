@@ -1,3 +1,0 @@
-pub mod Contact
-pub mod Seconds
-pub mod Parabola
