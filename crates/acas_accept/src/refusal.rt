@@ -6,7 +6,7 @@ use acas_table::{TableFault, TableRefusal};
 use std::alloc::AllocError;
 
 /// Why there is no accepted table.
-#[derive(Clone, Copy, PartialEq, Eq)]
+#[derive(Clone, Copy)]
 pub enum AcceptFault {
     /// The file is not accepted.
     Refused(TableRefusal),

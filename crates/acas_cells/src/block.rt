@@ -6,7 +6,7 @@ use acas_base::Model;
 
 /// The cells whose places are from i0 up to i1 - 1 on the axis of altitude, from j0 up to j1 - 1 on that of own rate, and from k0
 /// up to k1 - 1 on that of intruder rate. A block of a model is not empty and has cells of its grid alone.
-#[derive(Clone, Copy, PartialEq, Eq)]
+#[derive(Clone, Copy)]
 pub struct Block {
     pub i0: u32,
     pub i1: u32,

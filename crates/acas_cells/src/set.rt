@@ -4,7 +4,7 @@ ghost use Rattle.acas_units.specs.declared.limits.TheConstants.{GREATEST_ADVISOR
 ghost use Rattle.acas_cells.specs.Sets.{has_no_advisory, holds};
 
 /// A set of advices, each the number of one of at most [`GREATEST_ADVISORIES`](acas_units::GREATEST_ADVISORIES) advisories.
-#[derive(Clone, Copy, PartialEq, Eq)]
+#[derive(Clone, Copy)]
 pub struct AdviceSet {
     bits: u16,
 }

@@ -9,7 +9,7 @@ use acas_table_text::TableRefusal;
 use std::alloc::AllocError;
 
 /// A file that a command reads, by what the command reads it as.
-#[derive(Clone, Copy, PartialEq, Eq)]
+#[derive(Clone, Copy)]
 pub enum FileRole {
     Model,
     Table,

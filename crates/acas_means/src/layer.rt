@@ -5,7 +5,7 @@ ghost use Rattle.acas_spec.specs.Model.{states, vertices};
 use acas_grid::Grid;
 
 /// One of the two values of a pair.
-#[derive(Clone, Copy, PartialEq, Eq)]
+#[derive(Clone, Copy)]
 pub enum Side {
     Upper,
     Lower,

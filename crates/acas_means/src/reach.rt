@@ -10,7 +10,7 @@ use acas_base::Model;
 use acas_units::Pair;
 
 /// What is found of a layer before its means are formed.
-#[derive(Clone, Copy, PartialEq, Eq)]
+#[derive(Clone, Copy)]
 pub struct Reach {
     /// No value of the layer is larger, up or down, in millionths. It need not be the size of the largest: it has the binary digits of
     /// all values together, and so is at most twice as large.

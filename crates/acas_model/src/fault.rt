@@ -8,14 +8,14 @@ use acas_grid::AxisFault;
 use std::alloc::{AllocError, AllocFailed};
 
 /// The place of a name: that of an advisory, or that of one of its choices.
-#[derive(Clone, Copy, PartialEq, Eq)]
+#[derive(Clone, Copy)]
 pub struct NamePlace {
     pub advisory: u32,
     pub choice: Option<u32>,
 }
 
 /// An axis of the grid.
-#[derive(Clone, Copy, PartialEq, Eq)]
+#[derive(Clone, Copy)]
 pub enum AxisName {
     Altitude,
     OwnRate,

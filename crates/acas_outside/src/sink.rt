@@ -4,7 +4,7 @@ ghost use Rattle.acas_outside.specs.Bytes.{Appends};
 ghost use Rattle.acas_outside.specs.Counts.{Rose};
 
 /// A call of a folder or of a sink failed.
-#[derive(Clone, Copy, PartialEq, Eq)]
+#[derive(Clone, Copy)]
 pub struct Failed;
 
 /// What bytes are written to, one after another.

@@ -12,7 +12,7 @@ use acas_units::GREATEST_SECONDS;
 
 /// The state of an encounter as a second begins: the advisory that was issued last, the range in ft, below 0 once the intruder has
 /// passed, the closing speed in ft/s, and the relative altitude in ticks with both rates in ft/min.
-#[derive(Clone, Copy, PartialEq, Eq)]
+#[derive(Clone, Copy)]
 pub struct EncounterState {
     pub present: u8,
     pub range: i64,

@@ -4,7 +4,7 @@ ghost use Rattle.acas_report_lines.specs.Plan.{total};
 ghost use Rattle.acas_report_lines.specs.Report.{is_left_out};
 
 /// How many lines there are of each kind, those that are left out included, and how many clear cells.
-#[derive(Clone, Copy, PartialEq, Eq)]
+#[derive(Clone, Copy)]
 pub struct Counts {
     pub certified: u64,
     pub reported: u64,
@@ -12,7 +12,7 @@ pub struct Counts {
 }
 
 /// Which lines are written.
-#[derive(Clone, Copy, PartialEq, Eq)]
+#[derive(Clone, Copy)]
 pub enum Which {
     /// Each line.
     All,

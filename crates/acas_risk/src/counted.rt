@@ -12,7 +12,7 @@ use acas_means::{advisory_count, choice_at, choice_count};
 use acas_units::GREATEST_ADVISORIES;
 
 /// What is counted along a flight.
-#[derive(Clone, Copy, PartialEq, Eq)]
+#[derive(Clone, Copy)]
 pub(crate) enum Counted {
     /// Contact at its end, as 1.
     Contacts,

@@ -6,7 +6,7 @@ use crate::outlook::Outlook;
 
 /// How many clear cells there are of each kind: those that some advisory is shown to keep safe, those of which none is shown, and those
 /// in which contact may come within the second.
-#[derive(Clone, Copy, PartialEq, Eq)]
+#[derive(Clone, Copy)]
 pub struct SafeCounts {
     pub safeable: u64,
     pub unshown: u64,

@@ -2,7 +2,7 @@
 
 /// A cell of n seconds under a present advisory, whose lower corner has the places i, j, k on the axes of altitude, own rate and intruder
 /// rate.
-#[derive(Clone, Copy, PartialEq, Eq)]
+#[derive(Clone, Copy)]
 pub struct ClearCell {
     pub n: u32,
     pub present: u8,
@@ -12,7 +12,7 @@ pub struct ClearCell {
 }
 
 /// What is found of a cell.
-#[derive(Clone, Copy, PartialEq, Eq)]
+#[derive(Clone, Copy)]
 pub enum Outlook {
     /// The advisory of this number, given a second later, keeps the two apart: the first choice of clear of conflict of which it is shown.
     Safeable(u8),

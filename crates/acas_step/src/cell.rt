@@ -28,7 +28,7 @@ pub struct CornerSet {
 }
 
 // One of the two ends of a cell on an axis.
-#[derive(Clone, Copy, PartialEq, Eq)]
+#[derive(Clone, Copy)]
 enum End {
     Lower,
     Upper,

@@ -6,7 +6,7 @@ ghost use Rattle.acas_sweep.specs.Handed.{LayerData};
 use acas_units::Pair;
 
 /// A sink took a layer in part, and fails.
-#[derive(Clone, Copy, PartialEq, Eq)]
+#[derive(Clone, Copy)]
 pub struct LayerFailed;
 
 /// What takes the layers of a table, each whole or, where it fails, in part.

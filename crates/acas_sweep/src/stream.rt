@@ -17,7 +17,7 @@ use acas_step_choices::{Backups, ColumnEntries};
 use acas_units::{Entry, GREATEST_ADVISORIES, GREATEST_VERTICES, Pair};
 
 /// Why a sweep ended before its last layer.
-#[derive(Clone, Copy, PartialEq, Eq)]
+#[derive(Clone, Copy)]
 pub enum SweepFault {
     /// What takes the layers has failed.
     Rows,

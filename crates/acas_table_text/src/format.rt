@@ -3,7 +3,7 @@
 use crate::shape::TableShape;
 
 /// How the digests stand in a table's file.
-#[derive(Clone, Copy, PartialEq, Eq)]
+#[derive(Clone, Copy)]
 pub enum Format {
     /// Version 1: one digest, behind all entries.
     Whole,

@@ -3,7 +3,7 @@
 use acas_base::Model;
 
 /// The five numbers that a table's header names, and how many states a layer has.
-#[derive(Clone, Copy, PartialEq, Eq)]
+#[derive(Clone, Copy)]
 pub struct TableShape {
     /// The number of relative altitudes.
     pub altitudes: u32,

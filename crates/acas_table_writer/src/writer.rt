@@ -11,7 +11,7 @@ use acas_units::Pair;
 use std::alloc::{AllocError, Global};
 
 /// How far a writer has come.
-#[derive(Clone, Copy, PartialEq, Eq)]
+#[derive(Clone, Copy)]
 pub enum Phase {
     /// It has appended nothing.
     New,
