@@ -45,9 +45,7 @@ pub fn compile<M: LayerMeans, F: Folder, O: Sink>(
     let found = read_model_file(alloc, model, folder)?;
     let mut sweep = Sweep::<M>::make(alloc, &found.model)?;
     let writer = TableWriter::new(alloc, &found.model, &found.digest)?;
-    let length = match store_swept(
-        &found, &mut sweep, writer, folder, table, backups, turned,
-    ) {
+    let length = match store_swept(&found, &mut sweep, writer, folder, table, backups, turned) {
         Ok(length) => length,
         Err(_) => return Err(Cause::Folder),
     };

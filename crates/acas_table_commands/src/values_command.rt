@@ -41,14 +41,7 @@ pub fn values<M: LayerMeans, F: Folder, O: Sink>(
     let found = read_model_file(alloc, model, folder)?;
     let mut pen = Pen::make(alloc)?;
     let mut sweep = Sweep::<M>::make(alloc, &found.model)?;
-    match print_table(
-        &found.model,
-        &mut sweep,
-        &mut pen,
-        out,
-        backups,
-        turned,
-    ) {
+    match print_table(&found.model, &mut sweep, &mut pen, out, backups, turned) {
         Ok(()) => Ok(()),
         Err(_) => Err(Cause::Output),
     }
