@@ -5,10 +5,10 @@ use Rattle.acas_outside.specs.Outside.{Outside}
 use Rattle.acas_command.specs.declared.status.Cause.{Cause}
 use Rattle.acas_command.specs.declared.status.Cause.TheVariants.{Words}
 use Rattle.acas_audit_commands.specs.Worth.{AuditIsWorth}
-use Rattle.acas_region_commands.specs.Worth.{RegionsIsWorth}
+use Rattle.acas_box_commands.specs.RegionsWorth.{RegionsIsWorth}
 use Rattle.acas_drill.specs.Worth.{DrillIsWorth}
 use Rattle.acas_encounter_commands.specs.Worth.{ReplayIsWorth}
-use Rattle.acas_manoeuvre_commands.specs.Worth.{ManoeuvreIsWorth}
+use Rattle.acas_box_commands.specs.ManoeuvreWorth.{ManoeuvreIsWorth}
 use Rattle.acas_risk_commands.specs.Worth.{RiskIsWorth}
 use Rattle.acas_safeable_commands.specs.Worth.{SafeableIsWorth}
 use Rattle.acas_table_commands.specs.Worth.{CompileIsWorth, ValuesIsWorth}

@@ -22,12 +22,12 @@ use Rattle.acas_command.specs.Outcome.{Outcome, prints, with_file}
 use Rattle.acas_command.specs.declared.status.Cause.{Cause}
 use Rattle.acas_command.specs.declared.status.Cause.TheVariants.{Output}
 use Rattle.acas_audit_commands.specs.Calls.{IsAuditBegun, IsAuditText, audit_looks_at}
-use Rattle.acas_region_commands.specs.Calls.{AreAuditedBoxes, IsRegionsBegun, IsRegionsText, regions_looks_at}
+use Rattle.acas_box_commands.specs.RegionsCalls.{AreAuditedBoxes, IsRegionsBegun, IsRegionsText, regions_looks_at}
 use Rattle.acas_command.proofs.Completed.{completed}
 use Rattle.acas_drill.specs.Calls.{IsDrillBegun, IsDrillText}
 use Rattle.acas_drill_model.specs.DrilledModel.{drilled_model}
 use Rattle.acas_encounter_commands.specs.Calls.{IsReplayBegun, IsReplayText, replay_looks_at}
-use Rattle.acas_manoeuvre_commands.specs.Calls.{AreMetBoxes, IsManoeuvreBegun, IsManoeuvreText, manoeuvre_looks_at}
+use Rattle.acas_box_commands.specs.ManoeuvreCalls.{AreMetBoxes, IsManoeuvreBegun, IsManoeuvreText, manoeuvre_looks_at}
 use Rattle.acas_risk_commands.specs.Calls.{risk_of}
 use Rattle.acas_safeable_commands.specs.Calls.{IsSafeableText, IsSafeableTextBegun, safeable_looks_at}
 use Rattle.acas_safeable.specs.SafeableText.{IsSafeableBegun}

@@ -25,12 +25,12 @@ use Rattle.acas_command.specs.declared.status.FileRole.TheVariants.{Model as Mod
 use Rattle.acas_command.proofs.Reports.{report-refused}
 use Rattle.acas_table_file.specs.Calls.{with_table}
 use Rattle.acas_audit_commands.specs.Calls.{IsAuditBegun, IsAuditText, audit_looks_at}
-use Rattle.acas_region_commands.specs.Calls.{IsRegionsBegun, IsRegionsText, regions_looks_at}
+use Rattle.acas_box_commands.specs.RegionsCalls.{IsRegionsBegun, IsRegionsText, regions_looks_at}
 use Rattle.acas_drill.specs.Calls.{IsDrillBegun, IsDrillText}
 use Rattle.acas_drill_model.specs.Word.{drill_number}
 use Rattle.acas_encounter_commands.specs.Calls.{IsReplayBegun, IsReplayText, encounter_looked_at, replay_looks_at}
 use Rattle.acas_manoeuvre.specs.Intruder.{Manoeuvre as Intruder}
-use Rattle.acas_manoeuvre_commands.specs.Calls.{IsManoeuvreBegun, IsManoeuvreText, manoeuvre_looks_at}
+use Rattle.acas_box_commands.specs.ManoeuvreCalls.{IsManoeuvreBegun, IsManoeuvreText, manoeuvre_looks_at}
 use Rattle.acas_report_lines.specs.declared.counts.Which.{Which}
 use Rattle.acas_report_lines.specs.declared.counts.Which.TheVariants.{All as Whole, Reported as OnlyReported}
 use Rattle.acas_risk_commands.proofs.Files.{rest_of_risk, text_of_risk}

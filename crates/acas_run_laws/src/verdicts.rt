@@ -11,7 +11,7 @@ ghost use Rattle.acas_manoeuvre.specs.Meeting.{IsEndangeredBy};
 ghost use Rattle.acas_meetings.specs.declared.meeting.Meeting.{Meeting};
 ghost use Rattle.acas_meetings.specs.declared.verdict.MeetVerdict.TheVariants as meet;
 ghost use Rattle.acas_report.specs.Verdicts.{IsVerdictOnBox, IsVerdictOnCell};
-ghost use Rattle.acas_manoeuvre_commands.specs.Worth as meetings;
+ghost use Rattle.acas_box_commands.specs.ManoeuvreWorth as meetings;
 
 /// A cell that is certified is not endangered, and one that is reported is. So is a box, and one against an intruder that may change its
 /// rate.

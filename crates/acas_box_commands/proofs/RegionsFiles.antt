@@ -13,7 +13,7 @@ use Rattle.acas_command.proofs.Files.{with_model-file}
 use Rattle.acas_command.proofs.Reports.{no_file-model, refers-report}
 use Rattle.acas_command.specs.Called.{calls_for}
 use Rattle.acas_command.proofs.Behind.{Refers}
-use Rattle.acas_region_commands.specs.Calls.{CallsForRegions, IsRegionsBegun, IsRegionsText, regions_looks_at}
+use Rattle.acas_box_commands.specs.RegionsCalls.{CallsForRegions, IsRegionsBegun, IsRegionsText, regions_looks_at}
 
 pub no_file-regions : (model boxes : List ℕ) (files : Files) → (regions_looks_at model boxes files).file ≡ None
 no_file-regions model boxes files =

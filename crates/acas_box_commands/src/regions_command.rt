@@ -1,38 +1,35 @@
-//! The command `manoeuvre`.
+//! The command `regions`.
 ghost use Rattle.std.specs.Prelude.{◌≤◌, IsErrOf, IsTrue};
 ghost use Rattle.acas_outside.specs.Frame.{ReadsAndWrites};
 ghost use Rattle.acas_outside.specs.Outside.{outside};
-ghost use Rattle.acas_manoeuvre.specs.View.{may_of};
 ghost use Rattle.acas_command.specs.Answers.{Answers, report_ended};
-ghost use Rattle.acas_manoeuvre_commands.specs.Calls.{CallsForManoeuvre};
+ghost use Rattle.acas_box_commands.specs.RegionsCalls.{CallsForRegions};
 
-use acas_boxes::read_fitting_boxes;
+use acas_boxes::read_boxes;
 use acas_command::{Cause, FileRole, read_model_file, read_text_file};
-use acas_intruder::write_meetings;
-use acas_manoeuvre::Manoeuvre;
 use acas_outside::{Folder, PrintFault, Sink};
+use acas_report::write_regions;
 use std::alloc::Global;
 
-/// Rules on each box of a file, against an intruder that may change its rate, and prints the report. It answers how many are reported.
-pub fn manoeuvre<F: Folder, O: Sink>(
+/// Rules on each box of a file, and prints the report. It answers how many are reported.
+pub fn regions<F: Folder, O: Sink>(
     alloc: Global,
     model: &str,
     boxes: &str,
-    may: &Manoeuvre,
     folder: &mut F,
     out: &mut O,
 ) -> Result<u64, Cause>
     requires model { IsTrue (F.serves folder.old model.now) }
     requires boxes { IsTrue (F.serves folder.old boxes.now) }
-    ensures answers { Answers (CallsForManoeuvre model.now boxes.now (may_of may.now)) (report_ended result)
+    ensures answers { Answers (CallsForRegions model.now boxes.now) (report_ended result)
         (outside F.Folder O.Sink folder.old out.old) (outside F.Folder O.Sink folder.new out.new) }
     ensures folder { ReadsAndWrites F.Folder folder.old folder.new (IsErrOf result Cause.Folder) }
     ensures output { O.faults out.old ≤ O.faults out.new }
 {
     let found = read_model_file(alloc, model, folder)?;
     let text = read_text_file(alloc, FileRole::Boxes, boxes, folder)?;
-    let said = read_fitting_boxes(alloc, &found.model, may, &text)?;
-    match write_meetings(alloc, &found.model, &said, may, out) {
+    let said = read_boxes(alloc, &found.model, &text)?;
+    match write_regions(alloc, &found.model, &said, out) {
         Ok(counts) => Ok(counts.reported),
         Err(PrintFault::Sink) => Err(Cause::Output),
         Err(PrintFault::Memory) => Err(Cause::Memory),

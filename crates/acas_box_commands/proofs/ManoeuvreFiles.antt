@@ -14,7 +14,7 @@ use Rattle.acas_command.proofs.Behind.{Refers}
 use Rattle.acas_command.proofs.Files.{with_model-file}
 use Rattle.acas_command.proofs.Inputs.{no_file-input_file}
 use Rattle.acas_command.proofs.Reports.{no_file-model, refers-report}
-use Rattle.acas_manoeuvre_commands.specs.Calls.{CallsForManoeuvre, IsManoeuvreBegun, IsManoeuvreText, manoeuvre_looks_at}
+use Rattle.acas_box_commands.specs.ManoeuvreCalls.{CallsForManoeuvre, IsManoeuvreBegun, IsManoeuvreText, manoeuvre_looks_at}
 
 -- looking at the files stores nothing
 pub no_file-manoeuvre : (model boxes : List ℕ) (may : Manoeuvre) (files : Files) → (manoeuvre_looks_at model boxes may files).file ≡ None

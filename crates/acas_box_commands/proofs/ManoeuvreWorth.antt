@@ -36,8 +36,8 @@ use Rattle.acas_command.proofs.Inputs.{rejected-input_file, with_input_file-read
 use Rattle.acas_command.proofs.Refused.{IsNoFileCause, behind-model, not_refused}
 use Rattle.acas_command.proofs.Reports.{IsPrinted, report-may_print, report-printed, report-refused}
 use Rattle.acas_command.proofs.Says.{file-says, read-model, says-model}
-use Rattle.acas_manoeuvre_commands.specs.Calls.{CallsForManoeuvre, IsManoeuvreBegun, IsManoeuvreText, manoeuvre_looks_at}
-use Rattle.acas_manoeuvre_commands.specs.Worth.{IsVerdictOn, IsVerdictOnBox, ManoeuvreIsWorth, PrintsManoeuvre, RejectsRates}
+use Rattle.acas_box_commands.specs.ManoeuvreCalls.{CallsForManoeuvre, IsManoeuvreBegun, IsManoeuvreText, manoeuvre_looks_at}
+use Rattle.acas_box_commands.specs.ManoeuvreWorth.{IsVerdictOn, IsVerdictOnBox, ManoeuvreIsWorth, PrintsManoeuvre, RejectsRates}
 
 -- ---- what was printed
 

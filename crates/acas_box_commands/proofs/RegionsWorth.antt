@@ -28,11 +28,11 @@ use Rattle.acas_command.proofs.Completed.{completed}
 use Rattle.acas_command.proofs.Refused.{IsNoFileCause, behind-model, not_refused}
 use Rattle.acas_command.proofs.Reports.{IsPrinted, report-may_print, report-printed, report-refused}
 use Rattle.acas_command.proofs.Says.{file-says, read-model, says-model}
-use Rattle.acas_region_commands.specs.Calls.{CallsForRegions, IsRegionsBegun, IsRegionsText, regions_looks_at}
+use Rattle.acas_box_commands.specs.RegionsCalls.{CallsForRegions, IsRegionsBegun, IsRegionsText, regions_looks_at}
 use Rattle.acas_report.proofs.Verdicts.{verdict}
 use Rattle.acas_report_lines.specs.Text.{is_certified}
 use Rattle.acas_report_lines.proofs.Reports.{report-of}
-use Rattle.acas_region_commands.specs.Worth.{PrintsRegions, RegionsIsWorth}
+use Rattle.acas_box_commands.specs.RegionsWorth.{PrintsRegions, RegionsIsWorth}
 use Rattle.acas_report.specs.Verdicts.{IsVerdictOnBox}
 
 prints-regions : (model boxes : List ℕ) (files : Files) (cause : Cause) (before after : Outside) → IsPrinted (IsRegionsText model boxes files) files cause before after

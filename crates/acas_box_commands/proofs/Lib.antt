@@ -1,0 +1,4 @@
+mod RegionsFiles
+pub mod RegionsWorth
+pub mod ManoeuvreFiles
+pub mod ManoeuvreWorth

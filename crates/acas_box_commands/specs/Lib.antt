@@ -1,0 +1,4 @@
+pub mod RegionsCalls
+pub mod RegionsWorth
+pub mod ManoeuvreCalls
+pub mod ManoeuvreWorth
