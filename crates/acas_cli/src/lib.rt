@@ -2,6 +2,7 @@
 #![tactic(auto)]
 
 mod drill_call;
+mod exit;
 mod laws;
 mod top_call;
 mod work;
@@ -10,6 +11,7 @@ pub use acas_accept::{AcceptFault, accept};
 pub use acas_command::{Cause, FileRole, Status};
 pub use acas_table_text::TableRefusal;
 pub use drill_call::drill;
+pub use exit::ended;
 pub use laws::{
     accepted_tables_are_audited, migrated_tables_are_accepted, migrating_again_changes_no_byte,
     stored_tables_are_accepted,
