@@ -86,7 +86,7 @@ impl Sink for Stuck {
             return Ok(0);
         }
         let written = self.sink.write(piece);
-        if written != Ok(piece.len()) {
+        if written.ok() != Some(piece.len()) {
             self.faults = self.faults.saturating_add(1);
         }
         written
