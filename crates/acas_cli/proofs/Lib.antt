@@ -1,2 +1,1 @@
-mod TwoRuns
 mod NeverWords

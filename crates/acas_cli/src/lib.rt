@@ -3,7 +3,6 @@
 
 mod drill_call;
 mod exit;
-mod laws;
 mod top_call;
 mod work;
 
@@ -12,9 +11,5 @@ pub use acas_command::{Cause, FileRole, Status};
 pub use acas_table_text::TableRefusal;
 pub use drill_call::drill;
 pub use exit::ended;
-pub use laws::{
-    accepted_tables_are_audited, migrated_tables_are_accepted, migrating_again_changes_no_byte,
-    stored_tables_are_accepted,
-};
 pub use top_call::run;
 pub use work::Work;

@@ -15,3 +15,4 @@ pub mod AdvicesMade
 pub mod SomeOutcome
 pub mod EndedRuns
 pub mod DrillsAlone
+pub mod TwoRuns

@@ -11,6 +11,7 @@ mod numbers;
 mod outcomes;
 mod outside;
 mod quiet;
+mod two_runs;
 mod verdicts;
 mod work;
 
@@ -35,6 +36,10 @@ pub use outside::{
 };
 pub use quiet::{
     forms_are_not_refused_as_words, refused_runs_print_nothing, refused_words_change_nothing,
+};
+pub use two_runs::{
+    accepted_tables_are_audited, migrated_tables_are_accepted, migrating_again_changes_no_byte,
+    stored_tables_are_accepted,
 };
 pub use verdicts::verdicts_tell_danger;
 pub use work::{done_runs_are_counted, what_is_not_named_is_not_counted};
