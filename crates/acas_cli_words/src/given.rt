@@ -11,7 +11,7 @@ pub enum NoWords {
     Refused,
 }
 
-/// The words after the program's name.
+/// The words after the program's name. The system's call promises nothing of what they are, so no clause speaks of them.
 pub fn given_words(rt: &(impl std::rt::Env + AllocGlobal)) -> Result<Vec<String>, NoWords> {
     let all = match env::args(rt) {
         Ok(all) => all,

@@ -4,12 +4,11 @@ ghost use Rattle.acas_command.specs.ErrorLine.{AppendsLine, Reports, name_of};
 ghost use Rattle.acas_command.specs.declared.status.Cause.TheVariants.{Words};
 ghost use Rattle.acas_command.specs.LineParts.{fault_head, fault_subject, input_head, input_subject, line_head, line_of_parts, line_subject, line_tail};
 
-use crate::fault_text::write_tail;
+use crate::fault_text::tail_of;
 use crate::status::{Cause, FileRole};
 use acas_input::InputFault;
 use acas_model::ModelFault;
 use acas_outside::{Sink, emit_parts};
-use acas_units::Line;
 
 /// Writes the line of a run whose output is not all out.
 pub fn report<E: Sink>(words: &[String], cause: &Cause, err: &mut E)
@@ -20,13 +19,12 @@ pub fn report<E: Sink>(words: &[String], cause: &Cause, err: &mut E)
     if let Cause::Done | Cause::Reported = cause {
         return;
     }
-    let mut line = Line::new();
-    write_tail(&mut line, cause);
+    let tail = tail_of(cause);
     emit_line(
         err,
         line_head(cause).as_bytes(),
         line_subject(cause, words),
-        line.bytes(),
+        tail.bytes(),
     );
 }
 

@@ -13,17 +13,18 @@ use acas_input::InputFault;
 use acas_model::{AxisName, ModelFault, NamePlace};
 use acas_units::{GREATEST_ENTRIES, GREATEST_TOTAL_WEIGHT, Line};
 
-/// Makes a line of what is printed of a cause behind the name or the key that it is about.
-pub(crate) fn write_tail(line: &mut Line, cause: &Cause)
-    requires { line.old ≡ [] }
-    ensures { line.new ≡ line_tail cause.now }
+/// The line of what is printed of a cause behind the name or the key that it is about.
+pub(crate) fn tail_of(cause: &Cause) -> Line
+    ensures { result ≡ line_tail cause.now }
 {
+    let mut line = Line::new();
     match cause {
-        Cause::Model(fault) => write_fault_tail(line, fault),
-        Cause::Table(refusal) => write_refusal(line, refusal),
-        Cause::Input(fault) => write_input_tail(line, fault),
+        Cause::Model(fault) => write_fault_tail(&mut line, fault),
+        Cause::Table(refusal) => write_refusal(&mut line, refusal),
+        Cause::Input(fault) => write_input_tail(&mut line, fault),
         _ => {}
     }
+    line
 }
 
 #[tactic(auto, unfolding(crate::specs::FaultText::weights_text, crate::specs::FaultText::window_text, crate::specs::FaultText::entries_text))]

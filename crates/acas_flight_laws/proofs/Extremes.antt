@@ -1,5 +1,5 @@
 -- The first time at which a gap is least is one, and depends on the times alone.
-use Rattle.std.proofs.Common.{◌≡◌, ◌↔◌, ℕ, ◌*◌, ◌<◌, ◌≤◌, ⊎_elim, refl, sym, ap, ◌∙◌, arith, [], ◌∷◌, ℤ, pos, ◌+ℤ◌, ◌*ℤ◌, ◌≤ℤ◌, ◌<ℤ◌, mul-pos}
+use Rattle.std.proofs.Common.{◌≡◌, ◌↔◌, ℕ, ◌*◌, ◌<◌, ◌≤◌, ⊎_elim, refl, sym, ap, ◌∙◌, arith, [], ◌∷◌, ℤ, pos, ◌*ℤ◌, ◌≤ℤ◌, ◌<ℤ◌, mul-pos}
 use Rattle.std.proofs.lemmas.Int.{ints}
 use Rattle.std.proofs.lemmas.Bool.{cases_lt}
 use Rattle.acas_frac.specs.Fraction.{Fraction}
@@ -8,16 +8,10 @@ use Rattle.acas_flight.specs.Window.{Times, IsDuring}
 use Rattle.acas_flight.specs.Values.{IsAtMost, IsOver}
 use Rattle.acas_flight.specs.Extremes.{IsExtreme, IsFirstLeast}
 use Rattle.acas_frac.proofs.IntRing.{at, ◌⊗◌, ring}
-use Rattle.acas_frac.proofs.Orders.{by_above}
 use Rattle.acas_flight_laws.proofs.Endangered.{IsDuring-finer}
+use Rattle.acas_flight_laws.proofs.Numbers.{natural}
 
 -- ---- a time over a multiple of its denominator
-
-pub natural : {P : Type 0} (z : ℤ) → pos 0 ≤ℤ z → ((n : ℕ) → z ≡ pos n → P) → P
-natural z h f = by_above (pos 0) z h (λ n e. f n (e ∙ plain n))
-  where
-    plain : (n : ℕ) → pos 0 +ℤ pos n ≡ pos n
-    plain n = omega (arith, ints)
 
 pub over_times : (k n : ℕ) (time : Fraction) → time.num ≡ pos n → IsOver (time.den * k) (pos (n * k)) time
 over_times k n time e = rw e (ring (pos k ∷ pos n ∷ pos time.den ∷ []) ((at 1 ⊗ at 0) ⊗ at 2) (at 1 ⊗ (at 2 ⊗ at 0)) refl)

@@ -1,5 +1,5 @@
 //! The rules of a model's text, in their order.
-ghost use Rattle.std.specs.Prelude.{◌≡◌, ◌≤◌, ◌+◌, ◌*◌, length, map};
+ghost use Rattle.std.specs.Prelude.{◌≡◌, ◌≤◌, ◌+◌, ◌*◌, length, map, IfOk};
 ghost use Rattle.std.specs.List.{AllByRecursion};
 ghost use Rattle.toml.specs.View.{table_view};
 ghost use Rattle.acas_spec.specs.Model.{entries};
@@ -34,6 +34,37 @@ fn top_keys(alloc: Global, document: &Table) -> Result<(), ModelFault>
         b"",
         "version horizon grid puck closing pilot cost advisory sigma",
     )?)
+}
+
+/// The version, which says what keys `pilot` has.
+#[tactic(auto, unfolding(crate::specs::Whole::version_of))]
+fn version_of(alloc: Global, document: &Table) -> Result<u32, ModelFault>
+    ensures { Gives (λ n. n) result (rules.version_of (table_view document.now)) }
+{
+    number(
+        alloc,
+        document,
+        b"",
+        "version",
+        LEAST_MODEL_VERSION,
+        GREATEST_MODEL_VERSION,
+    )
+}
+
+/// The horizon in seconds.
+#[tactic(auto, unfolding(crate::specs::Whole::horizon_of))]
+fn horizon_of(alloc: Global, document: &Table) -> Result<u32, ModelFault>
+    ensures value { Gives (λ n. n) result (rules.horizon_of (table_view document.now)) }
+    ensures range { IfOk result (λ n. n ≤ GREATEST_HORIZON) }
+{
+    number(
+        alloc,
+        document,
+        b"",
+        "horizon",
+        LEAST_HORIZON,
+        GREATEST_HORIZON,
+    )
 }
 
 /// The way of some seconds at a closing speed, in ft.
@@ -103,27 +134,13 @@ fn grid_of(horizon: u32, axes: Axes, advised: &Advised) -> Grid
 }
 
 /// The model of a document.
-#[tactic(auto, unfolding(crate::specs::Whole::model_in, crate::specs::Whole::version_of, crate::specs::Whole::horizon_of))]
+#[tactic(auto, unfolding(crate::specs::Whole::model_in))]
 fn model_in(alloc: Global, document: &Table) -> Result<Model, ModelFault>
     ensures { Gives (λ m. m) result (rules.model_in (table_view document.now)) }
 {
     top_keys(alloc, document)?;
-    let version = number(
-        alloc,
-        document,
-        b"",
-        "version",
-        LEAST_MODEL_VERSION,
-        GREATEST_MODEL_VERSION,
-    )?;
-    let horizon = number(
-        alloc,
-        document,
-        b"",
-        "horizon",
-        LEAST_HORIZON,
-        GREATEST_HORIZON,
-    )?;
+    let version = version_of(alloc, document)?;
+    let horizon = horizon_of(alloc, document)?;
     let axes = axes_of(alloc, document)?;
     let numbers = numbers_of(alloc, document, version)?;
     let advised = advised_of(alloc, document)?;

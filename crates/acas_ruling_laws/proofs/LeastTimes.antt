@@ -15,7 +15,8 @@ use Rattle.acas_flight.specs.Values.{IsOver}
 use Rattle.acas_flight.specs.Window.{Times}
 use Rattle.acas_flight_laws.proofs.Rising.{scaled_le}
 use Rattle.acas_flight_laws.proofs.Safe.{low_pull-some, high_pull-some}
-use Rattle.acas_flight_laws.proofs.Extremes.{during_ends, natural}
+use Rattle.acas_flight_laws.proofs.Extremes.{during_ends}
+use Rattle.acas_flight_laws.proofs.Numbers.{natural}
 use Rattle.acas_areas.specs.Limits.{AreEnds}
 use Rattle.acas_passes.specs.Search.{IsMoment}
 use Rattle.acas_manoeuvre.specs.Intruder.{Manoeuvre, RatesFit}

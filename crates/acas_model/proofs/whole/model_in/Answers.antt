@@ -1,11 +1,9 @@
 use Rattle.std.proofs.Common.{sym}
 use Rattle.toml.specs.View.{table_view}
-use Rattle.acas_model.specs.Whole.{horizon_of}
 use Rattle.acas_model.proofs.WithinLimits.{parts_within_limits}
 use Rattle.acas_model.proofs.whole.model_in.Goals as goal
 
 pub new-requires : goal.new-requires
-unfolding horizon_of
 new-requires c =
     rw c.grid_of-grid.ensures
     (parts_within_limits (table_view c.args.document.now) c.in_ok-version.version c.in_ok-horizon.horizon c.in_ok-axes.axes c.in_ok-numbers.numbers _ c.in_ok-sigmas.sigmas.items
