@@ -1,12 +1,12 @@
 -- The layer of a state, and the seconds after which its range is near.
-use Rattle.std.proofs.Common.{◌≡◌, ℕ, zero, suc, ◌+◌, ◌*◌, ◌<◌, ◌≤◌, ⊎_elim, arith, ℤ, pos, ◌+ℤ◌, ◌-ℤ◌, ◌*ℤ◌, ◌≤ℤ◌, ◌<ℤ◌}
+use Rattle.std.proofs.Common.{◌≡◌, ℕ, zero, suc, ◌+◌, ◌*◌, ◌<◌, ◌≤◌, ⊎_elim, arith, ℤ, pos, ◌-ℤ◌, ◌*ℤ◌, ◌≤ℤ◌, ◌<ℤ◌, unsigned_abs}
 use Rattle.std.specs.Int.{div_ceil, int_max}
 use Rattle.std.proofs.lemmas.Grind.{div_ceil_times}
 use Rattle.std.proofs.lemmas.Int.{ints, clamps}
 use Rattle.std.proofs.lemmas.Bool.{cases_lt}
 use native.Mathlib.Nat.{mul-le-mul_right}
 use Rattle.acas_spec.specs.Model.{ModelData}
-use Rattle.acas_frac.proofs.Orders.{by_above, cases_lt_ℤ, mul_nonneg}
+use Rattle.acas_frac.proofs.Orders.{cases_lt_ℤ, mul_nonneg}
 use Rattle.acas_flight.specs.State.{outside_radius}
 use Rattle.acas_replay.specs.Issue.{IsLayerOf}
 use Rattle.acas_replay.specs.declared.state.EncounterState.{EncounterState}
@@ -30,7 +30,7 @@ quotient_some w c zero h l = absurd (omega arith)
 quotient_some w c (suc q) h l = omega arith
 
 -- and else the quotient of what is left and the closing speed, rounded up
-pub quotient_layer : (m : ModelData) (s : EncounterState) (w c : ℕ) → s.range -ℤ pos m.radius ≡ pos w → s.closing ≡ pos c → 0 < c → c < w → IsLayerOf m s (div_ceil w c)
+quotient_layer : (m : ModelData) (s : EncounterState) (w c : ℕ) → s.range -ℤ pos m.radius ≡ pos w → s.closing ≡ pos c → 0 < c → c < w → IsLayerOf m s (div_ceil w c)
 quotient_layer m s w c e f some l =
     let q = div_ceil_times w c some in
     record {
@@ -45,31 +45,16 @@ quotient_layer m s w c e f some l =
     down : (m n : ℕ) → pos m ≤ℤ pos n → m ≤ n
     down m n h = omega (arith, ints)
 
+pub far_layer : (m : ModelData) (s : EncounterState) → pos 0 <ℤ s.closing → s.closing <ℤ (s.range -ℤ pos m.radius) → IsLayerOf m s (div_ceil (unsigned_abs (s.range -ℤ pos m.radius)) (unsigned_abs s.closing))
+far_layer m s some far = quotient_layer m s (unsigned_abs (s.range -ℤ pos m.radius)) (unsigned_abs s.closing) (omega (arith, ints)) (omega (arith, ints)) (omega (arith, ints)) (omega (arith, ints))
+
 -- each state whose range closes has one
 pub some_layer : (m : ModelData) (s : EncounterState) → pos 0 <ℤ s.closing → (layer : ℕ) × IsLayerOf m s layer
 some_layer m s some =
     ⊎_elim
-    (λ (l : s.closing <ℤ (s.range -ℤ pos m.radius)).
-    by_above (pos 0) s.closing (less some) (λ c f.
-    by_above (pos 0) (s.range -ℤ pos m.radius) (less_through some l) (λ w e.
-    (div_ceil w c, quotient_layer m s w c (plain w e) (plain c f) (above c (plain c f)) (between w c (plain w e) (plain c f) l)))))
+    (λ (l : s.closing <ℤ (s.range -ℤ pos m.radius)). (div_ceil (unsigned_abs (s.range -ℤ pos m.radius)) (unsigned_abs s.closing), far_layer m s some l))
     (λ (l : (s.range -ℤ pos m.radius) ≤ℤ s.closing). (1, first_layer m s l))
     (cases_lt_ℤ s.closing (s.range -ℤ pos m.radius))
-  where
-    less : {x : ℤ} → pos 0 <ℤ x → pos 0 ≤ℤ x
-    less h = omega (arith, ints)
-
-    less_through : {x y : ℤ} → pos 0 <ℤ x → x <ℤ y → pos 0 ≤ℤ y
-    less_through h k = omega (arith, ints)
-
-    plain : {x : ℤ} (n : ℕ) → x ≡ pos 0 +ℤ pos n → x ≡ pos n
-    plain n h = omega (arith, ints)
-
-    above : (c : ℕ) → s.closing ≡ pos c → 0 < c
-    above c f = let h = rw f at some in omega (arith, ints)
-
-    between : (w c : ℕ) → s.range -ℤ pos m.radius ≡ pos w → s.closing ≡ pos c → s.closing <ℤ (s.range -ℤ pos m.radius) → c < w
-    between w c e f h = let l = rw (e, f) at h in omega (arith, ints)
 
 -- and no other
 pub layers_same : (m : ModelData) (s : EncounterState) (k l : ℕ) → IsLayerOf m s k → IsLayerOf m s l → k ≡ l
@@ -99,9 +84,6 @@ layer_not_before m s zero l = let e : pos 0 *ℤ s.closing ≡ pos 0 = omega (ar
 layer_not_before m s (suc k) l =
     rw (plain_radius m.radius s.range)
     (⊎_elim
-    (λ (h : (pos (suc k) *ℤ s.closing) <ℤ (s.range -ℤ pos m.radius)). late (pos (suc k) *ℤ s.closing) (s.range -ℤ pos m.radius) (int_max (pos 0) (s.range -ℤ pos m.radius)) h (max_above (s.range -ℤ pos m.radius)))
+    (λ (h : (pos (suc k) *ℤ s.closing) <ℤ (s.range -ℤ pos m.radius)). let n = max_above (s.range -ℤ pos m.radius) in omega (arith, ints))
     (λ (h : (s.range -ℤ pos m.radius) ≤ℤ (pos (suc k) *ℤ s.closing)). let n = l.least (suc k) (omega arith) h in absurd (omega arith))
     (cases_lt_ℤ (pos (suc k) *ℤ s.closing) (s.range -ℤ pos m.radius)))
-  where
-    late : (x y z : ℤ) → x <ℤ y → y ≤ℤ z → x ≤ℤ z
-    late x y z h k = omega (arith, ints)

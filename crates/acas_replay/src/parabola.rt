@@ -55,7 +55,6 @@ fn times_parts(a: i64, b: i64) -> i64
 
 impl Parabola {
     // Its value at n of the parts, times the square of the parts.
-    #[tactic(auto, unfolding(crate::specs::Parabola::value_at))]
     fn value_at(&self, n: i64, parts: i64) -> i64
         requires small { IsSmall self.now }
         requires n { unsigned_abs n ≤ GREATEST_CLOSING }
@@ -125,8 +124,7 @@ impl Parabola {
     {
         Parabola {
             level: self.level - by,
-            slope: self.slope,
-            bend: self.bend,
+            ..*self
         }
     }
 

@@ -81,11 +81,7 @@ impl Replayed<'_> {
     {
         let (own, intruder) = self.encounter.accelerations(second);
         let state = at.state.after(found.advice, own, intruder);
-        let contacts = if found.contact {
-            at.contacts + 1
-        } else {
-            at.contacts
-        };
+        let contacts = at.contacts + u32::from(found.contact);
         Progress { state, contacts }
     }
 }

@@ -4,10 +4,7 @@ use Rattle.acas_replay.specs.declared.parabola.TheConstants.{LARGEST_LEVEL, LARG
 use Rattle.acas_replay.proofs.Casts.{whole_product}
 use Rattle.acas_replay.proofs.parabola.times.Goals as goal
 
-pub returns-clause-value : goal.returns-clause-value
-returns-clause-value c = whole_product c.args.a c.args.b LARGEST_LEVEL LARGEST_SQUARE c.requires.a c.requires.b (omega arith) (omega arith) (omega arith)
-
-pub returns-clause-size : goal.returns-clause-size
-returns-clause-size c =
-    rw (whole_product c.args.a c.args.b LARGEST_LEVEL LARGEST_SQUARE c.requires.a c.requires.b (omega arith) (omega arith) (omega arith))
-    (product_size c.args.a c.args.b LARGEST_LEVEL LARGEST_SQUARE c.requires.a c.requires.b)
+pub returns : goal.returns
+returns c =
+    let e = whole_product c.args.a c.args.b LARGEST_LEVEL LARGEST_SQUARE c.requires.a c.requires.b (omega arith) (omega arith) (omega arith) in
+    record { value = e; size = rw e (product_size c.args.a c.args.b LARGEST_LEVEL LARGEST_SQUARE c.requires.a c.requires.b) }

@@ -1,4 +1,4 @@
-use Rattle.std.proofs.Common.{◌≡◌, ◌∙◌, ap₂, ℕ, ◌*◌, pos, ◌+ℤ◌, ◌*ℤ◌, to_z, of_z, arith}
+use Rattle.std.proofs.Common.{◌≡◌, ◌∙◌, ap₂, ℕ, ◌*◌, pos, ◌+ℤ◌, ◌*ℤ◌, to_z, of_z, arith, rules}
 use Rattle.std.specs.Int.{w64}
 use Rattle.std.proofs.lemmas.Int.{ints}
 use Rattle.acas_units.specs.declared.limits.TheConstants.{GREATEST_CLOSING}
@@ -33,3 +33,24 @@ returns c =
     whole_sum_three c.times-level.result c.times-sloped.result c.times-bent.result most most most
     c.times-level.ensures.size c.times-sloped.ensures.size c.times-bent.ensures.size (omega arith)
     ∙ ap₂ ◌+ℤ◌ (ap₂ ◌+ℤ◌ (c.times-level.ensures.value ∙ ap₂ ◌*ℤ◌ level qq) (c.times-sloped.ensures.value ∙ ap₂ ◌*ℤ◌ slope nq)) (c.times-bent.ensures.value ∙ ap₂ ◌*ℤ◌ bend nn)
+
+pub times_parts-requires : goal.times_parts-requires
+times_parts-requires c = search rules
+
+pub times_parts-requires-2 : goal.times_parts-requires-2
+times_parts-requires-2 c = search rules
+
+pub times_parts-requires-3 : goal.times_parts-requires-3
+times_parts-requires-3 c = search rules
+
+pub times-level-requires : goal.times-level-requires
+times-level-requires c = search rules
+
+pub times-sloped-requires : goal.times-sloped-requires
+times-sloped-requires c = omega (arith, ints)
+
+pub times-bent-requires : goal.times-bent-requires
+times-bent-requires c = search rules
+
+pub overflow_mul-self : goal.overflow_mul-self
+overflow_mul-self c = omega (arith, ints, c.requires.small.slope)

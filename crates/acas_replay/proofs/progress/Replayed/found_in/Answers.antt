@@ -7,18 +7,17 @@ use Rattle.acas_replay.proofs.progress.Replayed.found_in.Goals as goal
 pub issued_advice-advice-requires-clause-reached : goal.issued_advice-advice-requires-clause-reached
 issued_advice-advice-requires-clause-reached c = reached_before c.args.self.now.encounter.now c.args.second c.args.state.now c.accelerations-own.ensures.valid c.requires.second c.requires.reached
 
-pub second-requires-clause-own : goal.second-requires-clause-own
-second-requires-clause-own c =
+pub second-requires : goal.second-requires
+second-requires c =
+    let e = c.args.self.now.encounter.now in
+    let valid = c.accelerations-own.ensures.valid in
     let v : SFits w64 c.accelerations-own.result.0 = search rules in
-    rw (to_z-of_z w64 c.accelerations-own.result.0 v, c.accelerations-own.ensures.own) (own_at-small c.args.self.now.encounter.now c.args.second c.accelerations-own.ensures.valid c.requires.second)
-
-pub second-requires-clause-intruder : goal.second-requires-clause-intruder
-second-requires-clause-intruder c =
-    let v : SFits w64 c.accelerations-own.result.1 = search rules in
-    rw (to_z-of_z w64 c.accelerations-own.result.1 v, c.accelerations-own.ensures.intruder) (intruder_at-small c.args.self.now.encounter.now c.args.second c.accelerations-own.ensures.valid c.requires.second)
-
-pub second-requires-clause-reached : goal.second-requires-clause-reached
-second-requires-clause-reached c = reached_before c.args.self.now.encounter.now c.args.second c.args.state.now c.accelerations-own.ensures.valid c.requires.second c.requires.reached
+    let w : SFits w64 c.accelerations-own.result.1 = search rules in
+    record {
+      own = rw (to_z-of_z w64 c.accelerations-own.result.0 v, c.accelerations-own.ensures.own) (own_at-small e c.args.second valid c.requires.second);
+      intruder = rw (to_z-of_z w64 c.accelerations-own.result.1 w, c.accelerations-own.ensures.intruder) (intruder_at-small e c.args.second valid c.requires.second);
+      reached = reached_before e c.args.second c.args.state.now valid c.requires.second c.requires.reached;
+    }
 
 pub returns : goal.returns
 returns c =

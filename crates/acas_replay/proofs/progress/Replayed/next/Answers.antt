@@ -1,6 +1,6 @@
-use Rattle.std.proofs.Common.{◌≡◌, ◌∙◌, ◌+◌, ◌<◌, ◌≤◌, cond, refl, ℕ, arith, w64, rules, Bool, true, false}
+use Rattle.std.proofs.Common.{◌≡◌, ◌∙◌, ◌+◌, ◌<◌, ◌≤◌, cond, ap, refl, ℕ, arith, w64, rules, Bool, true, false}
 use Rattle.std.proofs.lemmas.Int.{to_z-of_z}
-use mir.Val.{SFits}
+use mir.Val.{SFits, bool_byte}
 use Rattle.acas_spec.specs.Model.{ModelData}
 use Rattle.acas_base.specs.Advices.{AdvicesData}
 use Rattle.acas_encounter.specs.Encounter.{EncounterData, intruder_at, own_at, seconds}
@@ -13,18 +13,28 @@ use Rattle.acas_replay.proofs.Bounds.{intruder_at-small, own_at-small, reached_b
 use Rattle.acas_replay.proofs.Courses.{found_contacts, found_state}
 use Rattle.acas_replay.proofs.progress.Replayed.next.Goals as goal
 
-pub after-state-requires-clause-own : goal.after-state-requires-clause-own
-after-state-requires-clause-own c =
+pub after-state-requires : goal.after-state-requires
+after-state-requires c =
+    let e = c.args.self.now.encounter.now in
+    let valid = c.accelerations-own.ensures.valid in
     let v : SFits w64 c.accelerations-own.result.0 = search rules in
-    rw (to_z-of_z w64 c.accelerations-own.result.0 v, c.accelerations-own.ensures.own) (own_at-small c.args.self.now.encounter.now c.args.second c.accelerations-own.ensures.valid c.requires.second)
+    let w : SFits w64 c.accelerations-own.result.1 = search rules in
+    record {
+      own = rw (to_z-of_z w64 c.accelerations-own.result.0 v, c.accelerations-own.ensures.own) (own_at-small e c.args.second valid c.requires.second);
+      intruder = rw (to_z-of_z w64 c.accelerations-own.result.1 w, c.accelerations-own.ensures.intruder) (intruder_at-small e c.args.second valid c.requires.second);
+      reached = reached_before e c.args.second c.args.at.now.state valid c.requires.second c.requires.flown.reached;
+    }
 
-pub after-state-requires-clause-intruder : goal.after-state-requires-clause-intruder
-after-state-requires-clause-intruder c =
-    let v : SFits w64 c.accelerations-own.result.1 = search rules in
-    rw (to_z-of_z w64 c.accelerations-own.result.1 v, c.accelerations-own.ensures.intruder) (intruder_at-small c.args.self.now.encounter.now c.args.second c.accelerations-own.ensures.valid c.requires.second)
+byte : (b : Bool) → bool_byte b ≡ cond b 1 0
+byte true = refl
+byte false = refl
 
-pub after-state-requires-clause-reached : goal.after-state-requires-clause-reached
-after-state-requires-clause-reached c = reached_before c.args.self.now.encounter.now c.args.second c.args.at.now.state c.accelerations-own.ensures.valid c.requires.second c.requires.flown.reached
+at_most : {n l k : ℕ} (b : Bool) → n ≡ l + cond b 1 0 → l ≤ k → n ≤ k + 1
+at_most true e h = omega arith
+at_most false e h = omega arith
+
+pub overflow_add-contacts : goal.overflow_add-contacts
+overflow_add-contacts c = let few = at_most c.args.found.now.contact (ap (λ (n : ℕ). c.args.at.now.contacts + n) (c.from.ensures ∙ byte _)) c.requires.flown.few in omega arith
 
 -- one second more, whose state and count are these
 one_more : (m : ModelData) (a : AdvicesData) (e : EncounterData) (k : ℕ) (p : Progress) (f : Found) (s : EncounterState) (n : ℕ) → k < seconds e → HasFlown m a e k p → IsFound m a e k p.state f →
@@ -37,25 +47,13 @@ one_more m a e k p f s n h flown found s_is reached n_is = record {
   reached = reached;
   few = at_most f.contact n_is flown.few;
 }
-  where
-    at_most : {n l k : ℕ} (b : Bool) → n ≡ l + cond b 1 0 → l ≤ k → n ≤ k + 1
-    at_most true e h = omega arith
-    at_most false e h = omega arith
 
-pub returns-then-found : goal.returns-then-found
-returns-then-found c =
+pub returns : goal.returns
+returns c =
     let v : SFits w64 c.accelerations-own.result.0 = search rules in
     let w : SFits w64 c.accelerations-own.result.1 = search rules in
     let own = to_z-of_z w64 c.accelerations-own.result.0 v ∙ c.accelerations-own.ensures.own in
     let intruder = to_z-of_z w64 c.accelerations-own.result.1 w ∙ c.accelerations-own.ensures.intruder in
-    one_more c.args.self.now.model.now c.args.self.now.advices.now c.args.self.now.encounter.now c.args.second c.args.at.now c.args.found.now c.after-state.result (c.args.at.now.contacts + 1)
-    c.requires.second c.requires.flown c.requires.found (rw (own, intruder) at c.after-state.ensures.value) (c.after-state.ensures.reached c.args.second c.requires.flown.reached) (rw c.if-found.true refl)
-
-pub returns-else-found : goal.returns-else-found
-returns-else-found c =
-    let v : SFits w64 c.accelerations-own.result.0 = search rules in
-    let w : SFits w64 c.accelerations-own.result.1 = search rules in
-    let own = to_z-of_z w64 c.accelerations-own.result.0 v ∙ c.accelerations-own.ensures.own in
-    let intruder = to_z-of_z w64 c.accelerations-own.result.1 w ∙ c.accelerations-own.ensures.intruder in
-    one_more c.args.self.now.model.now c.args.self.now.advices.now c.args.self.now.encounter.now c.args.second c.args.at.now c.args.found.now c.after-state.result c.args.at.now.contacts
-    c.requires.second c.requires.flown c.requires.found (rw (own, intruder) at c.after-state.ensures.value) (c.after-state.ensures.reached c.args.second c.requires.flown.reached) (rw c.if-found.false (omega arith))
+    one_more c.args.self.now.model.now c.args.self.now.advices.now c.args.self.now.encounter.now c.args.second c.args.at.now c.args.found.now c.after-state.result _
+    c.requires.second c.requires.flown c.requires.found (rw (own, intruder) at c.after-state.ensures.value) (c.after-state.ensures.reached c.args.second c.requires.flown.reached)
+    (ap (λ (n : ℕ). c.args.at.now.contacts + n) (c.from.ensures ∙ byte _))
