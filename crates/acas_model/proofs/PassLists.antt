@@ -16,7 +16,7 @@ use Rattle.acas_spec.specs.declared.parts.SigmaPoint.{SigmaPoint}
 use Rattle.acas_doc.specs.Paths.{key_path, item_path}
 use Rattle.acas_doc.proofs.Holds.{true-int_le, whole_at_passes, text_at_passes, list_at_passes, text_item_passes, table_item_passes}
 use Rattle.acas_model.specs.Advisories.{name_at, advisory_of, advisory_item, advisory_items, new_name, distinct}
-use Rattle.acas_model.specs.Choices.{named, choice_item, choice_items, choices_from, some_choice, choices_of, choices_item, choice_lists, Advised, advised_of}
+use Rattle.acas_model.specs.Choices.{named, choice_item, choice_items, choices_from, some_choice, costs_of, choices_of, choices_item, choice_lists, Advised, advised_of}
 use Rattle.acas_model.specs.Noise.{sigma_of, sigma_item, sigma_items, sigmas_of}
 use Rattle.acas_model.specs.Text.{HasOnly, HoldsText, HoldsWhole, HoldsList, IsDocumentText}
 use Rattle.acas_spec.proofs.Places.{all_from}
@@ -183,7 +183,7 @@ some_passes advisory count some = rw (other_numbers count 0 (λ e. absurd (omega
 choices_pass : (m : ModelData) → IsModel m → (t : Members) (path : List ℕ) (advisory : ℕ) (choices : List Choice) → IsChoiceList (length m.advisories) choices
     → HoldsList t (codes "choices") (map (λ c. string (name_of m.advisories c.advisory)) choices) → HoldsList t (codes "costs") (map (λ c. integer c.cost) choices)
     → choices_of m.advisories t path advisory ≡ Ok choices
-unfolding choices_of numbers_in costs_in
+unfolding choices_of costs_of numbers_in costs_in
 choices_pass m valid t path advisory choices is named_list cost_list =
     let chosen = numbers_in choices in
     let costs = costs_in choices in

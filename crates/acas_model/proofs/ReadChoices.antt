@@ -12,13 +12,13 @@ use Rattle.acas_spec.specs.Limits.{IsChoiceList, AreDistinct}
 use Rattle.acas_spec.specs.declared.parts.Advisory.{Advisory}
 use Rattle.acas_spec.specs.declared.parts.Choice.{Choice}
 use Rattle.acas_spec.proofs.Each.{bind_ok, same_ok}
-use Rattle.acas_doc.specs.Keys.{list_at, text_item, table_item, whole_items}
+use Rattle.acas_doc.specs.Keys.{list_at, text_item, table_item}
 use Rattle.acas_doc.specs.Paths.{key_path, item_path}
 use Rattle.acas_doc.proofs.Holds.{fault_as_ok, list_at_ok, text_item_ok, table_item_ok}
 use Rattle.acas_model.specs.declared.fault.ModelFault.{ModelFault}
 use Rattle.acas_model.specs.declared.fault.ModelFault.TheVariants.{NoChoice, RepeatedName}
 use Rattle.acas_model.specs.Document.{in_doc}
-use Rattle.acas_model.specs.Choices.{named, or_unknown, choice_item, choice_items, choices_from, some_choice, choices_of, choices_item, choice_lists}
+use Rattle.acas_model.specs.Choices.{named, or_unknown, choice_item, choice_items, choices_from, some_choice, costs_of, choices_of, choices_item, choice_lists}
 use Rattle.acas_model.specs.Text.{HoldsList}
 use Rattle.acas_model.proofs.Places.{ReadAt, each_places, none_at, same_lists}
 use Rattle.acas_model.proofs.Wholes.{wholes_ok}
@@ -150,18 +150,18 @@ pub record IsReadChoices (advisories : List Advisory) (t : Members) (list : List
   pub is_list : IsChoiceList (length advisories) list
 
 choices_ok : (advisories : List Advisory) (t : Members) (path : List ℕ) (advisory : ℕ) (choices : List Choice) → choices_of advisories t path advisory ≡ Ok choices → IsReadChoices advisories t choices
-unfolding choices_of
+unfolding choices_of costs_of
 choices_ok advisories t path advisory choices e =
     let i = bind_ok (in_doc (list_at t path (codes "choices") 0 (2 ^ 32 - 1))) _ choices e in
     let s = step_ok (some_choice advisory (length i.0)) _ choices i.2 in
     let c = bind_ok (choice_items advisories (key_path path (codes "choices")) advisory i.0) _ choices s.1 in
-    let l = bind_ok (in_doc (list_at t path (codes "costs") (length i.0) (length i.0))) _ choices c.2 in
-    let z = bind_ok (in_doc (whole_items (key_path path (codes "costs")) LEAST_COST GREATEST_COST l.0)) _ choices l.2 in
+    let z = bind_ok (costs_of t path (length i.0)) _ choices c.2 in
+    let l = bind_ok (in_doc (list_at t path (codes "costs") (length i.0) (length i.0))) _ z.0 z.1 in
     let made : choices_from c.0 z.0 ≡ choices = same_ok {E = ModelFault} _ _ z.2 in
     let named_list = list_at_ok t path (codes "choices") 0 (2 ^ 32 - 1) i.0 (fault_as_ok _ _ i.0 i.1) in
     let cost_list = list_at_ok t path (codes "costs") (length i.0) (length i.0) l.0 (fault_as_ok _ _ l.0 l.1) in
     let chosen = chosen_ok advisories (key_path path (codes "choices")) advisory i.0 c.0 c.1 in
-    let costs = wholes_ok (key_path path (codes "costs")) LEAST_COST GREATEST_COST l.0 z.0 (fault_as_ok _ _ z.0 z.1) in
+    let costs = wholes_ok (key_path path (codes "costs")) LEAST_COST GREATEST_COST l.0 z.0 (fault_as_ok _ _ z.0 l.2) in
     let long : length c.0 ≡ length z.0 = omega (arith, chosen.long, costs.long, cost_list.1, cost_list.2) in
     let some : 0 < length c.0 = omega (arith, chosen.long, some_choice_ok advisory (length i.0) s.0) in
     subst (IsReadChoices advisories t) made (record {

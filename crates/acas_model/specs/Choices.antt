@@ -54,14 +54,19 @@ choices_from chosen costs = map (λ p. record { advisory = p.0; cost = p.1 }) (z
 abbrev pub some_choice : ℕ → ℕ → Result (Unit {0}) ModelFault
 some_choice advisory count = if count == 0 then Err (NoChoice advisory) else Ok tt
 
--- a list of choices, not empty; each choice; a list of costs, as long; each cost
+-- a list of so many costs; each cost
+unfoldable pub costs_of : Members → List ℕ → ℕ → Result (List ℤ) ModelFault
+costs_of table path count = do
+  items ← in_doc (list_at table path (codes "costs") count count)
+  in_doc (whole_items (key_path path (codes "costs")) LEAST_COST GREATEST_COST items)
+
+-- a list of choices, not empty; each choice; as many costs
 unfoldable pub choices_of : List Advisory → Members → List ℕ → ℕ → Result (List Choice) ModelFault
 choices_of advisories table path advisory = do
   items ← in_doc (list_at table path (codes "choices") 0 (2 ^ 32 - 1))
   some_choice advisory (length items)
   chosen ← choice_items advisories (key_path path (codes "choices")) advisory items
-  cost_list ← in_doc (list_at table path (codes "costs") (length items) (length items))
-  costs ← in_doc (whole_items (key_path path (codes "costs")) LEAST_COST GREATEST_COST cost_list)
+  costs ← costs_of table path (length items)
   Ok (choices_from chosen costs)
 
 -- what may be chosen under the advisory at a place of the list `advisory`

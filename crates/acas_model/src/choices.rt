@@ -132,6 +132,16 @@ fn some_choice(advisory: u32, count: usize) -> Result<(), ModelFault>
     }
 }
 
+/// The costs of so many choices.
+#[tactic(auto, unfolding(crate::specs::Choices::costs_of))]
+fn costs_of(alloc: Global, table: &Table, path: &[u8], count: u32) -> Result<Vec<i64>, ModelFault>
+    ensures { Gives (λ v. v.items) result (rules.costs_of (table_view table.now) path.now count) }
+{
+    let items = list(alloc, table, path, "costs", count, count)?;
+    let items_path = path_of_key(alloc, path, "costs")?;
+    Ok(whole_items(alloc, items, items_path.bytes(), LEAST_COST, GREATEST_COST)?)
+}
+
 /// The choices and costs in the table of an advisory.
 #[tactic(auto, unfolding(crate::specs::Choices::choices_of))]
 fn choices_of(
@@ -149,16 +159,7 @@ fn choices_of(
     some_choice(advisory, items.len())?;
     let names_path = path_of_key(alloc, path, "choices")?;
     let chosen = choice_items(alloc, advisories, items, names_path.bytes(), advisory)?;
-    let count = items.len() as u32;
-    let cost_list = list(alloc, table, path, "costs", count, count)?;
-    let costs_path = path_of_key(alloc, path, "costs")?;
-    let costs = whole_items(
-        alloc,
-        cost_list,
-        costs_path.bytes(),
-        LEAST_COST,
-        GREATEST_COST,
-    )?;
+    let costs = costs_of(alloc, table, path, items.len() as u32)?;
     Ok(paired(alloc, &chosen, &costs)?)
 }
 

@@ -1,5 +1,5 @@
 //! The rules of a model's text, in their order.
-ghost use Rattle.std.specs.Prelude.{◌≡◌, ◌≤◌, ◌+◌, ◌*◌, length, map, IfOk};
+ghost use Rattle.std.specs.Prelude.{◌≡◌, ◌≤◌, ◌+◌, ◌*◌, length, map, Ok, Err, IfOk, IfErr};
 ghost use Rattle.std.specs.List.{AllByRecursion};
 ghost use Rattle.toml.specs.View.{table_view};
 ghost use Rattle.acas_spec.specs.Model.{entries};
@@ -105,31 +105,28 @@ fn window(horizon: u32, radius: u32, least: u32) -> Result<(), ModelFault>
     )
 }
 
-/// That a table over the grid has not too many entries.
+/// The grid of these axes, over which a table has not too many entries.
 #[tactic(auto, unfolding(crate::specs::Whole::few_entries))]
-fn few_entries(grid: &Grid) -> Result<(), ModelFault>
-    ensures { result ≡ rules.few_entries grid.now }
-{
-    let entries = grid.entries();
-    if entries <= GREATEST_ENTRIES {
-        Ok(())
-    } else {
-        Err(ModelFault::TooManyEntries { entries })
-    }
-}
-
-/// The grid of these axes.
-fn grid_of(horizon: u32, axes: Axes, advised: &Advised) -> Grid
+fn grid_of(horizon: u32, axes: Axes, advised: &Advised) -> Result<Grid, ModelFault>
     requires horizon { horizon ≤ GREATEST_HORIZON }
     requires few { length advised.now.advisories.items ≤ GREATEST_ADVISORIES }
-    ensures { result ≡ rules.grid_from horizon axes (advised_view advised.now) }
+    ensures value { IfOk result (λ g. g ≡ rules.grid_from horizon axes (advised_view advised.now)) }
+    ensures ok { IfOk result (λ g. rules.few_entries g ≡ Ok tt) }
+    ensures err { IfErr result
+        (λ e. rules.few_entries (rules.grid_from horizon axes (advised_view advised.now)) ≡ Err e) }
 {
-    Grid {
+    let grid = Grid {
         h: axes.h,
         v0: axes.v0,
         v1: axes.v1,
         advisories: advised.advisories.len() as u32,
         horizon,
+    };
+    let entries = grid.entries();
+    if entries <= GREATEST_ENTRIES {
+        Ok(grid)
+    } else {
+        Err(ModelFault::TooManyEntries { entries })
     }
 }
 
@@ -147,8 +144,7 @@ fn model_in(alloc: Global, document: &Table) -> Result<Model, ModelFault>
     let sigmas = sigmas_of(alloc, document)?;
     weights(&sigmas)?;
     window(horizon, numbers.puck.radius, numbers.closing.least)?;
-    let grid = grid_of(horizon, axes, &advised);
-    few_entries(&grid)?;
+    let grid = grid_of(horizon, axes, &advised)?;
     Ok(Model::new(grid, numbers, advised.advisories, advised.choices, sigmas))
 }
 
