@@ -69,18 +69,6 @@ at_first half v k b h x w m sb ends em over = at_time half (border_of v k b 0 h 
 
 -- a curve that does not rise, at the two ends
 module _ (half : ℕ) (v k : ℤ) (b : ℕ) (h x : ℤ) (w : Times) (m n : ℕ) (o : k ≤ℤ v) (sb : 0 < b) (ends : AreEnds w) (em : w.from.num ≡ pos m) (en : w.to.num ≡ pos n) where
-  abbrev first : Fraction
-  first = gap_at (border_of v k b 0 h x) w.from.den m
-
-  abbrev last : Fraction
-  last = gap_at (border_of v k b 0 h x) w.to.den n
-
-  some_first : 0 < w.from.den * w.from.den * b
-  some_first = mul-pos (mul-pos ends.from.some ends.from.some) sb
-
-  some_last : 0 < w.to.den * w.to.den * b
-  some_last = mul-pos (mul-pos ends.to.some ends.to.some) sb
-
   first_gap : IsGapAt (border_of v k b 0 h x) w.from (gap_at (border_of v k b 0 h x) w.from.den m)
   first_gap = IsGapAt-of (border_of v k b 0 h x) w.from (gap_at (border_of v k b 0 h x) w.from.den m) m em ends.from.some refl
 
@@ -90,6 +78,10 @@ module _ (half : ℕ) (v k : ℤ) (b : ℕ) (h x : ℤ) (w : Times) (m n : ℕ) 
   over_at_both : pos (half * (w.from.den * w.from.den * b)) <ℤ gap_number (border_of v k b 0 h x) w.from.den m →
       pos (half * (w.to.den * w.to.den * b)) <ℤ gap_number (border_of v k b 0 h x) w.to.den n → StaysOver half (border_of v k b 0 h x) w
   over_at_both i j =
+      let first = gap_at (border_of v k b 0 h x) w.from.den m in
+      let last = gap_at (border_of v k b 0 h x) w.to.den n in
+      let some_first = mul-pos (mul-pos ends.from.some ends.from.some) sb in
+      let some_last = mul-pos (mul-pos ends.to.some ends.to.some) sb in
       ⊎_elim
       (λ l. above half (border_of v k b 0 h x) w w.to last sb
       (last_least v k b h x w first last m n o sb em en ends.from.some ends.to.some some_first some_last first_gap last_gap ends.order l) j)

@@ -1,33 +1,36 @@
-use Rattle.std.proofs.Common.{◌≡◌, refl, neg_ℤ, to_z, of_z, arith}
+use Rattle.std.proofs.Common.{◌≡◌, refl, neg_ℤ, ℤ, ℕ, ◌≤◌, ◌<◌, ◌^◌, unsigned_abs, to_z, of_z, arith}
 use Rattle.std.specs.Int.{w64}
 use Rattle.std.proofs.lemmas.Int.{ints}
 use Rattle.acas_flight.proofs.Between.{test_ge}
 use Rattle.acas_region.proofs.borders.from_under.Goals as goal
 
+turned : (r x : ℤ) (n : ℕ) → r ≡ neg_ℤ (to_z w64 (of_z w64 x)) → unsigned_abs x ≤ n → n < 2 ^ 63 → (to_z w64 (of_z w64 r) ≡ neg_ℤ x) × (unsigned_abs (neg_ℤ x) ≤ n)
+turned r x n e h k = (omega (arith, ints), omega (arith, ints))
+
 pub invariant_of-result : goal.invariant_of-result
 invariant_of-result c =
-    let m1 : to_z w64 (of_z w64 c.minus.result) ≡ neg_ℤ c.args.area.now.v0.greatest = omega (arith, ints, c.minus.ensures.value, c.args.area.now.fits.own.greatest) in
-    let m2 : to_z w64 (of_z w64 c.minus-2.result) ≡ neg_ℤ c.args.asked.now.hi = omega (arith, ints, c.minus-2.ensures.value, c.args.asked.now.within.hi) in
-    let m3 : to_z w64 (of_z w64 c.minus-3.result) ≡ neg_ℤ c.args.area.now.h.least = omega (arith, ints, c.minus-3.ensures.value, c.args.area.now.fits.altitude.least) in
-    let m4 : to_z w64 (of_z w64 c.minus-4.result) ≡ neg_ℤ c.args.area.now.v1.least = omega (arith, ints, c.minus-4.ensures.value, c.args.area.now.fits.intruder.least) in
+    let m1 = turned _ c.args.area.now.v0.greatest _ c.minus.ensures.value c.args.area.now.fits.own.greatest (omega arith) in
+    let m2 = turned _ c.args.asked.now.hi _ c.minus-2.ensures.value c.args.asked.now.within.hi (omega arith) in
+    let m3 = turned _ c.args.area.now.h.least _ c.minus-3.ensures.value c.args.area.now.fits.altitude.least (omega arith) in
+    let m4 = turned _ c.args.area.now.v1.least _ c.minus-4.ensures.value c.args.area.now.fits.intruder.least (omega arith) in
     record {
-      fits = rw (m1, m2, m3, m4) (record {
-        start = omega (arith, ints, c.args.area.now.fits.own.greatest);
-        aim = omega (arith, ints, c.args.asked.now.within.hi);
+      fits = rw (m1.0, m2.0, m3.0, m4.0) (record {
+        start = m1.1;
+        aim = m2.1;
         some = omega (arith, c.args.asked.now.within.some, c.args.asked.now.within.pull);
         pull = c.args.asked.now.within.limit;
         hold = omega arith;
-        height = omega (arith, ints, c.args.area.now.fits.altitude.least);
-        rate = omega (arith, ints, c.args.area.now.fits.intruder.least);
+        height = m3.1;
+        rate = m4.1;
         at_once = λ h. refl;
       });
     }
 
 pub returns : goal.returns
 returns c =
-    let m1 : to_z w64 (of_z w64 c.minus.result) ≡ neg_ℤ c.args.area.now.v0.greatest = omega (arith, ints, c.minus.ensures.value, c.args.area.now.fits.own.greatest) in
-    let m2 : to_z w64 (of_z w64 c.minus-2.result) ≡ neg_ℤ c.args.asked.now.hi = omega (arith, ints, c.minus-2.ensures.value, c.args.asked.now.within.hi) in
-    let m3 : to_z w64 (of_z w64 c.minus-3.result) ≡ neg_ℤ c.args.area.now.h.least = omega (arith, ints, c.minus-3.ensures.value, c.args.area.now.fits.altitude.least) in
-    let m4 : to_z w64 (of_z w64 c.minus-4.result) ≡ neg_ℤ c.args.area.now.v1.least = omega (arith, ints, c.minus-4.ensures.value, c.args.area.now.fits.intruder.least) in
+    let m1 = turned _ c.args.area.now.v0.greatest _ c.minus.ensures.value c.args.area.now.fits.own.greatest (omega arith) in
+    let m2 = turned _ c.args.asked.now.hi _ c.minus-2.ensures.value c.args.asked.now.within.hi (omega arith) in
+    let m3 = turned _ c.args.area.now.h.least _ c.minus-3.ensures.value c.args.area.now.fits.altitude.least (omega arith) in
+    let m4 = turned _ c.args.area.now.v1.least _ c.minus-4.ensures.value c.args.area.now.fits.intruder.least (omega arith) in
     let test = test_ge c.args.asked.now.hi c.args.area.now.v0.greatest c.requires in
-    rw (m1, m2, m3, m4, test) refl
+    rw (m1.0, m2.0, m3.0, m4.0, test) refl

@@ -10,14 +10,9 @@ new-requires-clause-within c =
     let down : to_z w128 (of_z w128 c.den.result) ≡ pos c.args.value.now.den = omega (arith, ints, c.den.ensures.value, c.num.ensures.bounds.den_small) in
     rw (up, down) (opposite_reduces c.args.value.now c.num.ensures.bounds)
 
-pub returns-clause-num : goal.returns-clause-num
-returns-clause-num c =
+pub returns : goal.returns
+returns c =
     let up : to_z w128 (of_z w128 (pos 0 -ℤ to_z w128 (of_z w128 c.num.result))) ≡ neg_ℤ c.args.value.now.num = omega (arith, ints, c.num.ensures.value, c.num.ensures.bounds.num_small) in
     let down : to_z w128 (of_z w128 c.den.result) ≡ pos c.args.value.now.den = omega (arith, ints, c.den.ensures.value, c.num.ensures.bounds.den_small) in
-    (opposite c.new.result c.args.value.now c.new.ensures.lowest c.num.ensures.bounds (rw (down, up) at c.new.ensures.value)).0
-
-pub returns-clause-den : goal.returns-clause-den
-returns-clause-den c =
-    let up : to_z w128 (of_z w128 (pos 0 -ℤ to_z w128 (of_z w128 c.num.result))) ≡ neg_ℤ c.args.value.now.num = omega (arith, ints, c.num.ensures.value, c.num.ensures.bounds.num_small) in
-    let down : to_z w128 (of_z w128 c.den.result) ≡ pos c.args.value.now.den = omega (arith, ints, c.den.ensures.value, c.num.ensures.bounds.den_small) in
-    (opposite c.new.result c.args.value.now c.new.ensures.lowest c.num.ensures.bounds (rw (down, up) at c.new.ensures.value)).1
+    let same = opposite c.new.result c.args.value.now c.new.ensures.lowest c.num.ensures.bounds (rw (down, up) at c.new.ensures.value) in
+    record { num = same.0; den = same.1; lowest = c.new.ensures.lowest }
