@@ -1,5 +1,5 @@
 -- A table that is accepted or refused, from its header to its end.
-use Rattle.std.proofs.Common.{◌≡◌, ◌∙◌, ℕ, ◌+◌, ◌≤◌, List, Option, None, Some, Result, Ok, Err, refl, sym, subst, arith}
+use Rattle.std.proofs.Common.{◌≡◌, ◌∙◌, ℕ, ◌+◌, ◌-◌, ◌≤◌, List, Option, None, Some, Result, Ok, Err, refl, sym, subst, arith}
 use Rattle.std.specs.Prelude.{IfOk, IfSome}
 use Rattle.std.specs.FinMap.{get}
 use Rattle.acas_spec.specs.Limits.{IsModel}
@@ -11,6 +11,7 @@ use Rattle.acas_outside.specs.Counts.{raised}
 use Rattle.acas_outside.specs.Files.{Files, Given}
 use Rattle.acas_outside.specs.declared.folder.Folder.{Ghosts as FolderMeanings}
 use Rattle.acas_table.specs.Reader.{Starts, TakesAtMost, Told, reader_state}
+use Rattle.acas_table.specs.Source.{Takes}
 use Rattle.acas_table.specs.declared.reader.TableReader.{TableReader}
 use Rattle.acas_table_text.specs.Shape.{shape_of}
 use Rattle.acas_table_text_laws.proofs.FieldFaults.{advice_small}
@@ -21,9 +22,10 @@ use Rattle.acas_table_text.specs.declared.shape.TableShape.{TableShape}
 use Rattle.acas_table_text_laws.proofs.Twice.{each_entry_none}
 use Rattle.acas_table_text_laws.proofs.Texts.{text_given_small}
 use Rattle.acas_table.proofs.Told.{told_both, told_map}
-use Rattle.acas_accept.specs.Answers.{AreAllowed, AreWhole, Gives, HasAdvices, HasLayers}
+use Rattle.acas_accept.specs.Answers.{AreAllowed, AreWhole, Gives, HasAdvices, HasLayers, ReadsOnce}
 use Rattle.acas_accept.specs.Checking.{HasAccepted, HasNoRefusal, IsAnswer}
 use Rattle.acas_accept.specs.Keeping.{AreAdvicesBelow, AreAllowedBelow, AreLayersBelow}
+use Rattle.acas_accept.specs.Reading.{ReadsOn}
 use Rattle.acas_accept.specs.declared.check.TableCheck.{TableCheck}
 use Rattle.acas_accept.specs.declared.refusal.AcceptFault.{AcceptFault}
 use Rattle.acas_accept.specs.declared.refusal.AcceptFault.TheVariants.{Refused, Absent, Failed, Memory}
@@ -38,10 +40,11 @@ text_is_bytes m digest bytes v small whole =
 
 -- ---- what is answered of a file whose header was read
 
--- the check begins with the reader that has read it
-pub begins_with : (m : ModelData) (digest : List ℕ) (holds : Option Files) (name : List ℕ) (r : TableReader) (t : TableCheck) → t.reader ≡ r
-    → Given holds name (λ file. Starts digest (shape_of m.grid) file (Ok r)) → Given holds name (λ file. Starts digest (shape_of m.grid) file (Ok t.reader))
-begins_with m digest holds name r t same starts = subst (λ (s : TableReader). Given holds name (λ file. Starts digest (shape_of m.grid) file (Ok s))) (sym same) starts
+-- a reader has read the header
+pub record Begins {F : Type 0} (d : FolderMeanings F) (old new : F) (name : List ℕ) (m : ModelData) (digest : List ℕ) (r : TableReader) : Type 0 where
+  pub starts : Given (d.holds old) name (λ file. Starts digest (shape_of m.grid) file (Ok r))
+  pub shape : r.shape ≡ shape_of m.grid
+  pub taken : Takes d old new 0 (reader_state r).taken
 
 module _ {X : Type 0} (IsOf : List ℕ → X → Type 0) (m : ModelData) (digest : List ℕ) where
   fault_given : (bytes : List ℕ) (fault : AcceptFault) → IsAnswer m digest bytes fault → Gives IsOf m digest (Some bytes) (Err fault)
@@ -107,13 +110,34 @@ length_most : (f : Format) (s : TableShape) → length_of f s ≤ length_of Laye
 length_most Whole s = omega arith
 length_most Layered s = omega arith
 
--- what is at most read of a table in the format that was read
-pub at_most_read : {F : Type 0} (d : FolderMeanings F) (old new : F) (name : List ℕ) (m : ModelData) (digest : List ℕ) (t : TableCheck) (format : Format) → format ≡ (reader_state t.reader).format
-    → Given (d.holds old) name (λ file. Starts digest (shape_of m.grid) file (Ok t.reader)) → d.taken new ≤ raised (d.taken old) (length_of format (shape_of m.grid) + 1) → TakesAtMost d old new name (shape_of m.grid)
-at_most_read d old new name m digest t format same begins most = record {
-  most_taken = omega (arith, most, length_most format (shape_of m.grid));
-  most_of_file = file_expected (λ n. d.taken new ≤ raised (d.taken old) (n + 1)) m digest (d.holds old) name t format same begins most;
-}
+module _ {F X : Type 0} (d : FolderMeanings F) (old mid new last : F) (name : List ℕ) (m : ModelData) (digest : List ℕ) (t all : TableCheck) (result : Result X AcceptFault)
+    (begins : Begins d old mid name m digest t.reader) (reads : ReadsOn d mid new t all result) where
+  at_most_read : d.taken last ≤ raised (d.taken old) (length_of all.reader.format (shape_of m.grid) + 1) → TakesAtMost d old last name (shape_of m.grid)
+  at_most_read most = record {
+    most_taken = omega (arith, most, length_most all.reader.format (shape_of m.grid));
+    most_of_file = file_expected (λ n. d.taken last ≤ raised (d.taken old) (n + 1)) m digest (d.holds old) name t all.reader.format reads.format begins.starts most;
+  }
+
+  -- a fault behind the header
+  pub fault_read : {Y : Type 0} (fault : AcceptFault) → d.taken last ≤ raised (d.taken new) (length_of all.reader.format all.reader.shape + 1 - (reader_state all.reader).taken)
+      → ReadsOnce {X = Y} d old last name (shape_of m.grid) (Err fault)
+  fault_read fault most =
+      let so_far : d.taken last ≤ raised (d.taken old) (length_of all.reader.format all.reader.shape + 1) =
+      omega (arith, begins.taken.taken, reads.taken.later, reads.taken.taken, most, all.reader.limit, all.reader.source.limited) in
+      let of_shape = subst (λ (s : TableShape). d.taken last ≤ raised (d.taken old) (length_of all.reader.format s + 1)) (reads.shape ∙ begins.shape) so_far in
+      record { all_taken = tt; all_of_file = tt; at_most = at_most_read of_shape }
+
+  -- no fault
+  pub whole_read : {Y : Type 0} (given : Y) → Takes d new last (reader_state all.reader).taken (length_of all.reader.format all.reader.shape) → ReadsOnce d old last name (shape_of m.grid) (Ok given)
+  whole_read given rest =
+      let long =
+      subst (λ (s : TableShape). d.taken last ≡ raised (d.taken old) (length_of all.reader.format s)) (reads.shape ∙ begins.shape)
+      (omega (arith, begins.taken.taken, reads.taken.later, reads.taken.taken, rest.later, rest.taken)) in
+      record {
+        all_taken = (all.reader.format, long);
+        all_of_file = file_expected (λ n. d.taken last ≡ raised (d.taken old) n) m digest (d.holds old) name t all.reader.format reads.format begins.starts long;
+        at_most = at_most_read (omega (arith, long));
+      }
 
 -- ---- what is given
 

@@ -19,7 +19,7 @@ use Rattle.acas_spec.specs.declared.fault.BoundFault.{BoundFault}
 use Rattle.acas_bounds.proofs.Faults.{OfBelow-map}
 use Rattle.acas_table_text.specs.Faults.{entry_fault, first_below}
 use Rattle.acas_table.specs.Reader.{reader_state, Finishes, GivesEntry, HasRead}
-use Rattle.acas_table_text.specs.Shape.{shape_of}
+use Rattle.acas_table_text.specs.Shape.{entry_count, shape_of}
 use Rattle.acas_table_text.specs.Text.{entry_at}
 use Rattle.acas_table_text.specs.declared.fault.TableFault.{TableFault}
 use Rattle.acas_table_text.specs.declared.shape.TableShape.{TableShape}
@@ -225,6 +225,9 @@ check_next_layer m t n check = record {
 
 past_all : (m : ModelData) (digest : List ℕ) (t : TableCheck) (bytes : List ℕ) → IsCheckOf m t (m.grid.horizon + 1) 0 → HasAccepted m digest t (entries m.grid) bytes → IsPast m digest t.reader (entries m.grid) bytes
 past_all m digest t bytes check accepted = record { stands = accepted.stands; none = accepted.none; shape = check.shape; given = omega (arith, check.given) }
+
+pub all_given : (m : ModelData) (t : TableCheck) → IsCheckOf m t (m.grid.horizon + 1) 0 → t.reader.given ≡ entry_count t.reader.shape
+all_given m t check = subst (λ (s : TableShape). t.reader.given ≡ entry_count s) (sym check.shape) (omega (arith, check.given))
 
 pub end_answered : (X : Type 0) (m : ModelData) (digest : List ℕ) (t : TableCheck) (bytes : List ℕ) (fault : TableFault) (answer : AcceptFault) → answer ≡ answered fault → IsCheckOf m t (m.grid.horizon + 1) 0
     → HasAccepted m digest t (entries m.grid) bytes → Finishes {X = X} digest t.reader.shape bytes (Err fault) → IsAnswer m digest bytes answer

@@ -16,14 +16,13 @@ items-with v pairs long = take_at pairs (drop (length pairs) v.items) v.len (ome
 
 pub returns-then-n-gt0-clause-given : goal.returns-then-n-gt0-clause-given
 returns-then-n-gt0-clause-given g c = λ digest bytes before.
-    let m = c.args.model.now in
     let new : TableCheck =
     record { reader = c.args.self.now.reader; pairs = c.args.self.now.pairs; advice = c.args.self.now.advice; means = with_items c.args.self.now.means c.fill_means_with-size.new.means; leasts = c.forget.new.self } in
     let items : (with_items c.args.self.now.means c.fill_means_with-size.new.means).items ≡ c.fill_means_with-size.new.means =
     items-with c.args.self.now.means c.fill_means_with-size.new.means (c.fill_means_with-size.ensures.count ∙ sym c.requires.check.means) in
     let means : (t : Table) (k : ℕ) → AreValuesOf c.args.model.now t k c.args.self.now.pairs.items → AreMeansOf c.args.model.now t k c.fill_means_with-size.new.means =
     subst (λ (pairs : List Pair). (t : Table) (k : ℕ) → AreValuesOf c.args.model.now t k pairs → AreMeansOf c.args.model.now t k c.fill_means_with-size.new.means) c.deref.ensures.value c.fill_means_with-size.ensures.means in
-    in_layer_first m digest c.args.self.now new c.args.n bytes refl
+    in_layer_first c.args.model.now digest c.args.self.now new c.args.n bytes refl
     (subst (λ (pairs : List Pair). (t : Table) (k : ℕ) → AreValuesOf c.args.model.now t k c.args.self.now.pairs.items → AreMeansOf c.args.model.now t k pairs) (sym items) means) before
 
 pub returns-then-n-gt0-clause-check : goal.returns-then-n-gt0-clause-check

@@ -12,13 +12,11 @@ use Rattle.acas_accept.proofs.check.TableCheck.quick_entry.Goals as goal
 
 pub pass-requires-clause-more : goal.pass-requires-clause-more
 pass-requires-clause-more c =
-    let m = c.args.model.now in
-    let within : entry_place c.args.model.now.grid c.args.n c.args.state < entries c.args.model.now.grid = entry_place-below m.grid c.args.n c.args.state c.requires.n c.requires.state in
+    let within : entry_place c.args.model.now.grid c.args.n c.args.state < entries c.args.model.now.grid = entry_place-below c.args.model.now.grid c.args.n c.args.state c.requires.n c.requires.state in
     subst (λ (s : TableShape). c.args.self.now.reader.given < entry_count s) (sym c.requires.check.shape) (subst (λ (k : ℕ). k < entries c.args.model.now.grid) (sym c.requires.check.given) within)
 
 pub returns-clause-check : goal.returns-clause-check
 returns-clause-check c = λ yes.
-    let m = c.args.model.now in
     let state = c.pass.ensures.state in
     let on : IsOn c.args.self.now.reader c.pass.new.self =
     record {
@@ -29,17 +27,16 @@ returns-clause-check c = λ yes.
     } in
     let keeps : Keeps c.args.self.now c.pass.new.self c.keep.new.self c.args.state c.in-Some.entry =
     record { reader = c.keep.ensures.reader; means = c.keep.ensures.means; leasts = c.keep.ensures.leasts; pairs = c.keep.ensures.pairs; advice = c.keep.ensures.advice } in
-    check_next m c.args.self.now c.pass.new.self c.keep.new.self c.args.n c.args.state c.in-Some.entry c.requires.check c.requires.n c.requires.state on keeps
-    (λ some. allowed_at m c.args.plane.now.present c.args.vertex c.args.state c.in-Some.entry.advice c.requires.vertex c.requires.place (c.if-not-is_sound_at.ensures.allowed refl))
+    check_next c.args.model.now c.args.self.now c.pass.new.self c.keep.new.self c.args.n c.args.state c.in-Some.entry c.requires.check c.requires.n c.requires.state on keeps
+    (λ some. allowed_at c.args.model.now c.args.plane.now.present c.args.vertex c.args.state c.in-Some.entry.advice c.requires.vertex c.requires.place (c.if-not-is_sound_at.ensures.allowed refl))
 
 pub returns-clause-given : goal.returns-clause-given
 returns-clause-given c = λ yes digest bytes within.
-    let m = c.args.model.now in
     let old = c.args.self.now in
     let says : Says c.args.model.now c.args.self.now.means.items c.in-Some.entry c.args.n c.args.state None =
     subst (λ (means : List Pair). Says c.args.model.now means c.in-Some.entry c.args.n c.args.state None) c.deref.ensures.value
-    (says_at m c.deref.result.now c.in-Some.entry c.args.n c.args.plane.now.present c.args.vertex c.args.state None c.requires.vertex c.requires.place (λ t entry layer. (c.if-not-is_sound_at.ensures.value t c.args.n (c.requires.found c.if-not-found.false).some entry layer).0 refl)) in
+    (says_at c.args.model.now c.deref.result.now c.in-Some.entry c.args.n c.args.plane.now.present c.args.vertex c.args.state None c.requires.vertex c.requires.place (λ t entry layer. (c.if-not-is_sound_at.ensures.value t c.args.n (c.requires.found c.if-not-found.false).some entry layer).0 refl)) in
     let keeps : Keeps c.args.self.now c.pass.new.self c.keep.new.self c.args.state c.in-Some.entry =
     record { reader = c.keep.ensures.reader; means = c.keep.ensures.means; leasts = c.keep.ensures.leasts; pairs = c.keep.ensures.pairs; advice = c.keep.ensures.advice } in
-    in_layer_next m digest old c.pass.new.self c.keep.new.self c.args.n c.args.state bytes c.in-Some.entry c.requires.check c.requires.n c.requires.state within
+    in_layer_next c.args.model.now digest old c.pass.new.self c.keep.new.self c.args.n c.args.state bytes c.in-Some.entry c.requires.check c.requires.n c.requires.state within
     (c.pass.ensures.given c.in-Some.entry c.in-Some.ensures.at_hand digest bytes within.accepted.stands) (c.pass.ensures.stands digest bytes within.accepted.stands) says keeps
