@@ -2,7 +2,7 @@ use Rattle.std.proofs.Common.{◌≡◌, ◌∙◌, unsigned_abs, to_z, of_z, ar
 use Rattle.std.specs.Int.{w64, w128}
 use Rattle.std.proofs.lemmas.Int.{ints}
 use Rattle.acas_region_curves.proofs.Products.{held_small}
-use Rattle.acas_units.specs.declared.limits.TheConstants.{GREATEST_RATE, GREATEST_LIMIT, GREATEST_CLOSING, WINDOW_SECONDS}
+use Rattle.acas_units.specs.declared.limits.TheConstants.{GREATEST_RATE, GREATEST_CLOSING, WINDOW_SECONDS}
 use Rattle.acas_region.proofs.chase.climb_at.Goals as goal
 
 pub returns : goal.returns
