@@ -1,5 +1,6 @@
--- What commands that sweep have counted.
-use Rattle.std.proofs.Common.{◌≡◌, ℕ, ◌+◌, List, Option, subst}
+-- What commands that sweep have counted, and the cause that a `?` in one answers.
+use Rattle.std.proofs.Common.{◌≡◌, ℕ, ◌+◌, List, Option, Result, Err, IsErrAnd, subst, ◌∙◌, ap}
+use Rattle.std.proofs.lemmas.Result.{err_from_is_err_and}
 use Rattle.std.specs.FinMap.{get}
 use Rattle.acas_spec.specs.Model.{ModelData, entries}
 use Rattle.acas_outside.specs.Files.{Files, Given}
@@ -19,3 +20,6 @@ counts_sweep holds name digest m cause b b' t t' read counted turns = λ done.
 -- a command that ended as it looked at its files is not done
 pub counts_nothing : (holds : Option Files) (name : List ℕ) (cause : Cause) (b b' t t' : ℕ) → EndsLooking cause → CountsSweep name holds cause b b' t t'
 counts_nothing holds name cause b b' t t' looking = λ done. absurd (subst EndsLooking done looking)
+
+pub answered : {T : Type 0} {cause : Cause} (r : Result T Cause) → IsErrAnd r (λ e. e ≡ cause) → r ≡ Err cause
+answered r h = let p = err_from_is_err_and r h in p.1 ∙ ap (λ (e : Cause). Err e) p.2
