@@ -45,6 +45,10 @@ past m digest t n state bytes check accepted = record { stands = accepted.stands
 
 -- ---- an entry
 
+pub more_entries : (m : ModelData) (t : TableCheck) (n state : ℕ) → IsCheckOf m t n state → n ≤ m.grid.horizon → state < states m.grid → t.reader.given < entry_count t.reader.shape
+more_entries m t n state check seconds inside =
+    subst (λ (s : TableShape). t.reader.given < entry_count s) (sym check.shape) (subst (λ (k : ℕ). k < entries m.grid) (sym check.given) (entry_place-below m.grid n state seconds inside))
+
 -- what an entry that is given says of the bytes
 pub record Takes (m : ModelData) (entry : Entry) (n state : ℕ) (bytes : List ℕ) : Type 0 where
   pub is : entry ≡ entry_at (shape_of m.grid) bytes (entry_place m.grid n state)
@@ -208,18 +212,9 @@ row_next : (n width : ℕ) → n * width + width ≡ (n + 1) * width + 0
 row_next n width = omega arith
 
 pub check_next_layer : (m : ModelData) (t : TableCheck) (n : ℕ) → IsCheckOf m t n (states m.grid) → IsCheckOf m t (n + 1) 0
-check_next_layer m t n check = record {
-  valid = check.valid;
-  shape = check.shape;
-  given = check.given ∙ row_next n (states m.grid);
-  no_fault = check.no_fault;
-  not_done = check.not_done;
-  pairs = check.pairs;
-  advice = check.advice;
-  means = check.means;
-  leasts = check.leasts;
-  allowed = record { each = λ s some none. absurd (omega (arith, none)) };
-}
+check_next_layer m t n check =
+    let none : MayBeChosen m (n + 1) 0 t.advice.items = record { each = λ s some none. absurd (omega (arith, none)) } in
+    record { valid = check.valid; shape = check.shape; given = check.given ∙ row_next n (states m.grid); no_fault = check.no_fault; not_done = check.not_done; pairs = check.pairs; advice = check.advice; means = check.means; leasts = check.leasts; allowed = none }
 
 -- ---- what follows the entries
 

@@ -1,20 +1,13 @@
-use Rattle.std.proofs.Common.{◌<◌, ℕ, List, None, Some, Ok, Err, sym, subst, arith}
-use Rattle.acas_spec.specs.Model.{entries}
+use Rattle.std.proofs.Common.{List, None, Some, Ok, Err, subst, arith}
 use Rattle.acas_units.specs.declared.pair.Pair.{Pair}
 use Rattle.acas_table.specs.Reader.{reader_state, GivesEntry, HasRead}
-use Rattle.acas_table_text.specs.Shape.{entry_count}
-use Rattle.acas_table_text.specs.declared.shape.TableShape.{TableShape}
-use Rattle.acas_accept.specs.GivenTable.{entry_place}
-use Rattle.acas_accept.proofs.Places.{entry_place-below}
 use Rattle.acas_accept.proofs.Planes.{allowed_at, says_at}
-use Rattle.acas_accept.proofs.Steps.{IsOn, Keeps, Says, check_next, fault_answered, unsound_answered, in_layer_next}
+use Rattle.acas_accept.proofs.Steps.{IsOn, Keeps, Says, check_next, fault_answered, unsound_answered, in_layer_next, more_entries}
 use Rattle.acas_table.proofs.Told.{told_both, told_map}
 use Rattle.acas_accept.proofs.check.TableCheck.entry.Goals as goal
 
 pub entry-requires-clause-more : goal.entry-requires-clause-more
-entry-requires-clause-more g c =
-    let within : entry_place c.args.model.now.grid c.args.n c.args.state < entries c.args.model.now.grid = entry_place-below c.args.model.now.grid c.args.n c.args.state c.requires.at.seconds c.requires.at.inside in
-    subst (λ (s : TableShape). c.args.self.now.reader.given < entry_count s) (sym c.requires.check.shape) (subst (λ (k : ℕ). k < entries c.args.model.now.grid) (sym c.requires.check.given) within)
+entry-requires-clause-more g c = more_entries c.args.model.now c.args.self.now c.args.n c.args.state c.requires.check c.requires.at.seconds c.requires.at.inside
 
 pub returns-in-Err-clause-given : goal.returns-in-Err-clause-given
 returns-in-Err-clause-given g c = λ digest.

@@ -12,12 +12,11 @@ use Rattle.acas_accept.proofs.check.TableCheck.layer.Goals as goal
 
 pub loop-present-init : goal.loop-present-init
 loop-present-init g c =
-    let reader = c.begin_layer.ensures.reader in
     let none : state_number c.args.model.now.grid 0 0 ≡ 0 = omega arith in
     rw none (record {
       check = c.begin_layer.ensures.check;
       given = λ digest. told_all _ c.args.name.now _ (λ bytes before. c.begin_layer.ensures.given digest bytes before);
-      reads = stays g.F.Folder _ _ _ _ (ap (λ (r : TableReader). r.shape) reader) (ap (λ (r : TableReader). r.format) reader) (ap (λ (r : TableReader). (reader_state r).taken) reader);
+      reads = stays g.F.Folder _ _ _ _ (ap (λ (r : TableReader). r.shape) c.begin_layer.ensures.reader) (ap (λ (r : TableReader). r.format) c.begin_layer.ensures.reader) (ap (λ (r : TableReader). (reader_state r).taken) c.begin_layer.ensures.reader);
     })
 
 pub returns-in_err-plane : goal.returns-in_err-plane

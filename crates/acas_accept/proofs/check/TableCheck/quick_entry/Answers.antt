@@ -1,19 +1,12 @@
-use Rattle.std.proofs.Common.{◌<◌, ◌∙◌, ℕ, List, None, refl, sym, ap, subst}
-use Rattle.acas_spec.specs.Model.{entries}
+use Rattle.std.proofs.Common.{◌∙◌, List, None, refl, ap, subst}
 use Rattle.acas_units.specs.declared.pair.Pair.{Pair}
 use Rattle.acas_table.specs.Reader.{ReaderState}
-use Rattle.acas_table_text.specs.Shape.{entry_count}
-use Rattle.acas_table_text.specs.declared.shape.TableShape.{TableShape}
-use Rattle.acas_accept.specs.GivenTable.{entry_place}
-use Rattle.acas_accept.proofs.Places.{entry_place-below}
 use Rattle.acas_accept.proofs.Planes.{allowed_at, says_at}
-use Rattle.acas_accept.proofs.Steps.{IsOn, Keeps, Says, check_next, in_layer_next}
+use Rattle.acas_accept.proofs.Steps.{IsOn, Keeps, Says, check_next, in_layer_next, more_entries}
 use Rattle.acas_accept.proofs.check.TableCheck.quick_entry.Goals as goal
 
 pub pass-requires-clause-more : goal.pass-requires-clause-more
-pass-requires-clause-more c =
-    let within : entry_place c.args.model.now.grid c.args.n c.args.state < entries c.args.model.now.grid = entry_place-below c.args.model.now.grid c.args.n c.args.state c.requires.n c.requires.state in
-    subst (λ (s : TableShape). c.args.self.now.reader.given < entry_count s) (sym c.requires.check.shape) (subst (λ (k : ℕ). k < entries c.args.model.now.grid) (sym c.requires.check.given) within)
+pass-requires-clause-more c = more_entries c.args.model.now c.args.self.now c.args.n c.args.state c.requires.check c.requires.n c.requires.state
 
 pub returns-clause-check : goal.returns-clause-check
 returns-clause-check c = λ yes.
