@@ -21,11 +21,8 @@ pub int_min-small : (x y least : ℤ) (most : ℕ) → least ≡ int_min x y →
 int_min-small x y least most e h k = omega (arith, ints, clamps)
 
 -- a small number fits 64 bits, and so does its negation
-pub SFits-small : (x : ℤ) → unsigned_abs x ≤ 20_000 → SFits w64 x
-SFits-small x h = omega (arith, ints)
-
-pub SFits-neg_small : (x : ℤ) → unsigned_abs x ≤ 20_000 → SFits w64 (pos 0 -ℤ x)
-SFits-neg_small x h = omega (arith, ints)
+pub SFits-small : (x : ℤ) → unsigned_abs x ≤ 20_000 → SFits w64 x × SFits w64 (pos 0 -ℤ x)
+SFits-small x h = (omega (arith, ints), omega (arith, ints))
 
 -- above hi the rate falls
 pub command_above : (lo hi pull v fall r : ℤ) → lo ≤ℤ v → hi <ℤ v → fall ≡ int_min pull (v -ℤ hi) → r ≡ pos 0 -ℤ fall → r ≡ command lo hi pull v

@@ -31,12 +31,11 @@ term_is weight w v value term e f g = e ∙ ap (λ z. z *ℤ v) f ∙ ap (λ z. 
 pub overflow_add-sum : goal.overflow_add-sum
 overflow_add-sum g c =
     let m = c.args.model.now in
-    let q : ℕ = c.loop-sigma.sigma in
-    let below : q < length m.sigmas = omega (arith, c.loop-sigma-test.true, c.sigma_count-sigma-end.ensures.value) in
+    let below : c.loop-sigma.sigma < length m.sigmas = omega (arith, c.loop-sigma-test.true, c.sigma_count-sigma-end.ensures.value) in
     let w : SFits w128 c.sigma_weight.result = search rules in
     let t : SFits w128 c.weighted-sum.result = search rules in
-    let term = term_within (sigma_weight m q) c.sigma_weight.result c.weighted-sum.result c.sigma_weight.ensures.value (simp to_z-of_z at c.weighted-sum.ensures.high) (simp to_z-of_z at c.weighted-sum.ensures.low) in
-    simp to_z-of_z (mean_fits m.sigmas no_sigma q (to_z w128 c.loop-sigma.sum-bits) c.weighted-sum.result below c.loop-sigma.invariant.within term c.sigma_count-sigma-end.ensures.valid.weights)
+    let term = term_within (sigma_weight m c.loop-sigma.sigma) c.sigma_weight.result c.weighted-sum.result c.sigma_weight.ensures.value (simp to_z-of_z at c.weighted-sum.ensures.high) (simp to_z-of_z at c.weighted-sum.ensures.low) in
+    simp to_z-of_z (mean_fits m.sigmas no_sigma c.loop-sigma.sigma (to_z w128 c.loop-sigma.sum-bits) c.weighted-sum.result below c.loop-sigma.invariant.within term c.sigma_count-sigma-end.ensures.valid.weights)
 
 pub loop-sigma-preserved : goal.loop-sigma-preserved
 loop-sigma-preserved g c =
@@ -51,8 +50,7 @@ loop-sigma-preserved g c =
     let t : SFits w128 c.weighted-sum.result = search rules in
     let weight = c.sigma_weight.ensures.value in
     let term = term_within (sigma_weight m q) c.sigma_weight.result c.weighted-sum.result weight (simp to_z-of_z at c.weighted-sum.ensures.high) (simp to_z-of_z at c.weighted-sum.ensures.low) in
-    let p : SFits w128 (to_z w128 c.loop-sigma.sum-bits +ℤ c.weighted-sum.result) =
-    mean_fits m.sigmas no_sigma q (to_z w128 c.loop-sigma.sum-bits) c.weighted-sum.result below c.loop-sigma.invariant.within term c.sigma_count-sigma-end.ensures.valid.weights in
+    let p : SFits w128 (to_z w128 c.loop-sigma.sum-bits +ℤ c.weighted-sum.result) = simp to_z-of_z at (overflow_add-sum g c) in
     let is : c.weighted-sum.result ≡ f q =
     term_is (sigma_weight m q) c.sigma_weight.result c.interpolated-value.result (at (moved m x c.args.advisory q)) c.weighted-sum.result (simp to_z-of_z at c.weighted-sum.ensures.value) weight
     (c.interpolated-value.ensures (moved m x c.args.advisory q) c.corners_led_to-set.ensures.sums) in
