@@ -63,5 +63,13 @@ loop-present-preserved c =
 
 pub returns-clause-written : goal.returns-clause-written
 returns-clause-written c =
-    let g = c.args.model.now.grid in
-    λ s inside here. c.loop-present.invariant.written s (omega (arith, c.loop-present-test.false, c.advisory_count-present-end.ensures.value, state_present-below g s inside)) here
+    λ s inside here. c.loop-present.invariant.written s (omega (arith, c.loop-present-test.false, c.advisory_count-present-end.ensures.value, state_present-below c.args.model.now.grid s inside)) here
+
+pub with_cost-requires-clause-cost : goal.with_cost-requires-clause-cost
+with_cost-requires-clause-cost c =
+    let small = c.requires.step.costs.each c.from-in-loop-present.result c.from-in-loop-present-2.result (omega (arith, c.from-in-loop-present.ensures, c.loop-present-test.true, c.advisory_count-present-end.ensures.value)) (omega (arith, c.from-in-loop-present-2.ensures, c.given-advisory.ensures.known)) in
+    let fits : SFits w64 (second_cost c.args.step.now.costs.now c.from-in-loop-present.result c.from-in-loop-present-2.result) = search rules in
+    simp to_z-of_z small
+
+pub offset_bounds-above-state : goal.offset_bounds-above-state
+offset_bounds-above-state c = grind arith
