@@ -4,8 +4,8 @@ use Rattle.acas_step.proofs.Commands.{SFits-small, command_above, int_min-small}
 use Rattle.acas_step.proofs.second.command.Goals as goal
 use mir.Val.{SFits}
 
-pub returns-then-hi-v-clause-value : goal.returns-then-hi-v-clause-value
-returns-then-hi-v-clause-value c =
+pub returns-then-hi-v : goal.returns-then-hi-v
+returns-then-hi-v c =
     let p : SFits w64 c.args.pull = c.ranges.pull in
     let h : SFits w64 c.args.hi = c.ranges.hi in
     let v : SFits w64 c.args.v = c.ranges.v in
@@ -14,7 +14,7 @@ returns-then-hi-v-clause-value c =
     let small : unsigned_abs c.min-fall.result ≤ 20_000 = int_min-small c.args.pull (c.args.v -ℤ c.args.hi) c.min-fall.result 20_000 fall (omega (arith, c.requires.pull)) (omega (arith, ints, c.requires.rate, c.requires.hi)) in
     let f : SFits w64 c.min-fall.result = (SFits-small c.min-fall.result small).0 in
     let n : SFits w64 (pos 0 -ℤ c.min-fall.result) = (SFits-small c.min-fall.result small).1 in
-    command_above c.args.lo c.args.hi c.args.pull c.args.v c.min-fall.result _ (omega (arith, ints)) (omega (arith, ints)) fall (simp to_z-of_z)
+    record { value = command_above c.args.lo c.args.hi c.args.pull c.args.v c.min-fall.result _ (omega (arith, ints)) (omega (arith, ints)) fall (simp to_z-of_z); small = search rules }
 
 pub overflow_sub-lo : goal.overflow_sub-lo
 overflow_sub-lo c = search rules
