@@ -41,8 +41,8 @@ returns-then-value_at-le0-2-clause-down c =
 
 pub returns-then-self-le0-clause-above : goal.returns-then-self-le0-clause-above
 returns-then-self-le0-clause-above c =
-    let e = value_at-whole _ _ _ _ c.requires.during c.requires.during.first c.value_at.type_inv c.value_at.ensures in
-    let g = value_at-whole _ _ _ _ c.requires.during c.requires.during.last c.value_at-2.type_inv c.value_at-2.ensures in
+    let e = value_at-whole c.args.self.now c.args.during.now c.args.during.now.first _ c.requires.during c.requires.during.first c.value_at.type_inv c.value_at.ensures in
+    let g = value_at-whole c.args.self.now c.args.during.now c.args.during.now.last _ c.requires.during c.requires.during.last c.value_at-2.type_inv c.value_at-2.ensures in
     let opens = at_most _ (whole c.args.self.now.bend LARGEST_BEND c.requires.small.bend (omega arith)) c.if-self-le0.true in
     λ x. stays_above-concave _ _ c.requires.during.some opens (above _ e c.if-value_at-le0.false) (above _ g c.if-value_at-le0-2.false)
 
