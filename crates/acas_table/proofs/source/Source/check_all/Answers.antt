@@ -1,4 +1,5 @@
-use Rattle.std.proofs.Common.{◌≡◌, ◌<◌, length, Err, arith}
+use Rattle.std.proofs.Common.{◌≡◌, ◌<◌, length, Err, ◌∙◌, ap, arith}
+use Rattle.std.proofs.lemmas.Result.{err_from_is_err_and}
 use Rattle.std.proofs.lemmas.Grind.{common_steps}
 use Rattle.acas_table.proofs.Passed.{widths_next, widths_fit, next_given, blamed_given}
 use Rattle.acas_table.proofs.source.Source.check_all.Goals as goal
@@ -11,7 +12,8 @@ check-requires-clause-limit g c =
 pub returns-in_err-check-clause-given : goal.returns-in_err-check-clause-given
 returns-in_err-check-clause-given g c =
     let within : c.loop-field.field-index < length c.args.fields.now = omega arith in
-    let is : c.from_residual.result ≡ Err c.in_err-check.field-0.0 = grind (arith, common_steps) in
+    let p = err_from_is_err_and c.from_residual.result c.from_residual.ensures.1 in
+    let is : c.from_residual.result ≡ Err c.in_err-check.field-0.0 = p.1 ∙ ap Err p.2 in
     blamed_given _ _ c.args.name.now c.loop-field.field-index c.args.fields.now c.args.self.now c.loop-field.self c.check.new.self _ c.from_residual.result is within
     c.loop-field.invariant.frame.holds c.loop-field.invariant.steps c.loop-field.invariant.given c.in_err-check.ensures.given
 
