@@ -1,14 +1,12 @@
-use Rattle.std.proofs.Common.{List, ℕ, Option, ◌≡◌, ◌⊎◌, refl, subst, ◌∙◌, arith, rules}
+use Rattle.std.proofs.Common.{List, ℕ, Option, ◌≡◌, ◌⊎◌, refl, subst, ◌∙◌, arith}
 use Rattle.std.proofs.lemmas.Result.{err_from_is_err_and}
 use Rattle.std.specs.FinMap.{get}
-use Rattle.acas_outside.specs.Bytes.{Appends, AppendsPart}
-use Rattle.acas_outside.specs.Counts.{Rose}
 use Rattle.acas_outside.specs.Files.{Files, Stores, StoresPart}
 use Rattle.acas_outside.specs.Outside.{Outside, outside}
 use Rattle.acas_table_file.specs.Calls.{with_table}
 use Rattle.acas_command.specs.Called.{calls_for}
 use Rattle.acas_command.specs.Outcome.{stores}
-use Rattle.acas_command.proofs.Behind.{answers-behind, answers-done, answers-folder, answers-output, told-part, told-stored}
+use Rattle.acas_command.proofs.Behind.{answers-behind, answers-done, answers-folder, answers-output, told-kept, told-part, told-stored}
 use Rattle.acas_command.proofs.Files.{to-model}
 use Rattle.acas_check_commands.specs.Calls.{CallsForMigrate, migrate_of}
 use Rattle.acas_table_rows.specs.StoredLine.{migrated_line}
@@ -38,6 +36,12 @@ returns-in_err-layers-clause-answers g c =
     (to-model before.holds c.args.model.now digest m (λ files d n. rest_of_migrate (get files table) target d n) c.in_ok-found.ensures.ok)
     (c.in_err-layers.ensures.err (λ files. rest_of_table target digest m) _ _))
 
+pub returns-in_err-writer-clause-answers : goal.returns-in_err-writer-clause-answers
+returns-in_err-writer-clause-answers g c =
+    let p = err_from_is_err_and c.from_residual-in_err-writer.result c.from_residual-in_err-writer.ensures.1 in
+    let held = c.read_table_layers.ensures.frame.holds ∙ c.read_model_file.ensures.frame.holds in
+    rw (p.1, p.2) (record { has_cause = tt; quiet = refl {a = g.O.Sink.written c.args.out.now}; told = told-kept (g.F.Folder.holds c.args.folder.now) (g.F.Folder.holds c.read_table_layers.new.folder) held })
+
 pub returns-in-Err-clause-answers : goal.returns-in-Err-clause-answers
 returns-in-Err-clause-answers g c =
     let m = c.in_ok-found.found.model in
@@ -48,11 +52,10 @@ returns-in-Err-clause-answers g c =
     let text : List ℕ = layers_text digest m layers in
     let before : Outside = outside g.F.Folder g.O.Sink c.args.folder.now c.args.out.now in
     let after : Outside = outside g.F.Folder g.O.Sink c.store_layers.new.folder c.args.out.now in
-    let rose : Rose before.faults after.faults = search rules in
     let held = c.read_table_layers.ensures.frame.holds ∙ c.read_model_file.ensures.frame.holds in
     answers-folder (λ files. migrate_of (get files c.args.model.now) (get files table) target) (stores target text (migrated_line m.grid)) before after
     (called-migrate before.holds _ c.args.model.now table target digest m layers c.read_model_file.ensures.frame.holds c.in_ok-found.ensures.ok c.in_ok-layers.ensures.ok)
-    (told-part before.holds after.holds target text (subst (λ (h : Option Files). (after.holds ≡ h) ⊎ StoresPart h after.holds target text) held c.in-Err.ensures.err)) refl rose
+    (told-part before.holds after.holds target text (subst (λ (h : Option Files). (after.holds ≡ h) ⊎ StoresPart h after.holds target text) held c.in-Err.ensures.err)) refl (omega (arith, c.read_model_file.ensures.frame.faults, c.read_table_layers.ensures.frame.faults, c.in-Err.ensures.frame.fault refl))
 
 pub returns-in-Ok-print_stored_line-clause-answers : goal.returns-in-Ok-print_stored_line-clause-answers
 returns-in-Ok-print_stored_line-clause-answers g c =
@@ -64,11 +67,10 @@ returns-in-Ok-print_stored_line-clause-answers g c =
     let text : List ℕ = layers_text digest m layers in
     let before : Outside = outside g.F.Folder g.O.Sink c.args.folder.now c.args.out.now in
     let after : Outside = outside g.F.Folder g.O.Sink c.store_layers.new.folder c.print_stored_line.new.out in
-    let printed : Appends (g.O.Sink.written c.args.out.now) (g.O.Sink.written c.print_stored_line.new.out) (migrated_line m.grid) = search rules in
     let held = c.read_table_layers.ensures.frame.holds ∙ c.read_model_file.ensures.frame.holds in
     answers-done (λ files. migrate_of (get files c.args.model.now) (get files table) target) (stores target text (migrated_line m.grid)) before after
     (called-migrate before.holds _ c.args.model.now table target digest m layers c.read_model_file.ensures.frame.holds c.in_ok-found.ensures.ok c.in_ok-layers.ensures.ok) refl
-    (told-stored before.holds after.holds target text (subst (λ (h : Option Files). Stores h after.holds target text) held c.in-Ok.ensures.ok)) printed
+    (told-stored before.holds after.holds target text (subst (λ (h : Option Files). Stores h after.holds target text) held c.in-Ok.ensures.ok)) (rw c.grid.ensures.value at c.in-Ok-print_stored_line.ensures.ok)
 
 pub returns-clause-answers : goal.returns-clause-answers
 returns-clause-answers g c =
@@ -80,9 +82,10 @@ returns-clause-answers g c =
     let text : List ℕ = layers_text digest m layers in
     let before : Outside = outside g.F.Folder g.O.Sink c.args.folder.now c.args.out.now in
     let after : Outside = outside g.F.Folder g.O.Sink c.store_layers.new.folder c.print_stored_line.new.out in
-    let part : AppendsPart (g.O.Sink.written c.args.out.now) (g.O.Sink.written c.print_stored_line.new.out) (migrated_line m.grid) = search rules in
-    let rose : Rose before.output_faults after.output_faults = search rules in
     let held = c.read_table_layers.ensures.frame.holds ∙ c.read_model_file.ensures.frame.holds in
     answers-output (λ files. migrate_of (get files c.args.model.now) (get files table) target) (stores target text (migrated_line m.grid)) before after
     (called-migrate before.holds _ c.args.model.now table target digest m layers c.read_model_file.ensures.frame.holds c.in_ok-found.ensures.ok c.in_ok-layers.ensures.ok) tt
-    (told-stored before.holds after.holds target text (subst (λ (h : Option Files). Stores h after.holds target text) held c.in-Ok.ensures.ok)) part rose
+    (told-stored before.holds after.holds target text (subst (λ (h : Option Files). Stores h after.holds target text) held c.in-Ok.ensures.ok)) (rw c.grid.ensures.value at c.in-Err-print_stored_line.ensures.err) (c.in-Err-print_stored_line.ensures.frame.fault refl)
+
+pub print_stored_line-requires-clause-bytes : goal.print_stored_line-requires-clause-bytes
+print_stored_line-requires-clause-bytes g c = rw c.grid.ensures.value c.in-Ok.ensures.length
