@@ -41,14 +41,8 @@ fn top_keys(alloc: Global, document: &Table) -> Result<(), ModelFault>
 fn version_of(alloc: Global, document: &Table) -> Result<u32, ModelFault>
     ensures { Gives (λ n. n) result (rules.version_of (table_view document.now)) }
 {
-    number(
-        alloc,
-        document,
-        b"",
-        "version",
-        LEAST_MODEL_VERSION,
-        GREATEST_MODEL_VERSION,
-    )
+    let (least, greatest) = (LEAST_MODEL_VERSION, GREATEST_MODEL_VERSION);
+    number(alloc, document, b"", "version", least, greatest)
 }
 
 /// The horizon in seconds.
@@ -57,14 +51,8 @@ fn horizon_of(alloc: Global, document: &Table) -> Result<u32, ModelFault>
     ensures value { Gives (λ n. n) result (rules.horizon_of (table_view document.now)) }
     ensures range { IfOk result (λ n. n ≤ GREATEST_HORIZON) }
 {
-    number(
-        alloc,
-        document,
-        b"",
-        "horizon",
-        LEAST_HORIZON,
-        GREATEST_HORIZON,
-    )
+    let (least, greatest) = (LEAST_HORIZON, GREATEST_HORIZON);
+    number(alloc, document, b"", "horizon", least, greatest)
 }
 
 /// The way of some seconds at a closing speed, in ft.
