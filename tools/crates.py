@@ -6,11 +6,12 @@ import subprocess
 
 TOP = os.path.dirname(os.path.dirname(os.path.abspath(__file__)))
 PROGRAM = "acas"
-# What the proof of a crate takes, in tenths of a processor minute, by the merge gates of the afternoon of 30 November 2026; of the program,
-# its making too. The order of the crates goes by this, and how long the rest of a build takes is told by it.
+# What the proof of a crate takes, in tenths of a processor minute, by the merge gates of the afternoon of 30 November 2026, and of what was
+# made cheaper that evening by its gate, at the speed of the others; of the program, its making too. The order of the crates goes by this,
+# and how long the rest of a build takes is told by it.
 WEIGHTS = {
     "acas": 18,
-    "acas_accept": 32,
+    "acas_accept": 21,
     "acas_areas": 2,
     "acas_audit_blocks": 12,
     "acas_audit_commands": 6,
@@ -19,7 +20,7 @@ WEIGHTS = {
     "acas_box_commands": 11,
     "acas_boxes": 14,
     "acas_cells": 6,
-    "acas_check_commands": 13,
+    "acas_check_commands": 12,
     "acas_cli": 13,
     "acas_cli_words": 7,
     "acas_command": 18,
@@ -41,7 +42,7 @@ WEIGHTS = {
     "acas_means": 7,
     "acas_meeting_search": 12,
     "acas_meetings": 2,
-    "acas_model": 30,
+    "acas_model": 31,
     "acas_outside": 23,
     "acas_pass_laws": 3,
     "acas_passes": 3,
@@ -49,19 +50,19 @@ WEIGHTS = {
     "acas_policies": 2,
     "acas_process": 3,
     "acas_race": 12,
-    "acas_region": 23,
+    "acas_region": 15,
     "acas_region_curves": 9,
-    "acas_replay": 23,
+    "acas_replay": 15,
     "acas_report": 8,
     "acas_report_cells": 12,
     "acas_report_lines": 13,
-    "acas_risk": 18,
+    "acas_risk": 15,
     "acas_risk_commands": 7,
     "acas_rulings": 5,
     "acas_safeable": 16,
     "acas_safeable_commands": 7,
     "acas_spec": 3,
-    "acas_step": 20,
+    "acas_step": 19,
     "acas_step_choices": 14,
     "acas_step_columns": 17,
     "acas_step_narrow": 12,
