@@ -1,1 +1,2 @@
+mod FolderFrames
 mod NeverWords

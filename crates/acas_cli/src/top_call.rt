@@ -75,7 +75,7 @@ pub fn run<F: Folder, O: Sink, E: Sink>(
         report_words(err);
         return status_of(Cause::Words);
     };
-    let cause = answer(alloc, &command, folder, out, work);
+    let cause = answer(alloc, command, folder, out, work);
     report(words, &cause, err);
     status_of(cause)
 }
@@ -94,21 +94,21 @@ fn status_of(cause: Cause) -> Status
 // The answer to a command.
 fn answer<F: Folder, O: Sink>(
     alloc: Global,
-    command: &Command<'_>,
+    command: Command<'_>,
     folder: &mut F,
     out: &mut O,
     work: &mut Work,
 ) -> Cause
     requires served { All (λ name. IsTrue (F.serves folder.old name))
-        (names_of (form_of_command command.now)) }
-    requires number { HasNumber (form_of_command command.now) }
+        (names_of (form_of_command command)) }
+    requires number { HasNumber (form_of_command command) }
     requires counts { HasRoom work.old }
-    ensures answers { AnswersCall (form_of_command command.now) result
+    ensures answers { AnswersCall (form_of_command command.entry) result
         (outside F.Folder O.Sink folder.old out.old) (outside F.Folder O.Sink folder.new out.new) }
     ensures headline { IfSome (F.holds folder.old) (λ files.
-        IsWorth (form_of_command command.now) files result
+        IsWorth (form_of_command command.entry) files result
         (outside F.Folder O.Sink folder.old out.old) (outside F.Folder O.Sink folder.new out.new)) }
-    ensures work { CountsFor (form_of_command command.now) (F.holds folder.old) result work.old work.new }
+    ensures work { CountsFor (form_of_command command.entry) (F.holds folder.old) result work.old work.new }
     ensures rising { NoneFell work.old work.new }
     ensures folder { ReadsAndWrites F.Folder folder.old folder.new (result ≡ Cause.Folder) }
     ensures output { O.faults out.old ≤ O.faults out.new }
@@ -144,7 +144,7 @@ fn answer<F: Folder, O: Sink>(
             table,
             which,
         } => cause_of_report(audit::<StencilMeans, F, O>(
-            alloc, model, table, *which, folder, out, decisions,
+            alloc, model, table, which, folder, out, decisions,
         )),
         Command::Regions { model, boxes } => cause_of_report(regions(
             alloc, model, boxes, folder, out,
@@ -155,7 +155,7 @@ fn answer<F: Folder, O: Sink>(
             accel,
             rate,
         } => {
-            let may = manoeuvre_of(*accel, *rate);
+            let may = manoeuvre_of(accel, rate);
             cause_of_report(manoeuvre(alloc, model, boxes, &may, folder, out))
         }
         Command::Replay {
@@ -163,7 +163,7 @@ fn answer<F: Folder, O: Sink>(
             table,
             encounter,
         } => cause_of(replay::<StencilMeans, F, O>(alloc, model, table, encounter, folder, out)),
-        Command::Drill { number } => drill(alloc, *number, out).cause,
+        Command::Drill { number } => drill(alloc, number, out).cause,
     }
 }
 

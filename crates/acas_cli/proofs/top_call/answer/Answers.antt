@@ -1,4 +1,4 @@
-use Rattle.std.proofs.Common.{refl, subst}
+use Rattle.std.proofs.Common.{refl, arith, rules}
 use Rattle.acas_outside.specs.Outside.{Outside, outside}
 use Rattle.acas_command.specs.Answers.{Answers, ended, report_ended}
 use Rattle.acas_audit_commands.proofs.Worth.{audit-worth}
@@ -12,95 +12,143 @@ use Rattle.acas_safeable_commands.proofs.Worth.{safeable-worth}
 use Rattle.acas_check_commands.proofs.MigratedTables.{migrate-worth}
 use Rattle.acas_table_commands.proofs.Worth.{compile-worth, values-worth}
 use Rattle.acas_check_commands.proofs.Worth.{check-worth}
+use Rattle.acas_cli.proofs.FolderFrames.{folder-ended, folder-report_ended}
 use Rattle.acas_cli.proofs.top_call.answer.Goals as goal
 
-pub returns-in-Values-clause-headline : goal.returns-in-Values-clause-headline
-returns-in-Values-clause-headline g c =
-    let before : Outside = outside g.F.Folder g.O.Sink c.args.folder.now c.args.out.now in
-    let after : Outside = outside g.F.Folder g.O.Sink c.values.new.folder c.values.new.out in
-    rw (c.in-Values.is, c.cause_of.ensures) (values-worth c.in-Values.model.now (ended c.values.result) before after c.values.ensures.answers)
+pub returns-in-Values : goal.returns-in-Values
+returns-in-Values g c =
+    rw (c.in-Values.is, c.cause_of.ensures)
+    (record {
+      answers = c.values.ensures.answers;
+      headline = values-worth c.in-Values.model.now (ended c.values.result) _ _ c.values.ensures.answers;
+      work = record { sweep = c.values.ensures.work; decisions = refl };
+      rising = record { backups = c.values.ensures.rising; turned = c.values.ensures.rising_turned; decisions = omega arith };
+      folder = folder-ended g.F.Folder c.args.folder.now c.values.new.folder c.values.result c.values.ensures.folder;
+      output = c.values.ensures.output;
+    })
 
-pub returns-in-Compile-clause-headline : goal.returns-in-Compile-clause-headline
-returns-in-Compile-clause-headline g c =
-    let before : Outside = outside g.F.Folder g.O.Sink c.args.folder.now c.args.out.now in
-    let after : Outside = outside g.F.Folder g.O.Sink c.compile.new.folder c.compile.new.out in
+pub returns-in-Compile : goal.returns-in-Compile
+returns-in-Compile g c =
     rw (c.in-Compile.is, c.cause_of-in-Compile.ensures)
-    (compile-worth c.in-Compile.model.now c.in-Compile.table.now (ended c.compile.result) before after c.compile.ensures.answers)
+    (record {
+      answers = c.compile.ensures.answers;
+      headline = compile-worth c.in-Compile.model.now c.in-Compile.table.now (ended c.compile.result) _ _ c.compile.ensures.answers;
+      work = record { sweep = c.compile.ensures.work; decisions = refl };
+      rising = record { backups = c.compile.ensures.rising; turned = c.compile.ensures.rising_turned; decisions = omega arith };
+      folder = folder-ended g.F.Folder c.args.folder.now c.compile.new.folder c.compile.result c.compile.ensures.folder;
+      output = c.compile.ensures.output;
+    })
 
-pub returns-in-Check-clause-headline : goal.returns-in-Check-clause-headline
-returns-in-Check-clause-headline g c =
-    let before : Outside = outside g.F.Folder g.O.Sink c.args.folder.now c.args.out.now in
-    let after : Outside = outside g.F.Folder g.O.Sink c.check.new.folder c.check.new.out in
+pub returns-in-Migrate : goal.returns-in-Migrate
+returns-in-Migrate g c =
+    rw (c.in-Migrate.is, c.cause_of-in-Migrate.ensures)
+    (record {
+      answers = c.migrate.ensures.answers;
+      headline = migrate-worth c.in-Migrate.model.now c.in-Migrate.table.now c.in-Migrate.target.now (ended c.migrate.result) _ _ c.migrate.ensures.answers c.migrate.ensures.bytes;
+      work = refl;
+      rising = record { backups = omega arith; turned = omega arith; decisions = omega arith };
+      folder = folder-ended g.F.Folder c.args.folder.now c.migrate.new.folder c.migrate.result c.migrate.ensures.folder;
+      output = c.migrate.ensures.output;
+    })
+
+pub returns-in-Check : goal.returns-in-Check
+returns-in-Check g c =
     rw (c.in-Check.is, c.cause_of-in-Check.ensures)
-    (check-worth c.in-Check.model.now c.in-Check.table.now (ended c.check.result) before after c.check.ensures.answers c.check.ensures.bytes)
+    (record {
+      answers = c.check.ensures.answers;
+      headline = check-worth c.in-Check.model.now c.in-Check.table.now (ended c.check.result) _ _ c.check.ensures.answers c.check.ensures.bytes;
+      work = refl;
+      rising = record { backups = omega arith; turned = omega arith; decisions = omega arith };
+      folder = folder-ended g.F.Folder c.args.folder.now c.check.new.folder c.check.result c.check.ensures.folder;
+      output = c.check.ensures.output;
+    })
 
-pub returns-in-Risk-clause-headline : goal.returns-in-Risk-clause-headline
-returns-in-Risk-clause-headline g c =
-    let before : Outside = outside g.F.Folder g.O.Sink c.args.folder.now c.args.out.now in
-    let after : Outside = outside g.F.Folder g.O.Sink c.risk.new.folder c.risk.new.out in
+pub returns-in-Risk : goal.returns-in-Risk
+returns-in-Risk g c =
     rw (c.in-Risk.is, c.cause_of-in-Risk.ensures)
-    (risk-worth c.in-Risk.model.now c.in-Risk.table.now (ended c.risk.result) before after c.risk.ensures.answers c.risk.ensures.bytes)
+    (record {
+      answers = c.risk.ensures.answers;
+      headline = risk-worth c.in-Risk.model.now c.in-Risk.table.now (ended c.risk.result) _ _ c.risk.ensures.answers c.risk.ensures.bytes;
+      work = refl;
+      rising = record { backups = omega arith; turned = omega arith; decisions = omega arith };
+      folder = folder-ended g.F.Folder c.args.folder.now c.risk.new.folder c.risk.result c.risk.ensures.folder;
+      output = c.risk.ensures.output;
+    })
 
-pub returns-in-Audit-clause-headline : goal.returns-in-Audit-clause-headline
-returns-in-Audit-clause-headline g c =
-    let before : Outside = outside g.F.Folder g.O.Sink c.args.folder.now c.args.out.now in
-    let after : Outside = outside g.F.Folder g.O.Sink c.audit.new.folder c.audit.new.out in
+pub returns-in-Safeable : goal.returns-in-Safeable
+returns-in-Safeable g c =
+    rw (c.in-Safeable.is, c.cause_of_report.ensures)
+    (record {
+      answers = c.safeable.ensures.answers;
+      headline = safeable-worth c.in-Safeable.model.now c.in-Safeable.table.now (report_ended c.safeable.result) _ _ c.safeable.ensures.answers;
+      work = refl;
+      rising = record { backups = omega arith; turned = omega arith; decisions = omega arith };
+      folder = folder-report_ended g.F.Folder c.args.folder.now c.safeable.new.folder c.safeable.result c.safeable.ensures.folder;
+      output = c.safeable.ensures.output;
+    })
+
+pub returns-in-Audit : goal.returns-in-Audit
+returns-in-Audit g c =
     rw (c.in-Audit.is, c.cause_of_report-in-Audit.ensures)
-    (audit-worth c.in-Audit.model.now c.in-Audit.table.now c.in-Audit.which (report_ended c.audit.result) before after c.audit.ensures.answers)
+    (record {
+      answers = c.audit.ensures.answers;
+      headline = audit-worth c.in-Audit.model.now c.in-Audit.table.now c.in-Audit.which (report_ended c.audit.result) _ _ c.audit.ensures.answers;
+      work = record { audit = c.audit.ensures.work; backups = refl; turned = refl };
+      rising = record { backups = omega arith; turned = omega arith; decisions = c.audit.ensures.rising };
+      folder = folder-report_ended g.F.Folder c.args.folder.now c.audit.new.folder c.audit.result c.audit.ensures.folder;
+      output = c.audit.ensures.output;
+    })
 
-pub returns-in-Regions-clause-headline : goal.returns-in-Regions-clause-headline
-returns-in-Regions-clause-headline g c =
-    let before : Outside = outside g.F.Folder g.O.Sink c.args.folder.now c.args.out.now in
-    let after : Outside = outside g.F.Folder g.O.Sink c.regions.new.folder c.regions.new.out in
+pub returns-in-Regions : goal.returns-in-Regions
+returns-in-Regions g c =
     rw (c.in-Regions.is, c.cause_of_report-in-Regions.ensures)
-    (regions-worth c.in-Regions.model.now c.in-Regions.boxes.now (report_ended c.regions.result) before after c.regions.ensures.answers)
+    (record {
+      answers = c.regions.ensures.answers;
+      headline = regions-worth c.in-Regions.model.now c.in-Regions.boxes.now (report_ended c.regions.result) _ _ c.regions.ensures.answers;
+      work = refl;
+      rising = record { backups = omega arith; turned = omega arith; decisions = omega arith };
+      folder = folder-report_ended g.F.Folder c.args.folder.now c.regions.new.folder c.regions.result c.regions.ensures.folder;
+      output = c.regions.ensures.output;
+    })
 
-pub returns-in-Manoeuvre-clause-headline : goal.returns-in-Manoeuvre-clause-headline
-returns-in-Manoeuvre-clause-headline g c =
-    let before : Outside = outside g.F.Folder g.O.Sink c.args.folder.now c.args.out.now in
-    let after : Outside = outside g.F.Folder g.O.Sink c.manoeuvre.new.folder c.manoeuvre.new.out in
+pub returns-in-Manoeuvre : goal.returns-in-Manoeuvre
+returns-in-Manoeuvre g c =
     let model = c.in-Manoeuvre.model.now in
     let boxes = c.in-Manoeuvre.boxes.now in
+    let may : Manoeuvre = record { accel = c.in-Manoeuvre.accel; rate = c.in-Manoeuvre.rate } in
+    let answers = rw c.manoeuvre_of-may.ensures at c.manoeuvre.ensures.answers in
     rw (c.in-Manoeuvre.is, c.cause_of_report-in-Manoeuvre.ensures)
-    (manoeuvre-worth model boxes (record { accel = c.in-Manoeuvre.accel; rate = c.in-Manoeuvre.rate }) (report_ended c.manoeuvre.result) before after
-    (subst (λ (may : Manoeuvre). Answers (CallsForManoeuvre model boxes may) (report_ended c.manoeuvre.result) before after) c.manoeuvre_of-may.ensures c.manoeuvre.ensures.answers))
+    (record {
+      answers = answers;
+      headline = manoeuvre-worth model boxes may (report_ended c.manoeuvre.result) _ _ answers;
+      work = refl;
+      rising = record { backups = omega arith; turned = omega arith; decisions = omega arith };
+      folder = folder-report_ended g.F.Folder c.args.folder.now c.manoeuvre.new.folder c.manoeuvre.result c.manoeuvre.ensures.folder;
+      output = c.manoeuvre.ensures.output;
+    })
 
-pub returns-in-Manoeuvre-clause-answers : goal.returns-in-Manoeuvre-clause-answers
-returns-in-Manoeuvre-clause-answers g c =
-    let before : Outside = outside g.F.Folder g.O.Sink c.args.folder.now c.args.out.now in
-    let after : Outside = outside g.F.Folder g.O.Sink c.manoeuvre.new.folder c.manoeuvre.new.out in
-    rw (c.in-Manoeuvre.is, c.cause_of_report-in-Manoeuvre.ensures)
-    (subst (λ (may : Manoeuvre). Answers (CallsForManoeuvre c.in-Manoeuvre.model.now c.in-Manoeuvre.boxes.now may) (report_ended c.manoeuvre.result) before after)
-    c.manoeuvre_of-may.ensures c.manoeuvre.ensures.answers)
-
-pub returns-in-Safeable-clause-headline : goal.returns-in-Safeable-clause-headline
-returns-in-Safeable-clause-headline g c =
-    let before : Outside = outside g.F.Folder g.O.Sink c.args.folder.now c.args.out.now in
-    let after : Outside = outside g.F.Folder g.O.Sink c.safeable.new.folder c.safeable.new.out in
-    rw (c.in-Safeable.is, c.cause_of_report.ensures)
-    (safeable-worth c.in-Safeable.model.now c.in-Safeable.table.now (report_ended c.safeable.result) before after c.safeable.ensures.answers)
-
-pub returns-in-Replay-clause-headline : goal.returns-in-Replay-clause-headline
-returns-in-Replay-clause-headline g c =
-    let before : Outside = outside g.F.Folder g.O.Sink c.args.folder.now c.args.out.now in
-    let after : Outside = outside g.F.Folder g.O.Sink c.replay.new.folder c.replay.new.out in
+pub returns-in-Replay : goal.returns-in-Replay
+returns-in-Replay g c =
     rw (c.in-Replay.is, c.cause_of-in-Replay.ensures)
-    (replay-worth c.in-Replay.model.now c.in-Replay.table.now c.in-Replay.encounter.now (ended c.replay.result) before after c.replay.ensures.answers)
+    (record {
+      answers = c.replay.ensures.answers;
+      headline = replay-worth c.in-Replay.model.now c.in-Replay.table.now c.in-Replay.encounter.now (ended c.replay.result) _ _ c.replay.ensures.answers;
+      work = refl;
+      rising = record { backups = omega arith; turned = omega arith; decisions = omega arith };
+      folder = folder-ended g.F.Folder c.args.folder.now c.replay.new.folder c.replay.result c.replay.ensures.folder;
+      output = c.replay.ensures.output;
+    })
 
-pub returns-in-Migrate-clause-headline : goal.returns-in-Migrate-clause-headline
-returns-in-Migrate-clause-headline g c =
-    let before : Outside = outside g.F.Folder g.O.Sink c.args.folder.now c.args.out.now in
-    let after : Outside = outside g.F.Folder g.O.Sink c.migrate.new.folder c.migrate.new.out in
-    rw (c.in-Migrate.is, c.cause_of-in-Migrate.ensures)
-    (migrate-worth c.in-Migrate.model.now c.in-Migrate.table.now c.in-Migrate.target.now (ended c.migrate.result) before after c.migrate.ensures.answers c.migrate.ensures.bytes)
-
-pub returns-in-Drill-clause-headline : goal.returns-in-Drill-clause-headline
-returns-in-Drill-clause-headline g c =
-    let before : Outside = outside g.F.Folder g.O.Sink c.args.folder.now c.args.out.now in
-    rw c.in-Drill.is (c.drill.ensures.headline before)
-
-pub returns-in-Drill-clause-answers : goal.returns-in-Drill-clause-answers
-returns-in-Drill-clause-answers g c =
+pub returns-in-Drill : goal.returns-in-Drill
+returns-in-Drill g c =
     let before : Outside = outside g.F.Folder g.O.Sink c.args.folder.now c.args.out.now in
     let after : Outside = outside g.F.Folder g.O.Sink c.args.folder.now c.drill.new.out in
-    rw c.in-Drill.is (record { alone = refl {a = after}; answered = λ holds. c.drill.ensures.answers (record before { holds = holds }) })
+    rw c.in-Drill.is
+    (record {
+      answers = record { alone = refl {a = after}; answered = λ holds. c.drill.ensures.answers (record before { holds = holds }) };
+      headline = c.drill.ensures.headline before;
+      work = refl;
+      rising = record { backups = omega arith; turned = omega arith; decisions = omega arith };
+      folder = search rules;
+      output = c.drill.ensures.output;
+    })
