@@ -1,13 +1,15 @@
 //! The command `audit`.
-ghost use Rattle.std.specs.Prelude.{◌≤◌, ◌^◌, IsErrOf, IsTrue};
+ghost use Rattle.std.specs.Prelude.{◌≤◌, ◌^◌, ℕ, List, IsErrOf, IsTrue};
+ghost use Rattle.acas_outside.specs.Files.{Given};
 ghost use Rattle.acas_outside.specs.Frame.{ReadsAndWrites};
 ghost use Rattle.acas_outside.specs.Outside.{outside};
 ghost use Rattle.acas_command.specs.Answers.{Answers, report_ended};
+ghost use Rattle.acas_command.specs.ModelFile.{IsModelFile};
 ghost use Rattle.acas_audit_commands.specs.Calls.{CallsForAudit};
 ghost use Rattle.acas_audit_commands.specs.Decisions.{CountsAudit};
 
 use acas_audit_blocks::Decisions;
-use acas_command::{Cause, read_model_file};
+use acas_command::{Cause, ModelFile, read_model_file};
 use acas_means::LayerMeans;
 use acas_outside::{Folder, PrintFault, Sink};
 use acas_report::write_blocks;
@@ -39,7 +41,31 @@ pub fn audit<M: LayerMeans, F: Folder, O: Sink>(
     ensures rising { count.old ≤ count.new }
 {
     let found = read_model_file(alloc, model, folder)?;
-    let advices = read_table_file::<M, F>(alloc, &found, table, folder)?;
+    rule_on_cells::<M, F, O>(alloc, &found, table, folder, out, which, count)
+}
+
+// Rules on each advisory cell of a table, where the model is read, and prints the report.
+fn rule_on_cells<M: LayerMeans, F: Folder, O: Sink>(
+    alloc: Global,
+    found: &ModelFile,
+    table: &str,
+    folder: &mut F,
+    out: &mut O,
+    which: Which,
+    count: &mut Decisions,
+) -> Result<u64, Cause>
+    requires table { IsTrue (F.serves folder.old table.now) }
+    requires count { count.old ≤ 2 ^ 63 }
+    ensures answers { (model : List ℕ) → Given (F.holds folder.old) model (λ file. IsModelFile file found.now.digest found.now.model)
+        → Answers (CallsForAudit model table.now which) (report_ended result)
+        (outside F.Folder O.Sink folder.old out.old) (outside F.Folder O.Sink folder.new out.new) }
+    ensures folder { ReadsAndWrites F.Folder folder.old folder.new (IsErrOf result Cause.Folder) }
+    ensures output { O.faults out.old ≤ O.faults out.new }
+    ensures work { (model : List ℕ) → Given (F.holds folder.old) model (λ file. IsModelFile file found.now.digest found.now.model)
+        → CountsAudit model table.now (F.holds folder.old) (report_ended result) count.old count.new }
+    ensures rising { count.old ≤ count.new }
+{
+    let advices = read_table_file::<M, F>(alloc, found, table, folder)?;
     match write_blocks(alloc, &found.model, &advices, out, which, count) {
         Ok(counts) => Ok(counts.reported),
         Err(PrintFault::Sink) => Err(Cause::Output),

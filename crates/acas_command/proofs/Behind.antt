@@ -7,7 +7,7 @@ use Rattle.acas_outside.specs.Counts.{Rose, raised}
 use Rattle.acas_outside.specs.Files.{Files, Stores, StoresPart}
 use Rattle.acas_outside.specs.Outside.{Outside}
 use Rattle.acas_command.specs.Answers.{Agrees, Answers, EndsLooking, HasCause, IsQuiet, PrintsNothing}
-use Rattle.acas_command.specs.Called.{Called, MayPrint, MayStorePart, PrintsPart, calls_for}
+use Rattle.acas_command.specs.Called.{Called, MayPrint, MayStorePart, PrintsPart, calls_for, calls_for_report}
 use Rattle.acas_command.specs.Outcome.{Outcome, with_file}
 use Rattle.acas_command.proofs.Printing.{by_printing}
 use Rattle.acas_command.specs.declared.status.Cause.{Cause}
@@ -97,6 +97,45 @@ answers-behind called called' cause before mid after looks behind refers h =
       quiet = quiet-behind cause before mid after behind h.quiet;
       told = told-both before.holds _ _ _ (λ files to agrees. agrees-behind called called' files cause before mid after looks to agrees) refers told;
     }
+
+agrees-from : (called : Called) (files : Files) (cause : Cause) (before mid after : Outside) → IsBehind before mid → (called.prints files mid after → called.prints files before after)
+    → Agrees called files cause mid after → Agrees called files cause before after
+agrees-from called files Done before mid after behind prints h =
+    record { outcome = h.outcome; may = h.may; ends = h.ends; printed = subst (λ (w : Option (List ℕ)). Appends w after.written h.outcome.output) behind.written h.printed; stored = h.stored }
+agrees-from called files Reported before mid after behind prints h =
+    record { outcome = h.outcome; may = h.may; ends = h.ends; printed = subst (λ (w : Option (List ℕ)). Appends w after.written h.outcome.output) behind.written h.printed; stored = h.stored }
+agrees-from called files Words before mid after behind prints h = h
+agrees-from called files (Absent role) before mid after behind prints h = h
+agrees-from called files (Model fault) before mid after behind prints h = h
+agrees-from called files (Table refusal) before mid after behind prints h = h
+agrees-from called files (Input fault) before mid after behind prints h = h
+agrees-from called files Folder before mid after behind prints h = h
+agrees-from called files Output before mid after behind prints h = prints h
+agrees-from called files (TooLong role) before mid after behind prints h = h
+agrees-from called files Memory before mid after behind prints h = h
+
+-- The answers of a command from a moment at which nothing was stored or printed yet are its answers from the earlier one.
+pub answers-from : (called : Called) (cause : Cause) (before mid after : Outside) → IsBehind before mid
+    → ((files : Files) → called.prints files mid after → called.prints files before after) → Answers called cause mid after → Answers called cause before after
+answers-from called cause before mid after behind prints h =
+    let told : IfSome before.holds (λ files. Agrees called files cause mid after) =
+    subst (λ (o : Option Files). IfSome o (λ files. Agrees called files cause mid after)) behind.holds h.told in
+    record {
+      has_cause = has_cause-behind cause before mid after behind h.has_cause;
+      quiet = quiet-behind cause before mid after behind h.quiet;
+      told = told-map before.holds _ _ (λ files agrees. agrees-from called files cause before mid after behind (prints files) agrees) told;
+    }
+
+pub answers-from-report : (looks : Files → Outcome) (IsReport : Files → ℕ → List ℕ → Type 0) (IsBegun : Files → Option (List ℕ) → Option (List ℕ) → Type 0) (cause : Cause)
+    (before mid after : Outside) → IsBehind before mid → Answers (calls_for_report looks IsReport IsBegun) cause mid after → Answers (calls_for_report looks IsReport IsBegun) cause before after
+answers-from-report looks IsReport IsBegun cause before mid after behind h =
+    answers-from (calls_for_report looks IsReport IsBegun) cause before mid after behind
+    (λ files begins. record { begun = subst (λ (w : Option (List ℕ)). IsBegun files w after.written) behind.written begins.begun; kept = begins.kept }) h
+
+pub answers-from-one : (outcome_of : Files → Outcome) (cause : Cause) (before mid after : Outside) → IsBehind before mid → Answers (calls_for outcome_of) cause mid after → Answers (calls_for outcome_of) cause before after
+answers-from-one outcome_of cause before mid after behind h =
+    answers-from (calls_for outcome_of) cause before mid after behind
+    (λ files part. record { prints = part.prints; printed = subst (λ (w : Option (List ℕ)). AppendsPart w after.written (outcome_of files).output) behind.written part.printed; stored = part.stored }) h
 
 -- two commands that have the same outcome
 pub refers-same : (files : Files) (outcome_of outcome_of' : Files → Outcome) → outcome_of files ≡ outcome_of' files → Refers files (calls_for outcome_of) (calls_for outcome_of')

@@ -43,6 +43,8 @@ pub fn models_have_limits()
     ensures pull_past_limit { IsModel (record noisy { pull = 961 }) → ⊥ }
     ensures limit { IsModel (record noisy { limit = 2001 }) → ⊥ }
     ensures delay { IsModel (record noisy { delay = 11 }) → ⊥ }
+    ensures gain { IsModel (record noisy { contact = minus 1_000_000_001 }) → ⊥ }
+    ensures contact { IsModel (record noisy { contact = pos 1_000_000_001 }) → ⊥ }
     ensures no_radius { IsModel (record noisy { radius = 0 }) → ⊥ }
     ensures radius { IsModel (record noisy { radius = 5001 }) → ⊥ }
     ensures low { IsModel (record noisy { half = 119 }) → ⊥ }
@@ -51,8 +53,6 @@ pub fn models_have_limits()
     ensures closing_past_the_greatest { IsModel (record noisy { least_closing = 501 }) → ⊥ }
     ensures closing { IsModel (record noisy { greatest_closing = 5001 }) → ⊥ }
     ensures window { IsModel (record noisy { least_closing = 1 }) → ⊥ }
-    ensures gain { IsModel (record noisy { contact = minus 1_000_000_001 }) → ⊥ }
-    ensures contact { IsModel (record noisy { contact = pos 1_000_000_001 }) → ⊥ }
     ensures horizon { IsModel (record noisy { grid = record noisy.grid { horizon = 121 } }) → ⊥ }
     ensures advisory_names { IsModel (record noisy { advisories = clear ∷ clear ∷ [] }) → ⊥ }
     ensures no_sigma_points { IsModel (record noisy { sigmas = [] }) → ⊥ }

@@ -1,13 +1,14 @@
 //! The command `risk`.
-ghost use Rattle.std.specs.Prelude.{◌≡◌, ◌≤◌, IsErrOf, IsSomeAnd, IsTrue};
+ghost use Rattle.std.specs.Prelude.{◌≡◌, ◌≤◌, ℕ, List, IsErrOf, IsSomeAnd, IsTrue};
 ghost use Rattle.acas_outside.specs.Bytes.{IsBytes};
 ghost use Rattle.acas_outside.specs.Files.{Given};
 ghost use Rattle.acas_outside.specs.Frame.{ReadsAndWrites};
 ghost use Rattle.acas_outside.specs.Outside.{outside};
 ghost use Rattle.acas_command.specs.Answers.{Answers, ended};
+ghost use Rattle.acas_command.specs.ModelFile.{IsModelFile};
 ghost use Rattle.acas_risk_commands.specs.Calls.{CallsForRisk};
 
-use acas_command::{Cause, read_model_file};
+use acas_command::{Cause, ModelFile, read_model_file};
 use acas_means::LayerMeans;
 use acas_outside::{Folder, PrintFault, Sink};
 use acas_risk::write_risk;
@@ -34,7 +35,27 @@ pub fn risk<M: LayerMeans, F: Folder, O: Sink>(
     ensures output { O.faults out.old ≤ O.faults out.new }
 {
     let found = read_model_file(alloc, model, folder)?;
-    let advices = read_table_file::<M, F>(alloc, &found, table, folder)?;
+    print_risk::<M, F, O>(&found, table, alloc, folder, out)
+}
+
+// Prints the bounds of the chances and of the cost of a table, where the model is read.
+fn print_risk<M: LayerMeans, F: Folder, O: Sink>(
+    found: &ModelFile,
+    table: &str,
+    alloc: Global,
+    folder: &mut F,
+    out: &mut O,
+) -> Result<(), Cause>
+    requires table { IsTrue (F.serves folder.old table.now) }
+    ensures answers { (model : List ℕ) → Given (F.holds folder.old) model (λ file. IsModelFile file found.now.digest found.now.model)
+        → Answers (CallsForRisk model table.now) (ended result)
+        (outside F.Folder O.Sink folder.old out.old) (outside F.Folder O.Sink folder.new out.new) }
+    ensures bytes { ended result ≡ Cause.Done →
+        Given (F.holds folder.old) table.now (λ file. IsSomeAnd file IsBytes) }
+    ensures folder { ReadsAndWrites F.Folder folder.old folder.new (IsErrOf result Cause.Folder) }
+    ensures output { O.faults out.old ≤ O.faults out.new }
+{
+    let advices = read_table_file::<M, F>(alloc, found, table, folder)?;
     match write_risk::<M, O>(alloc, &found.model, &advices, out) {
         Ok(_) => Ok(()),
         Err(PrintFault::Sink) => Err(Cause::Output),

@@ -1,11 +1,13 @@
 //! The command `safeable`.
-ghost use Rattle.std.specs.Prelude.{◌≤◌, IsErrOf, IsTrue};
+ghost use Rattle.std.specs.Prelude.{◌≤◌, ℕ, List, IsErrOf, IsTrue};
+ghost use Rattle.acas_outside.specs.Files.{Given};
 ghost use Rattle.acas_outside.specs.Frame.{ReadsAndWrites};
 ghost use Rattle.acas_outside.specs.Outside.{outside};
 ghost use Rattle.acas_command.specs.Answers.{Answers, report_ended};
+ghost use Rattle.acas_command.specs.ModelFile.{IsModelFile};
 ghost use Rattle.acas_safeable_commands.specs.Calls.{CallsForSafeable};
 
-use acas_command::{Cause, read_model_file};
+use acas_command::{Cause, ModelFile, read_model_file};
 use acas_means::LayerMeans;
 use acas_outside::{Folder, PrintFault, Sink};
 use acas_safeable::write_safeable;
@@ -29,7 +31,25 @@ pub fn safeable<M: LayerMeans, F: Folder, O: Sink>(
     ensures output { O.faults out.old ≤ O.faults out.new }
 {
     let found = read_model_file(alloc, model, folder)?;
-    let advices = read_table_file::<M, F>(alloc, &found, table, folder)?;
+    print_safeable::<M, F, O>(&found, alloc, table, folder, out)
+}
+
+// Prints what keeps each clear cell of a table safe, where the model is read.
+fn print_safeable<M: LayerMeans, F: Folder, O: Sink>(
+    found: &ModelFile,
+    alloc: Global,
+    table: &str,
+    folder: &mut F,
+    out: &mut O,
+) -> Result<u64, Cause>
+    requires table { IsTrue (F.serves folder.old table.now) }
+    ensures answers { (model : List ℕ) → Given (F.holds folder.old) model (λ file. IsModelFile file found.now.digest found.now.model)
+        → Answers (CallsForSafeable model table.now) (report_ended result)
+        (outside F.Folder O.Sink folder.old out.old) (outside F.Folder O.Sink folder.new out.new) }
+    ensures folder { ReadsAndWrites F.Folder folder.old folder.new (IsErrOf result Cause.Folder) }
+    ensures output { O.faults out.old ≤ O.faults out.new }
+{
+    let advices = read_table_file::<M, F>(alloc, found, table, folder)?;
     match write_safeable(alloc, &found.model, &advices, out) {
         Ok(counts) => Ok(counts.unshown),
         Err(PrintFault::Sink) => Err(Cause::Output),

@@ -1,12 +1,16 @@
 //! The command `values`.
-ghost use Rattle.std.specs.Prelude.{◌≤◌, ◌^◌, IsErrOf, IsTrue};
+ghost use Rattle.std.specs.Prelude.{◌≡◌, ◌≢◌, ◌≤◌, ◌^◌, ◌+◌, ℕ, List, IsErrOf, IsTrue};
+ghost use Rattle.acas_spec.specs.Model.{entries};
+ghost use Rattle.acas_outside.specs.Files.{Given};
 ghost use Rattle.acas_outside.specs.Frame.{ReadsAndWrites};
-ghost use Rattle.acas_outside.specs.Outside.{outside};
+ghost use Rattle.acas_outside.specs.Outside.{Outside, outside};
+ghost use Rattle.acas_sweep.specs.Layers.{backup_count};
 ghost use Rattle.acas_command.specs.Answers.{Answers, ended};
+ghost use Rattle.acas_command.specs.ModelFile.{IsModelFile};
 ghost use Rattle.acas_table_commands.specs.Calls.{CallsForValues};
 ghost use Rattle.acas_table_commands.specs.Work.{CountsSweep};
 
-use acas_command::{Cause, read_model_file};
+use acas_command::{Cause, ModelFile, read_model_file};
 use acas_means::LayerMeans;
 use acas_outside::{Folder, Sink};
 use acas_plane::Turned;
@@ -39,6 +43,30 @@ pub fn values<M: LayerMeans, F: Folder, O: Sink>(
         turned.old turned.new }
 {
     let found = read_model_file(alloc, model, folder)?;
+    print_compiled::<M, O>(&found, alloc, out, backups, turned)
+}
+
+// Prints the compiled table of a model that is read, whatever is told of a folder beside the output.
+fn print_compiled<M: LayerMeans, O: Sink>(
+    found: &ModelFile,
+    alloc: Global,
+    out: &mut O,
+    backups: &mut Backups,
+    turned: &mut Turned,
+) -> Result<(), Cause>
+    requires backups { backups.old ≤ 2 ^ 63 }
+    requires turned { turned.old ≤ 2 ^ 63 }
+    ensures answers { (model : List ℕ) (folder : Outside) → Given folder.holds model (λ file. IsModelFile file found.now.digest found.now.model)
+        → Answers (CallsForValues model) (ended result)
+        (record folder { written = O.written out.old; output_faults = O.faults out.old })
+        (record folder { written = O.written out.new; output_faults = O.faults out.new }) }
+    ensures never { ended result ≢ Cause.Folder }
+    ensures output { O.faults out.old ≤ O.faults out.new }
+    ensures rising { backups.old ≤ backups.new }
+    ensures rising_turned { turned.old ≤ turned.new }
+    ensures counted { ended result ≡ Cause.Done → backups.new ≡ backups.old + backup_count found.now.model }
+    ensures turns { ended result ≡ Cause.Done → turned.new ≡ turned.old + entries found.now.model.grid }
+{
     let mut pen = Pen::make(alloc)?;
     let mut sweep = Sweep::<M>::make(alloc, &found.model)?;
     match print_table(&found.model, &mut sweep, &mut pen, out, backups, turned) {

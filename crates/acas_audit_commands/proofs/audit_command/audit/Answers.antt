@@ -1,16 +1,19 @@
-use Rattle.std.proofs.Common.{refl, ◌∙◌, inr, subst, arith, []}
+use Rattle.std.proofs.Common.{Option, refl, subst, sym, arith, []}
 use Rattle.std.specs.FinMap.{get}
 use Rattle.std.proofs.lemmas.Result.{err_from_is_err_and}
-use Rattle.acas_base.specs.Advices.{AreAdvices}
 use Rattle.acas_outside.specs.Outside.{Outside, outside}
 use Rattle.acas_command.specs.Called.{calls_for}
-use Rattle.acas_command.specs.Outcome.{prints, report_cause, reports}
-use Rattle.acas_command.proofs.Behind.{answers-behind, answers-printed, told-kept, told-map}
-use Rattle.acas_command.proofs.Reports.{answers-refer, may_print-report_cause, told-all}
+use Rattle.acas_command.specs.Outcome.{prints}
+use Rattle.acas_command.proofs.Behind.{answers-from-report}
+use Rattle.acas_command.proofs.Reports.{answers-refer, told-all}
 use Rattle.acas_table_file.specs.Calls.{with_table}
-use Rattle.acas_audit_commands.specs.Calls.{CallsForAudit, audit_looks_at}
+use Rattle.acas_audit_commands.specs.Calls.{CallsForAudit, IsAuditBegun, IsAuditText, audit_looks_at}
+use Rattle.acas_audit_commands.specs.Decisions.{CountsAudit}
 use Rattle.acas_audit_commands.proofs.Decisions.{counts-looking}
-use Rattle.acas_audit_commands.proofs.Files.{audit-behind_model, audit-refers, table-of}
+use Rattle.acas_audit_commands.proofs.Files.{audit-refers}
+use Rattle.acas_outside.specs.Files.{Files, Given}
+use Rattle.acas_command.specs.Answers.{report_ended}
+use Rattle.acas_command.specs.ModelFile.{IsModelFile}
 use Rattle.acas_audit_commands.proofs.audit_command.audit.Goals as goal
 
 pub returns-in_err-found-clause-answers : goal.returns-in_err-found-clause-answers
@@ -25,64 +28,30 @@ returns-in_err-found-clause-answers g c =
     (told-all before.holds _ (λ files. audit-refers model table c.args.which files (audit_looks_at model table) refl))
     (c.in_err-found.ensures.err (λ files digest m. with_table m digest (get files table) (λ bytes. prints [])) _ _))
 
-pub returns-in_err-advices-clause-answers : goal.returns-in_err-advices-clause-answers
-returns-in_err-advices-clause-answers g c =
-    let m = c.in_ok-found.found.model in
-    let digest = c.in_ok-found.found.digest in
-    let model = c.args.model.now in
-    let table = c.args.table.now in
-    let before : Outside = outside g.F.Folder g.O.Sink c.args.folder.now c.args.out.now in
-    let mid : Outside = outside g.F.Folder g.O.Sink c.read_model_file.new.folder c.args.out.now in
-    let after : Outside = outside g.F.Folder g.O.Sink c.read_table_file.new.folder c.args.out.now in
-    let frame = c.read_model_file.ensures.frame in
-    let p = err_from_is_err_and c.from_residual-in_err-advices.result c.from_residual-in_err-advices.ensures.1 in
-    rw (p.1, p.2)
-    (answers-behind (calls_for (λ files. with_table m digest (get files table) (λ bytes. prints []))) (CallsForAudit model table c.args.which) c.in_err-advices.field-0.0 before mid after
-    c.in_err-advices.ensures.refused
-    (record { holds = frame.holds; written = refl; misses = frame.misses; taken = frame.taken; faults = frame.faults; output_faults = omega arith })
-    (told-map before.holds _ _
-    (λ files is. audit-refers model table c.args.which files (λ fs. with_table m digest (get fs table) (λ bytes. prints [])) (audit-behind_model model table digest m files is))
-    c.in_ok-found.ensures.ok)
-    (c.in_err-advices.ensures.err (λ files bytes. prints []) _ _))
-
-pub returns-in-Ok-clause-answers : goal.returns-in-Ok-clause-answers
-returns-in-Ok-clause-answers g c =
-    let m = c.in_ok-found.found.model in
-    let digest = c.in_ok-found.found.digest in
-    let model = c.args.model.now in
-    let table = c.args.table.now in
-    let advices = c.in_ok-advices.advices in
-    let counts = c.in-Ok.counts in
-    let r = c.in-Ok.ensures.report in
-    let before : Outside = outside g.F.Folder g.O.Sink c.args.folder.now c.args.out.now in
-    let after : Outside = outside g.F.Folder g.O.Sink c.read_table_file.new.folder c.write_blocks.new.sink in
-    answers-printed (CallsForAudit model table c.args.which) (report_cause counts.reported) (reports counts.reported r.0) before after (may_print-report_cause counts.reported)
-    (told-map before.holds _ _ (λ files is. inr (record {
-      reported = counts.reported;
-      text = r.0;
-      report = record { m = m; advices = advices; advised = is; counts = counts; report = r.1; count = refl };
-      is = refl;
-    }))
-    (table-of model table digest m advices before.holds _ c.read_model_file.ensures.frame.holds c.in_ok-found.ensures.ok c.in_ok-advices.ensures.ok
-    c.in_ok-advices.ensures.advices (subst AreAdvices c.advices.view_is c.advices.invariant))) refl
-    (told-kept before.holds after.holds (c.read_table_file.ensures.frame.holds ∙ c.read_model_file.ensures.frame.holds)) r.2
-
 pub returns-in_err-found-clause-work : goal.returns-in_err-found-clause-work
 returns-in_err-found-clause-work g c =
     let p = err_from_is_err_and c.from_residual.result c.from_residual.ensures.1 in
     rw (p.1, p.2) (counts-looking c.args.model.now c.args.table.now (g.F.Folder.holds c.args.folder.now) c.in_err-found.field-0.0 _ _ c.in_err-found.ensures.refused)
 
-pub returns-in_err-advices-clause-work : goal.returns-in_err-advices-clause-work
-returns-in_err-advices-clause-work g c =
-    let p = err_from_is_err_and c.from_residual-in_err-advices.result c.from_residual-in_err-advices.ensures.1 in
-    rw (p.1, p.2) (counts-looking c.args.model.now c.args.table.now (g.F.Folder.holds c.args.folder.now) c.in_err-advices.field-0.0 _ _ c.in_err-advices.ensures.refused)
+pub returns-clause-answers : goal.returns-clause-answers
+returns-clause-answers g c =
+    let model = c.args.model.now in
+    let table = c.args.table.now in
+    let found = c.in_ok-found.found in
+    let before : Outside = outside g.F.Folder g.O.Sink c.args.folder.now c.args.out.now in
+    let mid : Outside = outside g.F.Folder g.O.Sink c.read_model_file.new.folder c.args.out.now in
+    let after : Outside = outside g.F.Folder g.O.Sink c.rule_on_cells.new.folder c.rule_on_cells.new.out in
+    let frame = c.read_model_file.ensures.frame in
+    let given : Given mid.holds model (λ file. IsModelFile file found.digest found.model) =
+    subst (λ (h : Option Files). Given h model (λ file. IsModelFile file found.digest found.model)) (sym frame.holds) c.in_ok-found.ensures.ok in
+    answers-from-report (audit_looks_at model table) (IsAuditText model table c.args.which) (IsAuditBegun model table c.args.which) (report_ended c.rule_on_cells.result) before mid after
+    (record { holds = frame.holds; written = refl; misses = frame.misses; taken = frame.taken; faults = frame.faults; output_faults = omega arith })
+    (c.rule_on_cells.ensures.answers model given)
 
-pub returns-in-Ok-clause-work : goal.returns-in-Ok-clause-work
-returns-in-Ok-clause-work g c may =
-    let m = c.in_ok-found.found.model in
-    let advices = c.in_ok-advices.advices in
-    let counted = c.in-Ok.ensures.decisions in
-    let holds = g.F.Folder.holds c.args.folder.now in
-    told-map holds _ _ (λ files is. record { m = m; advices = advices; advised = is; number = counted.0; decided = counted.1; raised = counted.2 })
-    (table-of c.args.model.now c.args.table.now c.in_ok-found.found.digest m advices holds _ c.read_model_file.ensures.frame.holds c.in_ok-found.ensures.ok c.in_ok-advices.ensures.ok
-    c.in_ok-advices.ensures.advices (subst AreAdvices c.advices.view_is c.advices.invariant))
+pub returns-clause-work : goal.returns-clause-work
+returns-clause-work g c =
+    let model = c.args.model.now in
+    let found = c.in_ok-found.found in
+    let held = sym c.read_model_file.ensures.frame.holds in
+    let given = subst (λ (h : Option Files). Given h model (λ file. IsModelFile file found.digest found.model)) held c.in_ok-found.ensures.ok in
+    subst (λ (h : Option Files). CountsAudit model c.args.table.now h (report_ended c.rule_on_cells.result) c.args.count.now c.rule_on_cells.new.count) (sym held) (c.rule_on_cells.ensures.work model given)

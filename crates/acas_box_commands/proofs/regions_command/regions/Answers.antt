@@ -1,20 +1,19 @@
-use Rattle.std.proofs.Common.{ℕ, List, refl, ◌∙◌, Option, inr, subst, sym, arith, []}
+use Rattle.std.proofs.Common.{refl, Option, subst, sym, arith, []}
 use Rattle.std.specs.FinMap.{get}
 use Rattle.std.proofs.lemmas.Result.{err_from_is_err_and}
 use Rattle.acas_outside.specs.Files.{Files, Given}
 use Rattle.acas_outside.specs.Outside.{Outside, outside}
+use Rattle.acas_command.specs.Answers.{report_ended}
 use Rattle.acas_command.specs.Called.{calls_for}
-use Rattle.acas_command.specs.Outcome.{prints, report_cause, reports}
-use Rattle.acas_command.proofs.Behind.{answers-behind, answers-printed, told-both, told-kept, told-map}
-use Rattle.acas_command.proofs.Reports.{answers-refer, may_print-report_cause, told-all}
+use Rattle.acas_command.specs.Outcome.{prints}
+use Rattle.acas_command.proofs.Behind.{answers-from-report}
+use Rattle.acas_command.proofs.Reports.{answers-refer, told-all}
 use Rattle.acas_boxes.specs.Whole.{boxes_of}
-use Rattle.acas_command.specs.Calls.{input_cause, with_input, with_input_file}
-use Rattle.acas_command.specs.InputFile.{IsInputFile}
-use Rattle.acas_command.specs.TextFile.{IsTextFile}
-use Rattle.acas_command.proofs.Inputs.{answers-input, ends-input}
+use Rattle.acas_command.specs.Calls.{with_input_file}
+use Rattle.acas_command.specs.ModelFile.{IsModelFile}
 use Rattle.acas_command.specs.declared.status.FileRole.TheVariants.{Boxes as BoxesFile}
-use Rattle.acas_box_commands.specs.RegionsCalls.{CallsForRegions, regions_looks_at}
-use Rattle.acas_box_commands.proofs.RegionsFiles.{regions-behind_model, regions-refers}
+use Rattle.acas_box_commands.specs.RegionsCalls.{CallsForRegions, IsRegionsBegun, IsRegionsText, regions_looks_at}
+use Rattle.acas_box_commands.proofs.RegionsFiles.{regions-refers}
 use Rattle.acas_box_commands.proofs.regions_command.regions.Goals as goal
 
 pub returns-in_err-found-clause-answers : goal.returns-in_err-found-clause-answers
@@ -29,87 +28,17 @@ returns-in_err-found-clause-answers g c =
     (told-all before.holds _ (λ files. regions-refers model boxes files (regions_looks_at model boxes) refl))
     (c.in_err-found.ensures.err (λ files digest m. with_input_file BoxesFile (boxes_of m) (get files boxes) (λ said. prints [])) _ _))
 
-pub returns-in_err-text-clause-answers : goal.returns-in_err-text-clause-answers
-returns-in_err-text-clause-answers g c =
-    let m = c.in_ok-found.found.model in
-    let digest = c.in_ok-found.found.digest in
+pub returns-clause-answers : goal.returns-clause-answers
+returns-clause-answers g c =
     let model = c.args.model.now in
     let boxes = c.args.boxes.now in
+    let found = c.in_ok-found.found in
     let before : Outside = outside g.F.Folder g.O.Sink c.args.folder.now c.args.out.now in
     let mid : Outside = outside g.F.Folder g.O.Sink c.read_model_file.new.folder c.args.out.now in
-    let after : Outside = outside g.F.Folder g.O.Sink c.read_text_file.new.folder c.args.out.now in
+    let after : Outside = outside g.F.Folder g.O.Sink c.rule_on_boxes.new.folder c.rule_on_boxes.new.out in
     let frame = c.read_model_file.ensures.frame in
-    let p = err_from_is_err_and c.from_residual-in_err-text.result c.from_residual-in_err-text.ensures.1 in
-    rw (p.1, p.2)
-    (answers-behind (calls_for (λ files. with_input_file BoxesFile (boxes_of m) (get files boxes) (λ said. prints []))) (CallsForRegions model boxes) c.in_err-text.field-0.0 before mid after
-    c.in_err-text.ensures.refused
+    let given : Given mid.holds model (λ file. IsModelFile file found.digest found.model) =
+    subst (λ (h : Option Files). Given h model (λ file. IsModelFile file found.digest found.model)) (sym frame.holds) c.in_ok-found.ensures.ok in
+    answers-from-report (regions_looks_at model boxes) (IsRegionsText model boxes) (IsRegionsBegun model boxes) (report_ended c.rule_on_boxes.result) before mid after
     (record { holds = frame.holds; written = refl; misses = frame.misses; taken = frame.taken; faults = frame.faults; output_faults = omega arith })
-    (told-map before.holds _ _
-    (λ files is. regions-refers model boxes files (λ fs. with_input_file BoxesFile (boxes_of m) (get fs boxes) (λ said. prints [])) (regions-behind_model model boxes digest m files is))
-    c.in_ok-found.ensures.ok)
-    (c.in_err-text.ensures.err (λ files bytes. with_input (boxes_of m bytes) (λ said. prints [])) _ _))
-
-pub returns-in_err-said-clause-answers : goal.returns-in_err-said-clause-answers
-returns-in_err-said-clause-answers g c =
-    let m = c.in_ok-found.found.model in
-    let digest = c.in_ok-found.found.digest in
-    let model = c.args.model.now in
-    let boxes = c.args.boxes.now in
-    let bytes = c.deref.result.now in
-    let fault = c.in_err-said.field-0.0 in
-    let before : Outside = outside g.F.Folder g.O.Sink c.args.folder.now c.args.out.now in
-    let after : Outside = outside g.F.Folder g.O.Sink c.read_text_file.new.folder c.args.out.now in
-    let first = c.read_model_file.ensures.frame in
-    let second = c.read_text_file.ensures.frame in
-    let p = err_from_is_err_and c.from_residual-in_err-said.result c.from_residual-in_err-said.ensures.1 in
-    let given : Given after.holds boxes (λ file. IsTextFile file bytes) =
-    subst (λ (h : Option Files). Given h boxes (λ file. IsTextFile file bytes)) (sym second.holds)
-    (subst (λ (b : List ℕ). Given (g.F.Folder.holds c.read_model_file.new.folder) boxes (λ file. IsTextFile file b)) (sym c.deref.ensures.value) c.in_ok-text.ensures.ok) in
-    rw (p.1, p.2)
-    (answers-behind (calls_for (λ files. with_input_file BoxesFile (boxes_of m) (get files boxes) (λ said. prints []))) (CallsForRegions model boxes) (input_cause fault) before after after
-    (ends-input fault)
-    (record {
-      holds = second.holds ∙ first.holds;
-      written = refl;
-      misses = omega (arith, first.misses, second.misses);
-      taken = omega (arith, first.taken, second.taken);
-      faults = omega (arith, first.faults, second.faults);
-      output_faults = omega arith;
-    })
-    (told-map before.holds _ _
-    (λ files is. regions-refers model boxes files (λ fs. with_input_file BoxesFile (boxes_of m) (get fs boxes) (λ said. prints [])) (regions-behind_model model boxes digest m files is))
-    c.in_ok-found.ensures.ok)
-    (answers-input BoxesFile (boxes_of m) boxes bytes fault (λ said. prints []) after given c.in_err-said.ensures.value))
-
-pub returns-in-Ok-clause-answers : goal.returns-in-Ok-clause-answers
-returns-in-Ok-clause-answers g c =
-    let m = c.in_ok-found.found.model in
-    let digest = c.in_ok-found.found.digest in
-    let model = c.args.model.now in
-    let boxes = c.args.boxes.now in
-    let said = c.in_ok-said.said in
-    let counts = c.in-Ok.counts in
-    let r = c.in-Ok.ensures.report in
-    let before : Outside = outside g.F.Folder g.O.Sink c.args.folder.now c.args.out.now in
-    let after : Outside = outside g.F.Folder g.O.Sink c.read_text_file.new.folder c.write_regions.new.sink in
-    let bytes = c.deref.result.now in
-    let given : Given before.holds boxes (λ file. IsTextFile file bytes) =
-    subst (λ (h : Option Files). Given h boxes (λ file. IsTextFile file bytes)) c.read_model_file.ensures.frame.holds
-    (subst (λ (b : List ℕ). Given (g.F.Folder.holds c.read_model_file.new.folder) boxes (λ file. IsTextFile file b)) (sym c.deref.ensures.value) c.in_ok-text.ensures.ok) in
-    let read : Given before.holds boxes (λ file. IsInputFile (boxes_of m) file said) =
-    told-map before.holds _ _ (λ files text. record { bytes = bytes; text = text; is_read = c.in_ok-said.ensures.value }) given in
-    answers-printed (CallsForRegions model boxes) (report_cause counts.reported) (reports counts.reported r.0) before after (may_print-report_cause counts.reported)
-    (told-both before.holds _ _ _ (λ files is_model is_boxes. inr (record {
-      reported = counts.reported;
-      text = r.0;
-      report = record {
-        m = m;
-        said = said;
-        audited = record { digest = digest; model_file = is_model; boxes_file = is_boxes; fits = c.in_ok-said.ensures.fits };
-        counts = counts;
-        report = r.1;
-        count = refl;
-      };
-      is = refl;
-    })) c.in_ok-found.ensures.ok read) refl
-    (told-kept before.holds after.holds (c.read_text_file.ensures.frame.holds ∙ c.read_model_file.ensures.frame.holds)) r.2
+    (c.rule_on_boxes.ensures.answers model given)

@@ -1,20 +1,13 @@
-use Rattle.std.proofs.Common.{Option, refl, sym, subst, ◌∙◌, arith, rules}
+use Rattle.std.proofs.Common.{Option, refl, subst, sym, arith}
 use Rattle.std.specs.FinMap.{get}
 use Rattle.std.proofs.lemmas.Result.{err_from_is_err_and}
-use Rattle.acas_outside.specs.Bytes.{Appends, AppendsPart}
-use Rattle.acas_outside.specs.Counts.{Rose}
-use Rattle.acas_outside.specs.Files.{Files, Given}
 use Rattle.acas_outside.specs.Outside.{Outside, outside}
-use Rattle.acas_table_file.specs.AcceptedFile.{IsTableFile}
-use Rattle.acas_table_file.specs.Calls.{with_table}
-use Rattle.acas_command.specs.Called.{calls_for}
-use Rattle.acas_command.specs.Outcome.{Outcome, prints}
-use Rattle.acas_command.proofs.Behind.{answers-behind, answers-done, answers-output, told-both, told-kept}
-use Rattle.acas_command.proofs.Files.{called-model, to-model}
-use Rattle.acas_table_file.proofs.Files.{called-table}
-use Rattle.acas_check_commands.specs.AcceptedLine.{accepted_line}
-use Rattle.acas_check_commands.specs.Calls.{CallsForCheck, check_of}
-use Rattle.acas_check_commands.proofs.Worth.{line_of_check, rest_of_check}
+use Rattle.acas_command.proofs.Behind.{answers-from-one}
+use Rattle.acas_check_commands.specs.Calls.{check_of}
+use Rattle.acas_check_commands.proofs.Worth.{rest_of_check}
+use Rattle.acas_outside.specs.Files.{Files, Given}
+use Rattle.acas_command.specs.Answers.{ended}
+use Rattle.acas_command.specs.ModelFile.{IsModelFile}
 use Rattle.acas_check_commands.proofs.check_command.check.Goals as goal
 
 pub returns-in_err-found-clause-answers : goal.returns-in_err-found-clause-answers
@@ -22,56 +15,17 @@ returns-in_err-found-clause-answers g c =
     let p = err_from_is_err_and c.from_residual.result c.from_residual.ensures.1 in
     rw (p.1, p.2) (c.in_err-found.ensures.err (λ files digest m. rest_of_check (get files c.args.table.now) digest m) _ _)
 
-pub returns-in_err-read_table_file-clause-answers : goal.returns-in_err-read_table_file-clause-answers
-returns-in_err-read_table_file-clause-answers g c =
-    let m = c.in_ok-found.found.model in
-    let digest = c.in_ok-found.found.digest in
-    let table = c.args.table.now in
-    let before : Outside = outside g.F.Folder g.O.Sink c.args.folder.now c.args.out.now in
-    let mid : Outside = outside g.F.Folder g.O.Sink c.read_model_file.new.folder c.args.out.now in
-    let after : Outside = outside g.F.Folder g.O.Sink c.read_table_file.new.folder c.args.out.now in
-    let frame = c.read_model_file.ensures.frame in
-    let p = err_from_is_err_and c.from_residual-in_err-read_table_file.result c.from_residual-in_err-read_table_file.ensures.1 in
-    rw (p.1, p.2)
-    (answers-behind (calls_for (λ files. with_table m digest (get files table) (line_of_check m))) (CallsForCheck c.args.model.now table) c.in_err-read_table_file.field-0.0 before mid after
-    c.in_err-read_table_file.ensures.refused
-    (record { holds = frame.holds; written = refl; misses = frame.misses; taken = frame.taken; faults = frame.faults; output_faults = omega arith })
-    (to-model before.holds c.args.model.now digest m (λ files d n. rest_of_check (get files table) d n) c.in_ok-found.ensures.ok)
-    (c.in_err-read_table_file.ensures.err (λ files. line_of_check m) _ _))
-
-pub returns-in-Ok-clause-answers : goal.returns-in-Ok-clause-answers
-returns-in-Ok-clause-answers g c =
-    let m = c.in_ok-found.found.model in
-    let digest = c.in_ok-found.found.digest in
-    let table = c.args.table.now in
-    let o : Outcome = prints (accepted_line m.grid) in
-    let before : Outside = outside g.F.Folder g.O.Sink c.args.folder.now c.args.out.now in
-    let after : Outside = outside g.F.Folder g.O.Sink c.read_table_file.new.folder c.emit.new.sink in
-    let printed : Appends (g.O.Sink.written c.args.out.now) (g.O.Sink.written c.emit.new.sink) (accepted_line m.grid) = search rules in
-    let advices = c.in_ok-read_table_file.field-0 in
-    let accepted : Given before.holds table (λ file. IsTableFile m digest file advices) =
-    subst (λ (h : Option Files). Given h table (λ file. IsTableFile m digest file advices)) c.read_model_file.ensures.frame.holds c.in_ok-read_table_file.ensures.ok in
-    answers-done (λ files. check_of (get files c.args.model.now) (get files table)) o before after
-    (told-both before.holds _ _ _ (λ files a b. sym b ∙ a)
-    (called-model before.holds c.args.model.now digest m (λ files d n. rest_of_check (get files table) d n) c.in_ok-found.ensures.ok)
-    (called-table before.holds table digest m advices o accepted)) refl
-    (told-kept before.holds after.holds (c.read_table_file.ensures.frame.holds ∙ c.read_model_file.ensures.frame.holds)) printed
-
 pub returns-clause-answers : goal.returns-clause-answers
 returns-clause-answers g c =
-    let m = c.in_ok-found.found.model in
-    let digest = c.in_ok-found.found.digest in
+    let model = c.args.model.now in
     let table = c.args.table.now in
-    let o : Outcome = prints (accepted_line m.grid) in
+    let found = c.in_ok-found.found in
     let before : Outside = outside g.F.Folder g.O.Sink c.args.folder.now c.args.out.now in
-    let after : Outside = outside g.F.Folder g.O.Sink c.read_table_file.new.folder c.emit.new.sink in
-    let part : AppendsPart (g.O.Sink.written c.args.out.now) (g.O.Sink.written c.emit.new.sink) (accepted_line m.grid) = search rules in
-    let rose : Rose before.output_faults after.output_faults = search rules in
-    let advices = c.in_ok-read_table_file.field-0 in
-    let accepted : Given before.holds table (λ file. IsTableFile m digest file advices) =
-    subst (λ (h : Option Files). Given h table (λ file. IsTableFile m digest file advices)) c.read_model_file.ensures.frame.holds c.in_ok-read_table_file.ensures.ok in
-    answers-output (λ files. check_of (get files c.args.model.now) (get files table)) o before after
-    (told-both before.holds _ _ _ (λ files a b. sym b ∙ a)
-    (called-model before.holds c.args.model.now digest m (λ files d n. rest_of_check (get files table) d n) c.in_ok-found.ensures.ok)
-    (called-table before.holds table digest m advices o accepted)) tt
-    (told-kept before.holds after.holds (c.read_table_file.ensures.frame.holds ∙ c.read_model_file.ensures.frame.holds)) part rose
+    let mid : Outside = outside g.F.Folder g.O.Sink c.read_model_file.new.folder c.args.out.now in
+    let after : Outside = outside g.F.Folder g.O.Sink c.print_accepted.new.folder c.print_accepted.new.out in
+    let frame = c.read_model_file.ensures.frame in
+    let given : Given mid.holds model (λ file. IsModelFile file found.digest found.model) =
+    subst (λ (h : Option Files). Given h model (λ file. IsModelFile file found.digest found.model)) (sym frame.holds) c.in_ok-found.ensures.ok in
+    answers-from-one (λ files. check_of (get files model) (get files table)) (ended c.print_accepted.result) before mid after
+    (record { holds = frame.holds; written = refl; misses = frame.misses; taken = frame.taken; faults = frame.faults; output_faults = omega arith })
+    (c.print_accepted.ensures.answers model given)

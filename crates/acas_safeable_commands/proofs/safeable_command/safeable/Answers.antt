@@ -1,15 +1,17 @@
-use Rattle.std.proofs.Common.{refl, ◌∙◌, inr, subst, arith, []}
+use Rattle.std.proofs.Common.{Option, refl, subst, sym, arith, []}
 use Rattle.std.specs.FinMap.{get}
 use Rattle.std.proofs.lemmas.Result.{err_from_is_err_and}
-use Rattle.acas_base.specs.Advices.{AreAdvices}
 use Rattle.acas_outside.specs.Outside.{Outside, outside}
 use Rattle.acas_command.specs.Called.{calls_for}
-use Rattle.acas_command.specs.Outcome.{prints, report_cause, reports}
-use Rattle.acas_command.proofs.Behind.{answers-behind, answers-printed, told-kept, told-map}
-use Rattle.acas_command.proofs.Reports.{answers-refer, may_print-report_cause, told-all}
+use Rattle.acas_command.specs.Outcome.{prints}
+use Rattle.acas_command.proofs.Behind.{answers-from-report}
+use Rattle.acas_command.proofs.Reports.{answers-refer, told-all}
 use Rattle.acas_table_file.specs.Calls.{with_table}
-use Rattle.acas_safeable_commands.specs.Calls.{CallsForSafeable, safeable_looks_at}
-use Rattle.acas_safeable_commands.proofs.Files.{safeable-behind_model, safeable-refers, table-of}
+use Rattle.acas_safeable_commands.specs.Calls.{CallsForSafeable, IsSafeableText, IsSafeableTextBegun, safeable_looks_at}
+use Rattle.acas_safeable_commands.proofs.Files.{safeable-refers}
+use Rattle.acas_outside.specs.Files.{Files, Given}
+use Rattle.acas_command.specs.Answers.{report_ended}
+use Rattle.acas_command.specs.ModelFile.{IsModelFile}
 use Rattle.acas_safeable_commands.proofs.safeable_command.safeable.Goals as goal
 
 pub returns-in_err-found-clause-answers : goal.returns-in_err-found-clause-answers
@@ -24,44 +26,17 @@ returns-in_err-found-clause-answers g c =
     (told-all before.holds _ (λ files. safeable-refers model table files (safeable_looks_at model table) refl))
     (c.in_err-found.ensures.err (λ files digest m. with_table m digest (get files table) (λ bytes. prints [])) _ _))
 
-pub returns-in_err-advices-clause-answers : goal.returns-in_err-advices-clause-answers
-returns-in_err-advices-clause-answers g c =
-    let m = c.in_ok-found.found.model in
-    let digest = c.in_ok-found.found.digest in
+pub returns-clause-answers : goal.returns-clause-answers
+returns-clause-answers g c =
     let model = c.args.model.now in
     let table = c.args.table.now in
+    let found = c.in_ok-found.found in
     let before : Outside = outside g.F.Folder g.O.Sink c.args.folder.now c.args.out.now in
     let mid : Outside = outside g.F.Folder g.O.Sink c.read_model_file.new.folder c.args.out.now in
-    let after : Outside = outside g.F.Folder g.O.Sink c.read_table_file.new.folder c.args.out.now in
+    let after : Outside = outside g.F.Folder g.O.Sink c.print_safeable.new.folder c.print_safeable.new.out in
     let frame = c.read_model_file.ensures.frame in
-    let p = err_from_is_err_and c.from_residual-in_err-advices.result c.from_residual-in_err-advices.ensures.1 in
-    rw (p.1, p.2)
-    (answers-behind (calls_for (λ files. with_table m digest (get files table) (λ bytes. prints []))) (CallsForSafeable model table) c.in_err-advices.field-0.0 before mid after
-    c.in_err-advices.ensures.refused
+    let given : Given mid.holds model (λ file. IsModelFile file found.digest found.model) =
+    subst (λ (h : Option Files). Given h model (λ file. IsModelFile file found.digest found.model)) (sym frame.holds) c.in_ok-found.ensures.ok in
+    answers-from-report (safeable_looks_at model table) (IsSafeableText model table) (IsSafeableTextBegun model table) (report_ended c.print_safeable.result) before mid after
     (record { holds = frame.holds; written = refl; misses = frame.misses; taken = frame.taken; faults = frame.faults; output_faults = omega arith })
-    (told-map before.holds _ _
-    (λ files is. safeable-refers model table files (λ fs. with_table m digest (get fs table) (λ bytes. prints [])) (safeable-behind_model model table digest m files is))
-    c.in_ok-found.ensures.ok)
-    (c.in_err-advices.ensures.err (λ files bytes. prints []) _ _))
-
-pub returns-in-Ok-clause-answers : goal.returns-in-Ok-clause-answers
-returns-in-Ok-clause-answers g c =
-    let m = c.in_ok-found.found.model in
-    let digest = c.in_ok-found.found.digest in
-    let model = c.args.model.now in
-    let table = c.args.table.now in
-    let advices = c.in_ok-advices.advices in
-    let counts = c.in-Ok.counts in
-    let r = c.in-Ok.ensures.report in
-    let before : Outside = outside g.F.Folder g.O.Sink c.args.folder.now c.args.out.now in
-    let after : Outside = outside g.F.Folder g.O.Sink c.read_table_file.new.folder c.write_safeable.new.sink in
-    answers-printed (CallsForSafeable model table) (report_cause counts.unshown) (reports counts.unshown r.0) before after (may_print-report_cause counts.unshown)
-    (told-map before.holds _ _ (λ files is. inr (record {
-      reported = counts.unshown;
-      text = r.0;
-      report = record { m = m; advices = advices; advised = is; counts = counts; report = r.1; count = refl };
-      is = refl;
-    }))
-    (table-of model table digest m advices before.holds _ c.read_model_file.ensures.frame.holds c.in_ok-found.ensures.ok c.in_ok-advices.ensures.ok
-    c.in_ok-advices.ensures.advices (subst AreAdvices c.advices.view_is c.advices.invariant))) refl
-    (told-kept before.holds after.holds (c.read_table_file.ensures.frame.holds ∙ c.read_model_file.ensures.frame.holds)) r.2
+    (c.print_safeable.ensures.answers model given)

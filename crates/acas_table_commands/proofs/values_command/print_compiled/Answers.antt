@@ -1,0 +1,39 @@
+use Rattle.std.proofs.Common.{refl}
+use Rattle.std.specs.FinMap.{get}
+use Rattle.acas_outside.specs.Outside.{Outside}
+use Rattle.acas_command.specs.Outcome.{prints}
+use Rattle.acas_command.proofs.Behind.{answers-done, answers-output, told-kept}
+use Rattle.acas_command.proofs.Files.{called-model}
+use Rattle.acas_table_commands.specs.Calls.{values_of}
+use Rattle.acas_table_lines.specs.ValuesText.{values_text}
+use Rattle.acas_table_commands.proofs.Swept.{answered}
+use Rattle.acas_table_commands.proofs.Worth.{rest_of_values}
+use Rattle.acas_table_commands.proofs.values_command.print_compiled.Goals as goal
+
+pub returns-in-Ok-clause-answers : goal.returns-in-Ok-clause-answers
+returns-in-Ok-clause-answers g c model folder told =
+    let m = c.args.found.now.model in
+    let before : Outside = record folder { written = g.O.Sink.written c.args.out.now; output_faults = g.O.Sink.faults c.args.out.now } in
+    let after : Outside = record folder { written = g.O.Sink.written c.print_table.new.out; output_faults = g.O.Sink.faults c.print_table.new.out } in
+    answers-done (λ files. values_of (get files model)) (prints (values_text m)) before after
+    (called-model folder.holds model c.args.found.now.digest m (λ files digest n. rest_of_values digest n) told) refl
+    (told-kept folder.holds folder.holds refl) c.in-Ok.ensures.ok
+
+pub returns-clause-answers : goal.returns-clause-answers
+returns-clause-answers g c model folder told =
+    let m = c.args.found.now.model in
+    let before : Outside = record folder { written = g.O.Sink.written c.args.out.now; output_faults = g.O.Sink.faults c.args.out.now } in
+    let after : Outside = record folder { written = g.O.Sink.written c.print_table.new.out; output_faults = g.O.Sink.faults c.print_table.new.out } in
+    answers-output (λ files. values_of (get files model)) (prints (values_text m)) before after
+    (called-model folder.holds model c.args.found.now.digest m (λ files digest n. rest_of_values digest n) told) tt
+    (told-kept folder.holds folder.holds refl) c.in-Err.ensures.err (c.in-Err.ensures.frame.fault refl)
+
+pub returns-in_err-pen-clause-answers : goal.returns-in_err-pen-clause-answers
+returns-in_err-pen-clause-answers g c model folder told =
+    rw (answered c.from_residual.result c.from_residual.ensures.1)
+    (record { has_cause = tt; quiet = refl {a = g.O.Sink.written c.args.out.now}; told = told-kept folder.holds folder.holds refl })
+
+pub returns-in_err-sweep-clause-answers : goal.returns-in_err-sweep-clause-answers
+returns-in_err-sweep-clause-answers g c model folder told =
+    rw (answered c.from_residual-in_err-sweep.result c.from_residual-in_err-sweep.ensures.1)
+    (record { has_cause = tt; quiet = refl {a = g.O.Sink.written c.args.out.now}; told = told-kept folder.holds folder.holds refl })
