@@ -14,13 +14,15 @@ use acas_grid::{Grid, Vertex, vertex_at};
 use acas_means::column_count;
 use acas_step::{cell_near, column_of_cell, led_past, moved_from};
 
-/// The number of the column at the lower corner of a cell, how far above that corner a point is on both rates, and how far a second
-/// leads up, in the units of the axes. It takes 16 bytes.
+/// Where a second leads from a pair of rates, in the units of the axes. It takes 16 bytes.
 #[derive(Clone, Copy)]
 pub(crate) struct ColumnStencil {
+    /// The number of the column at the lower corner of the cell.
     pub(crate) column: u32,
+    /// How far above that corner the point is, on the own rate and on the intruder's.
     pub(crate) v0: u32,
     pub(crate) v1: u32,
+    /// How far the second leads up.
     pub(crate) climb: i32,
 }
 
