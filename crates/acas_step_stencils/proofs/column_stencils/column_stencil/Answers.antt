@@ -1,5 +1,6 @@
-use Rattle.std.proofs.Common.{◌≡◌, ℤ, to_z, of_z, w32, w64, refl, ap, subst, ◌∙◌, arith}
+use Rattle.std.proofs.Common.{◌≡◌, ℤ, to_z, of_z, w32, w64, refl, ap, subst, ◌∙◌, arith, rules}
 use Rattle.std.proofs.lemmas.Int.{ints}
+use Rattle.std.proofs.lemmas.Grind.{common_steps}
 use Rattle.acas_spec.specs.Model.{GridData}
 use Rattle.acas_spec.specs.declared.place.Point.{Point}
 use Rattle.acas_spec.specs.declared.place.Vertex.{Vertex}
@@ -27,3 +28,21 @@ returns c =
     (omega (arith, ints, c.climb_from.ensures.small)) c.climb_from.ensures.small) in
     subst (λ (z : ℤ). IsColumnStencil m.grid ones (moved m (vertex_at m.grid c.args.column) a q) z s) (c.climb_from.ensures.value ∙ ap (λ (y : Vertex). climb_from m y a q) from)
     (subst (λ (p : Point). IsColumnStencil m.grid ones p rise s) (c.moved_from.ensures.value ∙ ap (λ (y : Vertex). moved m y a q) from) here)
+
+pub vertex_at-from-requires : goal.vertex_at-from-requires
+vertex_at-from-requires c = search rules
+
+pub moved_from-requires : goal.moved_from-requires
+moved_from-requires c = search rules
+
+pub cell_near-cell-requires : goal.cell_near-cell-requires
+cell_near-cell-requires c = search rules
+
+pub column_of_cell-requires : goal.column_of_cell-requires
+column_of_cell-requires c = search rules
+
+pub climb_from-requires : goal.climb_from-requires
+climb_from-requires c = search rules
+
+pub overflow_cast-result-3 : goal.overflow_cast-result-3
+overflow_cast-result-3 c = search rules

@@ -1,4 +1,4 @@
-use Rattle.std.proofs.Common.{refl, sym, subst, ◌∙◌, arith}
+use Rattle.std.proofs.Common.{refl, sym, subst, ◌∙◌, arith, rules}
 use Rattle.acas_spec.specs.Model.{GridData}
 use Rattle.acas_spec.specs.declared.place.Vertex.{Vertex}
 use Rattle.acas_step.specs.Sizes.{altitude_gap, rate_gap}
@@ -54,3 +54,15 @@ returns c =
       divisor = c.new.ensures.divisor;
       by = c.new.ensures.by ∙ c.product.ensures.value;
     }))
+
+pub new-requires : goal.new-requires
+new-requires c = search rules
+
+pub gap_in-h-requires : goal.gap_in-h-requires
+gap_in-h-requires c = search rules
+
+pub gap_in-v0-requires : goal.gap_in-v0-requires
+gap_in-v0-requires c = search rules
+
+pub gap_in-v1-requires : goal.gap_in-v1-requires
+gap_in-v1-requires c = search rules

@@ -1,5 +1,6 @@
 use Rattle.std.proofs.Common.{◌≡◌, ℕ, ◌*◌, ◌+◌, ◌/◌, ◌%◌, ◌<◌, length, ap, sym, subst, ◌∙◌, arith}
 use Rattle.std.proofs.lemmas.Nat.{div_below, div-add-mod', mod_below}
+use Rattle.std.proofs.lemmas.Grind.{common_steps}
 use Rattle.acas_spec.specs.Model.{GridData}
 use Rattle.acas_grid.specs.States.{vertex_at}
 use Rattle.acas_grid.proofs.Vertices.{some_width}
@@ -56,3 +57,9 @@ returns-clause-round c =
 
 pub returns-clause-fits : goal.returns-clause-fits
 returns-clause-fits c = subst (λ (g : GridData). FitsGrid g c.cell_of_stencil.result) c.grid-grid.ensures.value c.cell_of_stencil.ensures.fits
+
+pub nonzero_rem-key : goal.nonzero_rem-key
+nonzero_rem-key c = grind (arith, common_steps)
+
+pub nonzero_div-vertex : goal.nonzero_div-vertex
+nonzero_div-vertex c = grind (arith, common_steps)

@@ -1,7 +1,8 @@
-use Rattle.std.proofs.Common.{◌≡◌, ℕ, List, length, ap, sym, subst, ◌∙◌, arith}
+use Rattle.std.proofs.Common.{◌≡◌, ℕ, List, length, ap, sym, subst, ◌∙◌, arith, rules}
 use Rattle.std.specs.Vec.{with_items}
 use Rattle.std.proofs.lemmas.Int.{ints}
 use Rattle.std.proofs.lemmas.List.{with_items_is}
+use Rattle.std.proofs.lemmas.Grind.{common_steps}
 use Rattle.acas_spec.specs.Model.{GridData}
 use Rattle.acas_step_stencils.specs.Heights.{AreHeights, IsEvenGap}
 use Rattle.acas_step_stencils.specs.Stencils.{AreStencils, stencil_count}
@@ -27,3 +28,15 @@ returns c =
       total = c.new.ensures.divisor;
       by = omega (arith, ints, c.new.ensures.by, c.total_weight.ensures.value, c.total_weight.ensures.light);
     }
+
+pub even_gap-even-requires : goal.even_gap-even-requires
+even_gap-even-requires c = grind (arith, common_steps)
+
+pub new-requires : goal.new-requires
+new-requires c = grind (arith, common_steps)
+
+pub vertex_cells-requires : goal.vertex_cells-requires
+vertex_cells-requires c = grind (arith, common_steps)
+
+pub heights_of-requires : goal.heights_of-requires
+heights_of-requires c = search rules
