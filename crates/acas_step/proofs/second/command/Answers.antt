@@ -27,3 +27,6 @@ returns-then-v-lo c = search rules
 
 pub returns : goal.returns
 returns c = search rules
+
+pub overflow_sub-result : goal.overflow_sub-result
+overflow_sub-result c = search rules

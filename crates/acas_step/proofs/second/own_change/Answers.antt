@@ -1,5 +1,6 @@
 use Rattle.std.proofs.Common.{◌≡◌, to_z, of_z, w64, ◌+ℤ◌, ap, ◌∙◌, arith, rules}
 use Rattle.std.proofs.lemmas.Int.{ints, to_z-of_z}
+use Rattle.std.proofs.lemmas.Grind.{common_steps}
 use Rattle.acas_spec.specs.Model.{advisory_at}
 use Rattle.acas_spec.specs.declared.parts.Advisory.{Advisory}
 use Rattle.acas_process.specs.Step.{command}
@@ -20,3 +21,6 @@ returns-clause-value c =
     ((simp to_z-of_z at c.command.ensures.value)
     ∙ ap (λ (r : Advisory). command r.lo r.hi c.pull-pull.result c.args.v) e
     ∙ ap (λ z. command (advisory_at c.args.model.now c.args.advisory).lo (advisory_at c.args.model.now c.args.advisory).hi z c.args.v) c.pull-pull.ensures)
+
+pub command-requires : goal.command-requires
+command-requires c = grind (arith, common_steps)

@@ -1,5 +1,6 @@
 use Rattle.std.proofs.Common.{◌≡◌, ◌+◌, ◌-◌, ◌*◌, ◌^◌, ℕ, ℤ, pos, neg_ℤ, ◌*ℤ◌, ◌≤ℤ◌, w64, ap, sym, subst, ◌∙◌, arith, rules}
 use Rattle.std.proofs.lemmas.Int.{ints, to_z-of_z}
+use Rattle.std.proofs.lemmas.Grind.{common_steps}
 use Rattle.acas_spec.specs.Model.{GridData, vertices}
 use Rattle.acas_grid.specs.Grid.{vertex_number}
 use Rattle.acas_process.specs.Step.{grid_product, over_vertices, share}
@@ -52,3 +53,9 @@ returns g c = λ at interpolation.
     ∙ quotient_is g.R.Rounding.round g.met.R.Rounding.way (grid_product grid) c.args.set.now.total (corner_sum c.args.set.now.corners value)
     (over_vertices grid (λ y. pos (share grid at y) *ℤ value (vertex_number grid y)))
     (grid_product_pos grid c.grid.ensures.valid.grid) (omega (arith, ints, weights.positive)) (interpolation.sums value))
+
+pub first_state-first-requires : goal.first_state-first-requires
+first_state-first-requires g c = grind (arith, common_steps)
+
+pub weighted_sum-sum-requires : goal.weighted_sum-sum-requires
+weighted_sum-sum-requires g c = grind (arith, common_steps)

@@ -1,5 +1,6 @@
 use Rattle.std.proofs.Common.{◌≡◌, ◌^◌, ◌-◌, ◌≤◌, ◌<◌, ℕ, ℤ, pos, neg_ℤ, ◌+ℤ◌, ◌*ℤ◌, ◌≤ℤ◌, length, unsigned_abs, to_z, w64, ap, sym, subst, ◌∙◌, arith, rules}
 use Rattle.std.proofs.lemmas.Int.{ints, to_z-of_z}
+use Rattle.std.proofs.lemmas.Grind.{common_steps}
 use Rattle.acas_spec.specs.Model.{total_weight}
 use Rattle.acas_spec.specs.declared.place.Point.{Point}
 use Rattle.acas_spec.specs.declared.place.Vertex.{Vertex}
@@ -89,3 +90,15 @@ returns-clause-bounded g c = λ most within.
     (λ y inside.
     let known = state_number-below m.grid c.args.advisory y c.requires.advisory inside in
     within.bounded (state_number m.grid c.args.advisory (vertex_number m.grid y)) (omega (arith, known, c.requires.below))))
+
+pub corners_led_to-set-requires : goal.corners_led_to-set-requires
+corners_led_to-set-requires g c = grind (arith, common_steps)
+
+pub interpolated-value-requires : goal.interpolated-value-requires
+interpolated-value-requires g c = grind (arith, common_steps)
+
+pub sigma_weight-requires : goal.sigma_weight-requires
+sigma_weight-requires g c = grind (arith, common_steps)
+
+pub div-requires : goal.div-requires
+div-requires g c = grind (arith, common_steps)

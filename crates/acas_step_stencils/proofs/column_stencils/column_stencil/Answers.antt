@@ -38,11 +38,5 @@ moved_from-requires c = search rules
 pub cell_near-cell-requires : goal.cell_near-cell-requires
 cell_near-cell-requires c = search rules
 
-pub column_of_cell-requires : goal.column_of_cell-requires
-column_of_cell-requires c = search rules
-
 pub climb_from-requires : goal.climb_from-requires
 climb_from-requires c = search rules
-
-pub overflow_cast-result-3 : goal.overflow_cast-result-3
-overflow_cast-result-3 c = search rules

@@ -1,5 +1,4 @@
 use Rattle.std.proofs.Common.{◌≡◌, ◌<◌, length, refl, ap, sym, subst, ◌∙◌, arith}
-use Rattle.std.proofs.lemmas.Grind.{common_steps}
 use Rattle.acas_spec.specs.Model.{GridData, vertices}
 use Rattle.acas_spec.specs.declared.place.Point.{Point}
 use Rattle.acas_spec.specs.declared.place.Vertex.{Vertex}
@@ -67,12 +66,3 @@ returns-clause-cell c =
     subst (λ (d : Divisor). IsUnitCell g u x (record { cell = record { h = e.result; v0 = t.v0; v1 = t.v1 }; base = n; divisor = d })) above.3
     (cell_at_rates g u x s t n above.0 e.result c.grid-grid.ensures.valid.grid c.requires.stencil.usable.stencils.units is c.requires.rates (base_at_rates g u x s t is c.requires.rates) above.1
     place (e.ensures.lower ∙ sym above.2) e.ensures.upper)
-
-pub place_risen-at-requires-clause-stencil : goal.place_risen-at-requires-clause-stencil
-place_risen-at-requires-clause-stencil c = grind (arith, common_steps)
-
-pub vertex_in_column-base-requires : goal.vertex_in_column-base-requires
-vertex_in_column-base-requires c = grind (arith, common_steps)
-
-pub size_above-size-requires-clause-stencils : goal.size_above-size-requires-clause-stencils
-size_above-size-requires-clause-stencils c = grind (arith, common_steps)

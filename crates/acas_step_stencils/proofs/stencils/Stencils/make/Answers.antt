@@ -34,9 +34,3 @@ even_gap-even-requires c = grind (arith, common_steps)
 
 pub new-requires : goal.new-requires
 new-requires c = grind (arith, common_steps)
-
-pub vertex_cells-requires : goal.vertex_cells-requires
-vertex_cells-requires c = grind (arith, common_steps)
-
-pub heights_of-requires : goal.heights_of-requires
-heights_of-requires c = search rules
