@@ -13,12 +13,3 @@ returns-clause-round c =
 
 pub returns-clause-fits : goal.returns-clause-fits
 returns-clause-fits c = fits_grid c.args.grid.now c.args.point _ c.requires.grid (returns-clause-round c)
-
-pub ends_near-requires : goal.ends_near-requires
-ends_near-requires c = search rules
-
-pub ends_near-requires-2 : goal.ends_near-requires-2
-ends_near-requires-2 c = search rules
-
-pub ends_near-requires-3 : goal.ends_near-requires-3
-ends_near-requires-3 c = search rules

@@ -13,12 +13,3 @@ returns-clause-round c =
 
 pub returns-clause-fits : goal.returns-clause-fits
 returns-clause-fits c = fits_grid c.args.grid.now c.args.point _ c.requires.grid (returns-clause-round c)
-
-pub ends_of-requires : goal.ends_of-requires
-ends_of-requires c = search rules
-
-pub ends_of-requires-2 : goal.ends_of-requires-2
-ends_of-requires-2 c = search rules
-
-pub ends_of-requires-3 : goal.ends_of-requires-3
-ends_of-requires-3 c = search rules

@@ -29,9 +29,6 @@ returns c =
     subst (λ (z : ℤ). IsColumnStencil m.grid ones (moved m (vertex_at m.grid c.args.column) a q) z s) (c.climb_from.ensures.value ∙ ap (λ (y : Vertex). climb_from m y a q) from)
     (subst (λ (p : Point). IsColumnStencil m.grid ones p rise s) (c.moved_from.ensures.value ∙ ap (λ (y : Vertex). moved m y a q) from) here)
 
-pub vertex_at-from-requires : goal.vertex_at-from-requires
-vertex_at-from-requires c = search rules
-
 pub moved_from-requires : goal.moved_from-requires
 moved_from-requires c = search rules
 

@@ -25,11 +25,6 @@ nonzero_rem-row c = omega (arith, width c.args.model.now c.args.number c.column_
 pub nonzero_div-row-2 : goal.nonzero_div-row-2
 nonzero_div-row-2 c = nonzero_rem-row c
 
-pub overflow_cast-row : goal.overflow_cast-row
-overflow_cast-row c =
-    let known = advisory c.args.model.now c.args.number c.column_count-columns.result (length c.points.result.now) c.requires (c.column_count-columns.ensures ∙ ap columns c.grid.ensures.value) (ap length c.points.ensures) in
-    omega (arith, known, c.grid.ensures.valid.grid.few_advisories)
-
 pub column_stencil-requires-clause-column : goal.column_stencil-requires-clause-column
 column_stencil-requires-clause-column c =
     column c.args.model.now c.args.number c.column_count-columns.result (length c.points.result.now) c.requires (c.column_count-columns.ensures ∙ ap columns c.grid.ensures.value) (ap length c.points.ensures)
@@ -37,3 +32,6 @@ column_stencil-requires-clause-column c =
 pub column_stencil-requires-clause-advisory : goal.column_stencil-requires-clause-advisory
 column_stencil-requires-clause-advisory c =
     advisory c.args.model.now c.args.number c.column_count-columns.result (length c.points.result.now) c.requires (c.column_count-columns.ensures ∙ ap columns c.grid.ensures.value) (ap length c.points.ensures)
+
+pub overflow_cast-row : goal.overflow_cast-row
+overflow_cast-row c = omega (arith, column_stencil-requires-clause-advisory c, c.grid.ensures.valid.grid.few_advisories)

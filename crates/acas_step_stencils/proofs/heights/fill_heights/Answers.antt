@@ -2,7 +2,6 @@ use Rattle.std.proofs.Common.{◌≡◌, ◌≢◌, ℕ, ◌+◌, ◌-◌, ◌*�
 use Rattle.std.specs.Int.{◌∣◌}
 use Rattle.std.proofs.lemmas.List.{get_or-set_other, get_or-set_same, length-set}
 use borrow.Author.Count.{below_more}
-use Rattle.std.proofs.lemmas.Grind.{common_steps}
 use Rattle.acas_spec.specs.Axis.{place_value}
 use Rattle.acas_spec.specs.Model.{GridData}
 use Rattle.acas_process.specs.Axis.{distance, gap}
@@ -46,6 +45,3 @@ loop-place-preserved c =
           subst (λ (n : ℕ). is k n) (sym (get_or-set_other c.loop-place.heights place k high 0 apart)) (so.each k h))
           (subst (λ (n : ℕ). is place n) (sym (get_or-set_same c.loop-place.heights place high 0 inside)) (subst (λ (k : ℕ). is k high) at next));
     }
-
-pub returns-clause-heights : goal.returns-clause-heights
-returns-clause-heights c = grind (arith, common_steps)

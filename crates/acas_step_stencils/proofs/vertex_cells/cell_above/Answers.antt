@@ -45,12 +45,3 @@ returns c =
 
 pub new-requires : goal.new-requires
 new-requires c = search rules
-
-pub gap_in-h-requires : goal.gap_in-h-requires
-gap_in-h-requires c = search rules
-
-pub gap_in-v0-requires : goal.gap_in-v0-requires
-gap_in-v0-requires c = search rules
-
-pub gap_in-v1-requires : goal.gap_in-v1-requires
-gap_in-v1-requires c = search rules

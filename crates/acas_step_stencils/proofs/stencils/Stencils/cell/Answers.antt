@@ -11,29 +11,18 @@ use Rattle.acas_means.proofs.ColumnLaws.{all_columns}
 use Rattle.acas_step_stencils.specs.Stencils.{HaveStencil, IsStencil}
 use Rattle.acas_step_stencils.proofs.stencils.Stencils.cell.Goals as goal
 
-pub stencil-stencil-requires-clause-stencil : goal.stencil-stencil-requires-clause-stencil
-stencil-stencil-requires-clause-stencil c =
+pub stencil-stencil-requires : goal.stencil-stencil-requires
+stencil-stencil-requires c =
     let m = c.args.model.now in
     let v : ℕ = c.args.vertex in
     let inside : v < length m.grid.h * columns m.grid = omega (arith, c.requires.vertex, all_columns m.grid) in
     let width = some_width (length m.grid.h) (columns m.grid) v inside in
     let wide : c.column_count-columns.result ≡ columns m.grid = c.column_count-columns.ensures ∙ ap columns c.grid-grid.ensures.value in
-    subst (λ (w : ℕ). HaveStencil m c.args.self.now (record { column = v % w; advisory = c.args.advisory; sigma = c.args.sigma })) (sym wide)
-    (record {
-      usable = c.requires.usable;
-      column = mod_below v (columns m.grid) width;
-      advisory = c.requires.advisory;
-      sigma = c.requires.sigma;
-    })
-
-pub stencil-stencil-requires-clause-place : goal.stencil-stencil-requires-clause-place
-stencil-stencil-requires-clause-place c =
-    let m = c.args.model.now in
-    let v : ℕ = c.args.vertex in
-    let inside : v < length m.grid.h * columns m.grid = omega (arith, c.requires.vertex, all_columns m.grid) in
-    let width = some_width (length m.grid.h) (columns m.grid) v inside in
-    let wide : c.column_count-columns.result ≡ columns m.grid = c.column_count-columns.ensures ∙ ap columns c.grid-grid.ensures.value in
-    subst (λ (w : ℕ). v / w < length m.grid.h) (sym wide) (div_below v (columns m.grid) (length m.grid.h) width inside)
+    record {
+      stencil = subst (λ (w : ℕ). HaveStencil m c.args.self.now (record { column = v % w; advisory = c.args.advisory; sigma = c.args.sigma })) (sym wide)
+          (record { usable = c.requires.usable; column = mod_below v (columns m.grid) width; advisory = c.requires.advisory; sigma = c.requires.sigma });
+      place = subst (λ (w : ℕ). v / w < length m.grid.h) (sym wide) (div_below v (columns m.grid) (length m.grid.h) width inside);
+    }
 
 pub cell_of_stencil-requires-clause-stencil : goal.cell_of_stencil-requires-clause-stencil
 cell_of_stencil-requires-clause-stencil c =
