@@ -1,6 +1,5 @@
 use Rattle.std.proofs.Common.{◌≡◌, ℤ, to_z, of_z, w32, w64, refl, ap, subst, ◌∙◌, arith, rules}
 use Rattle.std.proofs.lemmas.Int.{ints}
-use Rattle.std.proofs.lemmas.Grind.{common_steps}
 use Rattle.acas_spec.specs.Model.{GridData}
 use Rattle.acas_spec.specs.declared.place.Point.{Point}
 use Rattle.acas_spec.specs.declared.place.Vertex.{Vertex}
@@ -37,3 +36,6 @@ cell_near-cell-requires c = search rules
 
 pub climb_from-requires : goal.climb_from-requires
 climb_from-requires c = search rules
+
+pub overflow_cast-result-3 : goal.overflow_cast-result-3
+overflow_cast-result-3 c = search rules
