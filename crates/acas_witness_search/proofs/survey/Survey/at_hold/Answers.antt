@@ -1,23 +1,23 @@
-use Rattle.std.proofs.Common.{◌≡◌, ◌∙◌, sym, ap, refl, inl, inr, ◌*◌, pos, ◌*ℤ◌, to_z, of_z, arith, mul-pos}
+use Rattle.std.proofs.Common.{◌≡◌, ◌∙◌, sym, ap, refl, inl, inr, ◌*◌, pos, ◌*ℤ◌, to_z, of_z, mul-pos}
 use Rattle.std.specs.Int.{w64}
-use Rattle.std.proofs.lemmas.Int.{ints}
 use Rattle.acas_passes.specs.declared.steps.TheConstants.{RATE_STEPS}
 use Rattle.acas_passes.specs.Search.{unit, grain, over_square, hold_at_low, hold_at_high}
 use Rattle.acas_witness_search.specs.Surveys.{search_of}
 use Rattle.acas_witness_plans.proofs.Overs.{whole_over, low_hold_over, first_hold_over, hold_place_over, eighths_of}
+use Rattle.acas_witness_search.proofs.Steps.{rate64, altitude64, steps64}
 use Rattle.acas_witness_search.proofs.survey.Survey.at_hold.Goals as goal
 
 pub returns-clause-point : goal.returns-clause-point
 returns-clause-point c =
     let s = c.args.self.now in
     let p = mul-pos s.low_end.some s.high_end.some in
-    let r : to_z w64 (of_z w64 c.rate_steps-rate.result) ≡ pos RATE_STEPS *ℤ s.area.v0.least = omega (arith, ints, c.rate_steps-rate.ensures.value, s.area.fits.own.least) in
+    let r : to_z w64 (of_z w64 c.rate_steps-rate.result) ≡ pos RATE_STEPS *ℤ s.area.v0.least = steps64 c.rate_steps-rate.result s.area.v0.least c.rate_steps-rate.ensures.value s.area.fits.own.least in
     let point = rw r at c.plan_from.ensures.point in
-    let h : to_z w64 (of_z w64 c.plan_from.result.altitude) ≡ c.plan_from.result.altitude = omega (arith, ints, c.plan_from.ensures.flown.altitude) in
+    let h = altitude64 c.plan_from.result.altitude c.plan_from.ensures.flown.altitude in
     record {
       time = point.time;
       altitude = h ∙ point.altitude;
-      own = whole_over s.area.v0.least _ (unit (search_of s) * unit (search_of s)) _ c.whole_rate.ensures.same (omega (arith, ints, s.area.fits.own.least));
+      own = whole_over s.area.v0.least _ (unit (search_of s) * unit (search_of s)) _ c.whole_rate.ensures.same (rate64 s.area.v0.least s.area.fits.own.least);
       intruder = point.intruder;
       aim = point.aim;
       pull = rw (eighths_of s.area.v0.least (grain (search_of s))) point.pull;
@@ -31,7 +31,7 @@ pub returns-clause-flown : goal.returns-clause-flown
 returns-clause-flown c =
     let l = c.plan_from.ensures.flown.limits in
     let e = c.plan_from.ensures in
-    let h : to_z w64 (of_z w64 c.plan_from.result.altitude) ≡ c.plan_from.result.altitude = omega (arith, ints, c.plan_from.ensures.flown.altitude) in
+    let h = altitude64 c.plan_from.result.altitude c.plan_from.ensures.flown.altitude in
     let w = c.whole_rate.ensures.same in
     let v : c.whole_rate.result.den ≡ 1 = rw w refl in
     record {
