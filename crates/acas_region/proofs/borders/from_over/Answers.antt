@@ -1,4 +1,4 @@
-use Rattle.std.proofs.Common.{arith}
+use Rattle.std.proofs.Common.{arith, rules}
 use Rattle.std.proofs.lemmas.Int.{ints}
 use Rattle.acas_region.proofs.Signs.{minus-whole}
 use Rattle.acas_region.proofs.borders.from_over.Goals as goal
@@ -21,3 +21,6 @@ invariant_of-result c =
         at_once = λ h. absurd (omega (arith, ints, h, c.requires));
       });
     }
+
+pub returns : goal.returns
+returns c = search rules

@@ -1,6 +1,7 @@
 use Rattle.std.proofs.Common.{◌≡◌, ◌∙◌, ℕ, ℤ, pos, ◌*ℤ◌, to_z, of_z, arith, ◌*◌, ◌<◌}
 use Rattle.std.specs.Int.{w128}
 use Rattle.std.proofs.lemmas.Int.{ints}
+use Rattle.std.proofs.lemmas.Grind.{common_steps}
 use Rattle.acas_frac.specs.Fraction.{Fraction}
 use Rattle.acas_flight.specs.Border.{Border, border_of, IsGapAt, gap_number}
 use Rattle.acas_flight_laws.proofs.Gaps.{IsGapAt-of}
@@ -21,3 +22,6 @@ returns-clause-value c =
     let up : to_z w128 (of_z w128 c.gap_number.result) ≡ c.gap_number.result = omega (arith, ints, c.gap_number.ensures.size) in
     from_parts (border_of a.start a.aim a.pull a.hold a.height a.rate) c.args.time.now c.quotient.result c.moment_of-at.result.num c.moment_of-at.result.den c.scale.result _
     c.moment_of-at.ensures.num c.moment_of-at.ensures.den c.requires.some c.scale.ensures.value (up ∙ c.gap_number.ensures.value) c.quotient.ensures.value
+
+pub quotient-requires : goal.quotient-requires
+quotient-requires c = grind (arith, common_steps)

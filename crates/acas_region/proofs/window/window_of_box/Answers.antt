@@ -1,5 +1,6 @@
-use Rattle.std.proofs.Common.{◌≡◌, ◌<◌, ◌≤◌, pos, arith}
+use Rattle.std.proofs.Common.{◌≡◌, ◌<◌, ◌≤◌, pos, arith, rules}
 use Rattle.std.proofs.lemmas.Int.{ints}
+use Rattle.std.proofs.lemmas.Grind.{common_steps}
 use Rattle.acas_areas.specs.Limits.{interval_of}
 use Rattle.acas_areas.specs.View.{times_of}
 use Rattle.acas_flight_windows.proofs.Ends.{box_window}
@@ -16,3 +17,15 @@ returns c =
     let speeds : c.natural-3.result ≤ c.natural-4.result = omega (arith, ints, slow, fast, c.args.closing.ordered) in
     box_window c.args.model.now (interval_of c.args.range) (interval_of c.args.closing) (times_of c.between.result) c.disc_of-disc.result.radius c.natural.result c.natural-2.result c.natural-3.result c.natural-4.result
     c.disc_of-disc.ensures.radius near far slow fast some ranges speeds c.between.result.ends c.between.ensures.from c.between.ensures.to
+
+pub natural-requires-2 : goal.natural-requires-2
+natural-requires-2 c = grind (arith, common_steps)
+
+pub natural-requires-3 : goal.natural-requires-3
+natural-requires-3 c = grind (arith, common_steps)
+
+pub natural-requires-4 : goal.natural-requires-4
+natural-requires-4 c = grind (arith, common_steps)
+
+pub between-requires : goal.between-requires
+between-requires c = search rules
