@@ -1,4 +1,4 @@
-use Rattle.std.proofs.Common.{◌≡◌, ◌∙◌, ap, ap₂, ℤ, pos, ◌-ℤ◌, ◌*ℤ◌, arith, of_z, to_z}
+use Rattle.std.proofs.Common.{◌≡◌, ◌∙◌, ap, ap₂, ℤ, pos, ◌-ℤ◌, ◌*ℤ◌, arith, of_z, to_z, rules}
 use Rattle.std.specs.Int.{w128, w64}
 use Rattle.std.proofs.lemmas.Int.{ints}
 use Rattle.acas_safeable.proofs.climbs.above.Goals as goal
@@ -16,3 +16,9 @@ returns-clause-value c =
     let times = rw flown at c.scaled.ensures.value in
     ap₂ (λ (i j : ℤ). to_z w128 (of_z w128 (i -ℤ j))) from less ∙ whole
     ∙ ap (λ (z : ℤ). z -ℤ c.args.climb.times_pull) (times ∙ ap (λ (z : ℤ). z *ℤ pos c.args.climb.pull) there)
+
+pub overflow_sub-result : goal.overflow_sub-result
+overflow_sub-result c = search rules
+
+pub returns-clause-size : goal.returns-clause-size
+returns-clause-size c = search rules
