@@ -1,5 +1,6 @@
 use Rattle.std.proofs.Common.{◌≡◌, pos, unsigned_abs, arith}
 use Rattle.std.proofs.lemmas.Int.{ints}
+use Rattle.std.proofs.lemmas.Grind.{common_steps}
 use Rattle.acas_areas.specs.Limits.{interval_of}
 use Rattle.acas_witness_response.proofs.BoxRanges.{during_renamed, pair_renamed}
 use Rattle.acas_witness_response.proofs.ranges.of_box.Goals as goal
@@ -44,3 +45,15 @@ returns-clause-contact c =
     let e4 : c.args.closing.greatest ≡ pos c.natural-5.result = omega (arith, ints, c.natural-5.ensures) in
     (pair_renamed c.natural.result c.args.model.now.radius c.natural-2.result c.natural-3.result c.natural-4.result c.natural-5.result (interval_of c.args.range) (interval_of c.args.closing) c.args.flight.time c.pair_of-found.result.0 c.pair_of-found.result.1 e e1 e2 e3 e4
     (c.pair_of-found.ensures.rule, c.pair_of-found.ensures.contact)).1
+
+pub pair_of-found-requires-clause-ranges : goal.pair_of-found-requires-clause-ranges
+pair_of-found-requires-clause-ranges c = grind (arith, common_steps)
+
+pub pair_of-found-requires-clause-far : goal.pair_of-found-requires-clause-far
+pair_of-found-requires-clause-far c = grind (arith, common_steps)
+
+pub pair_of-found-requires-clause-speeds : goal.pair_of-found-requires-clause-speeds
+pair_of-found-requires-clause-speeds c = grind (arith, common_steps)
+
+pub pair_of-found-requires-clause-fast : goal.pair_of-found-requires-clause-fast
+pair_of-found-requires-clause-fast c = grind (arith, common_steps)

@@ -1,6 +1,7 @@
-use Rattle.std.proofs.Common.{◌≡◌, ◌<◌, pos, to_z, of_z, arith}
+use Rattle.std.proofs.Common.{◌≡◌, ◌<◌, pos, to_z, of_z, arith, rules}
 use Rattle.std.specs.Int.{w64}
 use Rattle.std.proofs.lemmas.Int.{ints}
+use Rattle.std.proofs.lemmas.Grind.{common_steps}
 use Rattle.acas_witness_response.proofs.CellRanges.{cells_range, contact_of_cell}
 use Rattle.acas_witness_response.proofs.ranges.of_cell.Goals as goal
 
@@ -27,3 +28,12 @@ returns-clause-contact c =
     let some : 0 < m.least_closing = omega (arith, v.some_closing) in
     contact_of_cell m c.args.n c.args.flight.time c.range_of.result c.whole.result c.time_parts-time.result.0 c.time_parts-time.result.1 some v.closing n.num n.den n.some c.requires.during c.range_of.ensures.some
     (rw (er, es, c.from.ensures) at c.range_of.ensures.value) (rw ez at c.whole.ensures)
+
+pub natural-requires : goal.natural-requires
+natural-requires c = search rules
+
+pub natural-requires-2 : goal.natural-requires-2
+natural-requires-2 c = search rules
+
+pub range_of-requires : goal.range_of-requires
+range_of-requires c = grind (arith, common_steps)

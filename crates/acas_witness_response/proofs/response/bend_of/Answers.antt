@@ -1,6 +1,7 @@
 use Rattle.std.proofs.Common.{◌≡◌, ℕ, ◌*◌, ◌≤◌, ℤ, pos, ◌-ℤ◌, ◌*ℤ◌, unsigned_abs, to_z, of_z, arith, mul-le-mul}
 use Rattle.std.specs.Int.{w64}
 use Rattle.std.proofs.lemmas.Int.{ints}
+use Rattle.std.proofs.lemmas.Grind.{common_steps}
 use Rattle.acas_frac.specs.Fraction.{Fraction}
 use Rattle.acas_witness_plans.specs.Bends.{IsBend}
 use Rattle.acas_witness_response.proofs.response.bend_of.Goals as goal
@@ -18,3 +19,6 @@ returns-clause-bend c =
     bend_from c.args.rate.now c.args.aim.now c.args.pull.now c.ratio.result c.rate_parts-v.result.0 c.rate_parts-k.result.0 c.rate_parts-v.result.1 c.rate_parts-k.result.1 c.pull_parts-b.result.0 c.pull_parts-b.result.1 c.way_of.result
     c.rate_parts-v.ensures.num c.rate_parts-v.ensures.den c.rate_parts-k.ensures.num c.rate_parts-k.ensures.den c.pull_parts-b.ensures.parts.num c.pull_parts-b.ensures.parts.den
     (rw (v, k) at c.way_of.ensures.value) (rw w at c.ratio.ensures.value)
+
+pub ratio-requires : goal.ratio-requires
+ratio-requires c = grind (arith, common_steps)
