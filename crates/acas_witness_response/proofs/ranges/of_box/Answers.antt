@@ -1,4 +1,4 @@
-use Rattle.std.proofs.Common.{◌≡◌, pos, unsigned_abs, arith}
+use Rattle.std.proofs.Common.{◌≡◌, pos, unsigned_abs, arith, rules}
 use Rattle.std.proofs.lemmas.Int.{ints}
 use Rattle.std.proofs.lemmas.Grind.{common_steps}
 use Rattle.acas_areas.specs.Limits.{interval_of}
@@ -24,27 +24,17 @@ pair_of-found-requires-clause-during c =
     let e4 : c.args.closing.greatest ≡ pos c.natural-5.result = omega (arith, ints, c.natural-5.ensures) in
     during_renamed c.natural.result c.args.model.now.radius c.natural-2.result c.natural-3.result c.natural-4.result c.natural-5.result c.args.flight.time.den (unsigned_abs c.args.flight.time.num) (interval_of c.args.range) (interval_of c.args.closing) e e1 e2 e3 e4 c.requires.during
 
-pub returns-clause-rule : goal.returns-clause-rule
-returns-clause-rule c =
+pub returns : goal.returns
+returns c =
     let v = c.grid.ensures.valid in
     let e : c.natural.result ≡ c.args.model.now.radius = omega (arith, ints, c.natural.ensures, c.radius.ensures, v.radius) in
     let e1 : c.args.range.least ≡ pos c.natural-2.result = omega (arith, ints, c.natural-2.ensures) in
     let e2 : c.args.range.greatest ≡ pos c.natural-3.result = omega (arith, ints, c.natural-3.ensures) in
     let e3 : c.args.closing.least ≡ pos c.natural-4.result = omega (arith, ints, c.natural-4.ensures) in
     let e4 : c.args.closing.greatest ≡ pos c.natural-5.result = omega (arith, ints, c.natural-5.ensures) in
-    (pair_renamed c.natural.result c.args.model.now.radius c.natural-2.result c.natural-3.result c.natural-4.result c.natural-5.result (interval_of c.args.range) (interval_of c.args.closing) c.args.flight.time c.pair_of-found.result.0 c.pair_of-found.result.1 e e1 e2 e3 e4
-    (c.pair_of-found.ensures.rule, c.pair_of-found.ensures.contact)).0
-
-pub returns-clause-contact : goal.returns-clause-contact
-returns-clause-contact c =
-    let v = c.grid.ensures.valid in
-    let e : c.natural.result ≡ c.args.model.now.radius = omega (arith, ints, c.natural.ensures, c.radius.ensures, v.radius) in
-    let e1 : c.args.range.least ≡ pos c.natural-2.result = omega (arith, ints, c.natural-2.ensures) in
-    let e2 : c.args.range.greatest ≡ pos c.natural-3.result = omega (arith, ints, c.natural-3.ensures) in
-    let e3 : c.args.closing.least ≡ pos c.natural-4.result = omega (arith, ints, c.natural-4.ensures) in
-    let e4 : c.args.closing.greatest ≡ pos c.natural-5.result = omega (arith, ints, c.natural-5.ensures) in
-    (pair_renamed c.natural.result c.args.model.now.radius c.natural-2.result c.natural-3.result c.natural-4.result c.natural-5.result (interval_of c.args.range) (interval_of c.args.closing) c.args.flight.time c.pair_of-found.result.0 c.pair_of-found.result.1 e e1 e2 e3 e4
-    (c.pair_of-found.ensures.rule, c.pair_of-found.ensures.contact)).1
+    let both = pair_renamed c.natural.result c.args.model.now.radius c.natural-2.result c.natural-3.result c.natural-4.result c.natural-5.result (interval_of c.args.range) (interval_of c.args.closing) c.args.flight.time c.pair_of-found.result.0 c.pair_of-found.result.1 e e1 e2 e3 e4
+    (c.pair_of-found.ensures.rule, c.pair_of-found.ensures.contact) in
+    record { flight = search rules; rule = both.0; contact = both.1 }
 
 pub pair_of-found-requires-clause-ranges : goal.pair_of-found-requires-clause-ranges
 pair_of-found-requires-clause-ranges c = grind (arith, common_steps)
