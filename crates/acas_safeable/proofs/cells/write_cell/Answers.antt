@@ -1,4 +1,4 @@
-use Rattle.std.proofs.Common.{◌≡◌, true, ◌<◌, ◌++◌, List, ℕ, ◌∙◌, sym, subst, arith, rules}
+use Rattle.std.proofs.Common.{◌≡◌, true, ◌<◌, ◌++◌, List, ℕ, ◌∙◌, sym, subst, arith}
 use Rattle.acas_cells.specs.Cells.{Cell, cell_at}
 use Rattle.acas_cells.specs.Corners.{is_clear_cell}
 use Rattle.acas_outside.specs.Bytes.{AppendsPart}
@@ -72,9 +72,3 @@ returns-clause-ok g c =
     let same : c.standing-outlook.result ≡ found cell = found_is m a found cell c.standing-outlook.result c.grid.ensures.valid c.requires.cell looked c.standing-outlook.ensures are in
     subst (λ (l : List ℕ). Prints (g.S.Sink.written c.args.sink.now) (g.S.Sink.written c.print.new.sink) c.args.pen.now.buffer c.print.new.self l)
     (c.bytes.ensures ∙ c.write_cell_line.ensures.value ∙ looked_text m a found cell c.standing-outlook.result looked same) c.in_ok-print.ensures.ok
-
-pub branch-print-requires : goal.branch-print-requires
-branch-print-requires g c = search rules
-
-pub from_residual-requires : goal.from_residual-requires
-from_residual-requires g c = search rules
