@@ -7,3 +7,4 @@ pub mod Starts
 pub mod Found
 pub mod Nexts
 pub mod Told
+pub mod Answered

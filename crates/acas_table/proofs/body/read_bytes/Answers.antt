@@ -1,17 +1,15 @@
-use Rattle.std.proofs.Common.{◌≡◌, Err, ◌∙◌, ap}
-use Rattle.std.proofs.lemmas.Result.{err_from_is_err_and}
+use Rattle.std.proofs.Common.{◌≡◌}
 use Rattle.acas_table_text.specs.Text.{entry_at, entry_of}
 use Rattle.acas_table_text.specs.Format.{part}
 use Rattle.acas_table.proofs.Looks.{advice_bad, advice_given, advice_good, read_given, short_given}
+use Rattle.acas_table.proofs.Answered.{answered}
 use Rattle.acas_table.proofs.body.read_bytes.Goals as goal
 
 pub returns-in_err-entry-clause-given : goal.returns-in_err-entry-clause-given
 returns-in_err-entry-clause-given g c =
     let old = c.args.source.now in
-    let p = err_from_is_err_and c.from_residual.result c.from_residual.ensures.1 in
-    let is : c.from_residual.result ≡ Err c.in_err-entry.field-0.0 = p.1 ∙ ap Err p.2 in
     short_given (λ entry bytes. entry ≡ entry_of (part bytes old.place 17)) (λ entry bytes. entry ≡ entry_at c.args.shape.now bytes c.args.index) _ c.args.name.now c.args.format c.args.shape.now c.args.index old
-    c.entry.new.self _ c.from_residual.result is c.requires.stands c.in_err-entry.ensures.given
+    c.entry.new.self _ c.from_residual.result (answered _ c.from_residual.ensures.1) c.requires.stands c.in_err-entry.ensures.given
 
 pub returns-then-not-is_advice-clause-given : goal.returns-then-not-is_advice-clause-given
 returns-then-not-is_advice-clause-given g c =

@@ -1,17 +1,15 @@
 use Rattle.std.specs.Prelude.{⊤}
-use Rattle.std.proofs.Common.{◌≡◌, ◌∙◌, Err, ap, sym}
-use Rattle.std.proofs.lemmas.Result.{err_from_is_err_and}
+use Rattle.std.proofs.Common.{◌≡◌, ◌∙◌, ap, sym}
 use Rattle.acas_table_text.specs.Text.{entry_at}
 use Rattle.acas_table.proofs.Looks.{alone_given, moved_given, passed_given, stopped_given}
+use Rattle.acas_table.proofs.Answered.{answered}
 use Rattle.acas_table.proofs.body.read_entry.Goals.{in-Some+in_ok-check_digest, in_default}
 use Rattle.acas_table.proofs.body.read_entry.Goals as goal
 
 pub returns-in_err-check_digest-clause-given : goal.returns-in_err-check_digest-clause-given
 returns-in_err-check_digest-clause-given g c =
-    let p = err_from_is_err_and c.from_residual.result c.from_residual.ensures.1 in
-    let is : c.from_residual.result ≡ Err c.in_err-check_digest.field-0.0 = p.1 ∙ ap Err p.2 in
     stopped_given {X = Unit {0}} (λ x bytes. ⊤) (λ entry bytes. entry ≡ entry_at c.args.shape.now bytes c.args.index) _ c.args.name.now c.args.format c.args.shape.now c.args.index c.in-Some.group c.args.source.now
-    c.check_digest.new.source _ c.from_residual.result is (sym c.in-Some.is ∙ c.requires.ended) c.in_err-check_digest.ensures.given
+    c.check_digest.new.source _ c.from_residual.result (answered _ c.from_residual.ensures.1) (sym c.in-Some.is ∙ c.requires.ended) c.in_err-check_digest.ensures.given
 
 pub returns-clause-given : goal.returns-clause-given
 returns-clause-given g c =

@@ -1,14 +1,13 @@
-use Rattle.std.proofs.Common.{◌≡◌, Err, ◌∙◌, ap, arith}
-use Rattle.std.proofs.lemmas.Result.{err_from_is_err_and, on_ok_weaker}
+use Rattle.std.proofs.Common.{◌≡◌, arith}
+use Rattle.std.proofs.lemmas.Result.{on_ok_weaker}
 use Rattle.acas_table_text.specs.Format.{format_of}
 use Rattle.acas_table.proofs.Front.{front_given, letters_given}
+use Rattle.acas_table.proofs.Answered.{answered}
 use Rattle.acas_table.proofs.header.read_format.Goals as goal
 
 pub returns-in_err-check-clause-given : goal.returns-in_err-check-clause-given
 returns-in_err-check-clause-given g c =
-    let p = err_from_is_err_and c.from_residual.result c.from_residual.ensures.1 in
-    let is : c.from_residual.result ≡ Err c.in_err-check.field-0.0 = p.1 ∙ ap Err p.2 in
-    letters_given (λ format bytes. format_of bytes ≡ format) _ c.args.name.now c.args.source.now c.check.new.self _ c.from_residual.result is c.requires.place c.in_err-check.ensures.given
+    letters_given (λ format bytes. format_of bytes ≡ format) _ c.args.name.now c.args.source.now c.check.new.self _ c.from_residual.result (answered _ c.from_residual.ensures.1) c.requires.place c.in_err-check.ensures.given
 
 pub returns-clause-given : goal.returns-clause-given
 returns-clause-given g c =

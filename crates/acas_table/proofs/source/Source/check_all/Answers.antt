@@ -1,7 +1,7 @@
-use Rattle.std.proofs.Common.{◌≡◌, ◌<◌, length, Err, ◌∙◌, ap, arith}
-use Rattle.std.proofs.lemmas.Result.{err_from_is_err_and}
+use Rattle.std.proofs.Common.{◌<◌, length, arith}
 use Rattle.std.proofs.lemmas.Grind.{common_steps}
 use Rattle.acas_table.proofs.Passed.{widths_next, widths_fit, next_given, blamed_given}
+use Rattle.acas_table.proofs.Answered.{answered}
 use Rattle.acas_table.proofs.source.Source.check_all.Goals as goal
 
 pub check-requires-clause-limit : goal.check-requires-clause-limit
@@ -12,9 +12,7 @@ check-requires-clause-limit g c =
 pub returns-in_err-check-clause-given : goal.returns-in_err-check-clause-given
 returns-in_err-check-clause-given g c =
     let within : c.loop-field.field-index < length c.args.fields.now = omega arith in
-    let p = err_from_is_err_and c.from_residual.result c.from_residual.ensures.1 in
-    let is : c.from_residual.result ≡ Err c.in_err-check.field-0.0 = p.1 ∙ ap Err p.2 in
-    blamed_given _ _ c.args.name.now c.loop-field.field-index c.args.fields.now c.args.self.now c.loop-field.self c.check.new.self _ c.from_residual.result is within
+    blamed_given _ _ c.args.name.now c.loop-field.field-index c.args.fields.now c.args.self.now c.loop-field.self c.check.new.self _ c.from_residual.result (answered _ c.from_residual.ensures.1) within
     c.loop-field.invariant.frame.holds c.loop-field.invariant.steps c.loop-field.invariant.given c.in_err-check.ensures.given
 
 pub loop-field-preserved : goal.loop-field-preserved
