@@ -27,17 +27,17 @@ pub fn safeable<M: LayerMeans, F: Folder, O: Sink>(
     requires table { IsTrue (F.serves folder.old table.now) }
     ensures answers { Answers (CallsForSafeable model.now table.now) (report_ended result)
         (outside F.Folder O.Sink folder.old out.old) (outside F.Folder O.Sink folder.new out.new) }
-    ensures folder { ReadsAndWrites F.Folder folder.old folder.new (IsErrOf result Cause.Folder) }
     ensures output { O.faults out.old ≤ O.faults out.new }
+    ensures folder { ReadsAndWrites F.Folder folder.old folder.new (IsErrOf result Cause.Folder) }
 {
     let found = read_model_file(alloc, model, folder)?;
-    print_safeable::<M, F, O>(&found, alloc, table, folder, out)
+    print_safeable::<M, F, O>(alloc, &found, table, folder, out)
 }
 
 // Prints what keeps each clear cell of a table safe, where the model is read.
 fn print_safeable<M: LayerMeans, F: Folder, O: Sink>(
-    found: &ModelFile,
     alloc: Global,
+    found: &ModelFile,
     table: &str,
     folder: &mut F,
     out: &mut O,
