@@ -112,10 +112,10 @@ class Kit:
     def path(self, name):
         return os.path.join(self.folder, name)
 
-    def building(self, crate):
-        """The words that prove a crate and build it, but for the path that is written."""
+    def calling(self, command, crate):
+        """The words with which the kit's compiler is called for a crate, over the libraries that it uses."""
         root = "src/main.rt" if crate.name == PROGRAM else "src/lib.rt"
-        words = [self.path("bin/rattle"), "build", "--crate-name", crate.name, root, "--links", f"{crate.name}="]
+        words = [self.path("bin/rattle"), command, "--crate-name", crate.name, root, "--links", f"{crate.name}="]
         words += ["--antt-project", self.path("rattle/logic/antt-project.json"), "--logic-built", self.path("logic_built")]
         for name in ("std", *crate.of_kit):
             words += ["--extern", f"{name}={self.path(f'rlibs/{name}.rlib')}"]
@@ -123,7 +123,11 @@ class Kit:
             words += ["--extern", f"{it.name}={it.library}"]
         for folder in (self.path("rlibs"), *(os.path.dirname(it.library) for it in crate.below)):
             words += ["-L", f"dependency={folder}"]
-        return words + (["--toolchain", self.path("toolchain")] if crate.name == PROGRAM else self.stating)
+        return words
+
+    def building(self, crate):
+        """The words that prove a crate and build it, but for the path that is written."""
+        return self.calling("build", crate) + (["--toolchain", self.path("toolchain")] if crate.name == PROGRAM else self.stating)
 
     def linking(self, made, program):
         """The words that link what was made of the program."""
