@@ -4,15 +4,10 @@
 
 mod check;
 mod keeping;
-mod laws;
 mod leasts;
 mod refusal;
 mod whole;
 
 pub use acas_table::TableRefusal;
-pub use laws::{
-    accepted_tables_have_no_refusal, accepted_tables_have_two_sided_bounds,
-    compiled_tables_are_accepted, migrated_tables_are_accepted,
-};
 pub use refusal::AcceptFault;
 pub use whole::{accept, accept_layers};

@@ -1,3 +1,9 @@
+pub mod Value
+pub mod Halving
+pub mod Flights
+pub mod Passes
+pub mod Search
+pub mod Responses
 pub mod Limits
 pub mod Chases
 pub mod Sizes

@@ -11,8 +11,8 @@ use Rattle.acas_flight.specs.State.{IsInside, from_place}
 use Rattle.acas_flight.specs.Window.{IsWindowOfCell, Times}
 use Rattle.acas_flight.specs.Clear.{EndsInVerticalContact, IsEndangeredDuring, area_of_cell}
 use Rattle.acas_frac.proofs.Orders.{cases_lt_ℤ, le_of_lt_ℤ}
-use Rattle.acas_flight_laws.proofs.Rising.{scaled_le}
-use Rattle.acas_flight_laws.proofs.Endangered.{endangered_cell}
+use Rattle.acas_flight_lemmas.proofs.Rising.{scaled_le}
+use Rattle.acas_flight_lemmas.proofs.Endangered.{endangered_cell}
 use Rattle.acas_audit_blocks.specs.BlockStates.{IsEndangeredBlock, area_of_block}
 use Rattle.acas_cells.specs.Blocks.{IsBlockOf, IsInBlock, IsSome}
 use Rattle.acas_rulings.specs.Spans.{between}

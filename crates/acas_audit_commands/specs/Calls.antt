@@ -6,7 +6,7 @@ use Rattle.acas_base.specs.Advices.{AdvicesData}
 use Rattle.acas_outside.specs.Files.{Files}
 use Rattle.acas_report_lines.specs.declared.counts.Counts.{Counts}
 use Rattle.acas_report_lines.specs.declared.counts.Which.{Which}
-use Rattle.acas_report_cells.specs.Report.{IsReport, IsReportBegun}
+use Rattle.acas_report_lines.specs.CellReport.{IsReport, IsReportBegun}
 use Rattle.acas_command.specs.Called.{Called, calls_for_report}
 use Rattle.acas_command.specs.Calls.{with_model}
 use Rattle.acas_command.specs.Outcome.{Outcome, prints}

@@ -9,7 +9,7 @@ use Rattle.acas_outside.specs.Outside.{Outside}
 use Rattle.acas_cells.specs.Corners.{advisory_cells}
 use Rattle.acas_report_lines.specs.Report.{IsReportOn}
 use Rattle.acas_report_lines.specs.Text.{is_certified}
-use Rattle.acas_report_cells.specs.Report.{clear_cells, report_text}
+use Rattle.acas_report_lines.specs.CellReport.{clear_cells, report_text}
 use Rattle.acas_report.specs.Verdicts.{IsVerdictOnCell}
 use Rattle.acas_report_lines.specs.declared.counts.Counts.{Counts}
 use Rattle.acas_report_lines.specs.declared.counts.Which.{Which}

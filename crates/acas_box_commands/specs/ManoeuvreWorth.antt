@@ -7,8 +7,8 @@ use Rattle.acas_outside.specs.Files.{Files}
 use Rattle.acas_outside.specs.Outside.{Outside}
 use Rattle.acas_input.specs.declared.fault.InputFault.{InputFault}
 use Rattle.acas_input.specs.declared.fault.InputFault.TheVariants.{Rate}
-use Rattle.acas_manoeuvre.specs.Intruder.{Manoeuvre}
-use Rattle.acas_manoeuvre.specs.Meeting.{IsEndangeredBy}
+use Rattle.acas_meetings.specs.Intruder.{Manoeuvre}
+use Rattle.acas_meetings.specs.Meeting.{IsEndangeredBy}
 use Rattle.acas_rulings.specs.Boxes.{AuditedBox, box_at}
 use Rattle.acas_meetings.specs.Verdicts.{ShowsMeeting}
 use Rattle.acas_meetings.specs.declared.verdict.MeetVerdict.{MeetVerdict}

@@ -1,7 +1,7 @@
 -- States of encounters, an encounter and a course of it.
 use Rattle.std.specs.Prelude.{ℕ, nat_eq, ℤ, pos, false, [], ◌∷◌}
 use Rattle.acas_spec.specs.declared.place.Point.{Point}
-use Rattle.acas_encounter.specs.Encounter.{EncounterData}
+use Rattle.acas_replay.specs.Encounter.{EncounterData}
 use Rattle.acas_replay.specs.declared.second.Second.{Second}
 use Rattle.acas_replay.specs.Replay.{Course}
 use Rattle.acas_replay.specs.declared.state.EncounterState.{EncounterState}

@@ -8,7 +8,7 @@ use Rattle.acas_outside.specs.declared.sink.Sink.{Ghosts as SinkMeanings}
 use Rattle.acas_process.specs.Compiled.{compiled}
 use Rattle.acas_report_lines.specs.declared.counts.Counts.{Counts}
 use Rattle.acas_report_lines.specs.declared.counts.Which.TheVariants.{All}
-use Rattle.acas_report_cells.specs.Report.{IsReport}
+use Rattle.acas_report_lines.specs.CellReport.{IsReport}
 use Rattle.acas_command.specs.Called.{Called, MayPrint, calls_for_report}
 use Rattle.acas_command.specs.Outcome.{prints}
 use Rattle.acas_command.specs.declared.status.Cause.{Cause}

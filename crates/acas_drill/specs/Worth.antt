@@ -18,7 +18,7 @@ use Rattle.acas_report_lines.specs.Report.{IsReportOn}
 use Rattle.acas_report_lines.specs.Text.{is_certified}
 use Rattle.acas_report_lines.specs.declared.counts.Counts.{Counts}
 use Rattle.acas_report_lines.specs.declared.counts.Which.TheVariants.{All}
-use Rattle.acas_report_cells.specs.Report.{clear_cells, report_text}
+use Rattle.acas_report_lines.specs.CellReport.{clear_cells, report_text}
 use Rattle.acas_command.specs.Called.{MayPrint}
 use Rattle.acas_command.specs.Outcome.{report_cause}
 use Rattle.acas_command.specs.Worth.{IsNotRefused}

@@ -46,7 +46,23 @@ fn make_lines<M: LayerMeans>(alloc: Global, number: u32, line: &mut Line) -> Res
     ensures { IfOk result (λ reported. IsDrillText number reported line.new) }
 {
     let found = drilled(alloc, number)?;
-    let table = drill_table::<M>(alloc, &found)?;
+    line_up::<M>(alloc, number, &found, line)
+}
+
+// Makes them of the drill's model.
+fn line_up<M: LayerMeans>(
+    alloc: Global,
+    number: u32,
+    found: &ModelFile,
+    line: &mut Line,
+) -> Result<u64, AllocError>
+    requires empty { line.old ≡ [] }
+    requires number { number ≤ GREATEST_DRILL_NUMBER }
+    requires model { found.now.model ≡ drilled_model number }
+    requires digest { found.now.digest ≡ sha256 (decimal number) }
+    ensures { IfOk result (λ reported. IsDrillText number reported line.new) }
+{
+    let table = drill_table::<M>(alloc, found)?;
     let counts = audit_counts(alloc, &found.model, &table.advices)?;
     write_lines(line, number, found.model.grid(), table.bytes, &counts);
     Ok(counts.reported)

@@ -16,7 +16,6 @@ pub fn drill_model(alloc: Global, number: u32) -> Result<Model, AllocError>
     requires { number ≤ GREATEST_DRILL_NUMBER }
     ensures { IfOk result (λ model. model ≡ drilled_model number) }
 {
-    let grid = drill_grid(alloc, number)?;
     let numbers = Numbers {
         puck: Puck {
             radius: 500,
@@ -36,6 +35,7 @@ pub fn drill_model(alloc: Global, number: u32) -> Result<Model, AllocError>
     let advisories = advisories(alloc)?;
     let choices = choices(alloc)?;
     let sigmas = sigmas(alloc)?;
+    let grid = drill_grid(alloc, number)?;
     Ok(Model::new(grid, numbers, advisories, choices, sigmas))
 }
 

@@ -4,7 +4,7 @@ use Rattle.std.specs.FinMap.{get}
 use Rattle.acas_spec.specs.Model.{ModelData}
 use Rattle.acas_base.specs.Advices.{AdvicesData}
 use Rattle.acas_outside.specs.Files.{Files}
-use Rattle.acas_encounter.specs.Whole.{encounter_of}
+use Rattle.acas_replay.specs.Whole.{encounter_of}
 use Rattle.acas_command.specs.Called.{calls_for}
 use Rattle.acas_command.specs.ModelFile.{IsModelFile}
 use Rattle.acas_command.specs.Outcome.{Outcome, prints}

@@ -10,11 +10,11 @@ use Rattle.acas_outside.specs.Bytes.{Appends}
 use Rattle.acas_outside.specs.Files.{Files}
 use Rattle.acas_outside.specs.Outside.{Outside}
 use Rattle.acas_input.specs.declared.fault.InputFault.{InputFault}
-use Rattle.acas_encounter.specs.Encounter.{EncounterData}
-use Rattle.acas_encounter.specs.Text.{IsEncounterText}
-use Rattle.acas_encounter.specs.Whole.{encounter_of}
-use Rattle.acas_encounter.proofs.Pass.{understood}
-use Rattle.acas_encounter.proofs.Read.{said}
+use Rattle.acas_replay.specs.Encounter.{EncounterData}
+use Rattle.acas_replay.specs.Text.{IsEncounterText}
+use Rattle.acas_replay.specs.Whole.{encounter_of}
+use Rattle.acas_replay.proofs.Pass.{understood}
+use Rattle.acas_replay.proofs.Read.{said}
 use Rattle.acas_replay.proofs.Audits.{course_audited}
 use Rattle.acas_table_text.specs.declared.refusal.TableRefusal.{TableRefusal}
 use Rattle.acas_command.specs.Answers.{Agrees, Answers}

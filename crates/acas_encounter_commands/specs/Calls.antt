@@ -5,8 +5,8 @@ use Rattle.acas_spec.specs.Model.{ModelData}
 use Rattle.acas_base.specs.Advices.{AdvicesData}
 use Rattle.acas_outside.specs.Bytes.{AppendsPart}
 use Rattle.acas_outside.specs.Files.{Files}
-use Rattle.acas_encounter.specs.Encounter.{EncounterData, IsEncounterOf}
-use Rattle.acas_encounter.specs.Whole.{encounter_of}
+use Rattle.acas_replay.specs.Encounter.{EncounterData, IsEncounterOf}
+use Rattle.acas_replay.specs.Whole.{encounter_of}
 use Rattle.acas_replay.specs.Replay.{IsReplay}
 use Rattle.acas_command.specs.Called.{Called, calls_for_report}
 use Rattle.acas_command.specs.Calls.{with_input_file, with_model}

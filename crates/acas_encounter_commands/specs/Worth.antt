@@ -7,8 +7,8 @@ use Rattle.acas_outside.specs.Bytes.{Appends}
 use Rattle.acas_outside.specs.Files.{Files}
 use Rattle.acas_outside.specs.Outside.{Outside}
 use Rattle.acas_input.specs.declared.fault.InputFault.{InputFault}
-use Rattle.acas_encounter.specs.Encounter.{EncounterData, seconds}
-use Rattle.acas_encounter.specs.Text.{IsEncounterText}
+use Rattle.acas_replay.specs.Encounter.{EncounterData, seconds}
+use Rattle.acas_replay.specs.Text.{IsEncounterText}
 use Rattle.acas_replay.specs.Audited.{IsAudited, IsOfCells}
 use Rattle.acas_replay.specs.Replay.{Course, IsCourse, replay_text, state_at}
 use Rattle.acas_table_text.specs.declared.refusal.TableRefusal.{TableRefusal}

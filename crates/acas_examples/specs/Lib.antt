@@ -1,3 +1,4 @@
+pub mod Grids
 pub mod Parts
 pub mod Models
 pub mod Tables

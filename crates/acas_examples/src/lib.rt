@@ -6,6 +6,8 @@ mod cells;
 mod costs;
 mod limits;
 mod models;
+mod names;
+mod numbers;
 mod seconds;
 mod soundness;
 mod trajectories;
@@ -17,6 +19,10 @@ pub use limits::{
     advisories_have_limits, choices_have_limits, models_have_limits, sigma_points_have_limits,
 };
 pub use models::{entries_end_at_the_horizon, examples_are_models};
+pub use names::{names_are_of_letters_and_digits, names_are_short_and_not_empty};
+pub use numbers::{
+    states_are_numbered_by_vertex_first, vertices_are_numbered_by_intruder_rate_first,
+};
 pub use seconds::{a_second_leads_a_third_up, commands_are_worked_out};
 pub use soundness::{ends_are_sound_or_not, entries_are_sound_or_not};
 pub use trajectories::{memory_goes_back_to_the_start, noisy_trajectories_are_summed_by_hand};

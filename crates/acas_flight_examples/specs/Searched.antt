@@ -1,8 +1,8 @@
 -- Flights, passes and a search whose numbers were also worked out by hand.
 use Rattle.std.specs.Prelude.{ℕ, ℤ, pos, ◌*◌, Bool, nat_eq, ◌||◌, List, map}
-use Rattle.acas_passes.specs.Flights.{Flight, flight}
-use Rattle.acas_passes.specs.Passes.{Pass, moving_down}
-use Rattle.acas_passes.specs.Search.{Search, passes}
+use Rattle.acas_areas.specs.Flights.{Flight, flight}
+use Rattle.acas_areas.specs.Passes.{Pass, moving_down}
+use Rattle.acas_areas.specs.Search.{Search, passes}
 use Rattle.acas_flight_examples.specs.Flown.{climbing, near_area}
 use Rattle.acas_flight_examples.specs.Numbers.{from_to, over}
 

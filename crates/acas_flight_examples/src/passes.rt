@@ -1,9 +1,9 @@
 //! Values of flights, the halving, and passes.
 ghost use Rattle.std.specs.Prelude.{◌≡◌, ℕ, pos, [], ◌∷◌, true, false, nat_lt};
-ghost use Rattle.acas_passes.specs.Flights.{Flight, intruder_end, value};
-ghost use Rattle.acas_passes.specs.Halving.{HalvesTo};
-ghost use Rattle.acas_passes.specs.Passes.{EndsAt, IsLast, Pass, falling, moving, moving_down, moving_up, rising, toward};
-ghost use Rattle.acas_passes.specs.Value.{IsLessThanAbove, IsWithinHalf, is_below, thinnest};
+ghost use Rattle.acas_areas.specs.Flights.{Flight, intruder_end, value};
+ghost use Rattle.acas_areas.specs.Halving.{HalvesTo};
+ghost use Rattle.acas_areas.specs.Passes.{EndsAt, IsLast, Pass, falling, moving, moving_down, moving_up, rising, toward};
+ghost use Rattle.acas_areas.specs.Value.{IsLessThanAbove, IsWithinHalf, is_below, thinnest};
 ghost use Rattle.acas_flight_examples.specs.Numbers.{minus, over};
 ghost use Rattle.acas_flight_examples.specs.Searched.{after_a_hold, at_start, far_below, first_or_third, lasting_for, over_two, stepping, up_to_it};
 

@@ -1,9 +1,9 @@
 //! A search over an area of the small model, from 1/2 s to 7/3 s, under the advisory climb.
 ghost use Rattle.std.specs.Prelude.{◌≡◌, pos, neg_ℤ, ◌*◌, [], ◌∷◌};
 ghost use Rattle.acas_flight.specs.Values.{IsOver};
-ghost use Rattle.acas_passes.specs.Flights.{Flight, flight};
-ghost use Rattle.acas_passes.specs.Responses.{IsApproachFor, IsFlightFrom, IsHoldFor, IsResponse, IsToward, acceleration, fine, scale};
-ghost use Rattle.acas_passes.specs.Search.{grain, high_flight, high_time, low_flight, low_time, over_square, own_pass, pull_step, rate_step, time_step, unit};
+ghost use Rattle.acas_areas.specs.Flights.{Flight, flight};
+ghost use Rattle.acas_areas.specs.Responses.{IsApproachFor, IsFlightFrom, IsHoldFor, IsResponse, IsToward, acceleration, fine, scale};
+ghost use Rattle.acas_areas.specs.Search.{grain, high_flight, high_time, low_flight, low_time, over_square, own_pass, pull_step, rate_step, time_step, unit};
 ghost use Rattle.acas_flight_examples.specs.Flown.{climbing, near_area};
 ghost use Rattle.acas_flight_examples.specs.Numbers.{minus, over, segment, times};
 ghost use Rattle.acas_flight_examples.specs.Searched.{after_a_hold, eighth, past_hi, searched, seconds, square, steps, ways};

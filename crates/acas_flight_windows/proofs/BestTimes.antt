@@ -7,7 +7,7 @@ use lib.IntN.{*ℤ_comm}
 use Rattle.acas_frac.proofs.SignedProducts.{mul-le_ℤ, mul-lt_ℤ, le-from_mul_ℤ}
 use Rattle.acas_frac.proofs.IntRing.{at, ◌⊖◌, ◌⊗◌, ring}
 use Rattle.acas_frac.proofs.Orders.{by_below, le_of_lt_ℤ}
-use Rattle.acas_flight_laws.proofs.Rising.{scaled_le}
+use Rattle.acas_flight_lemmas.proofs.Rising.{scaled_le}
 use Rattle.acas_flight_windows.proofs.Borders.{lift_le, lift_lt, later_by, sooner_by, sooner_at}
 use Rattle.acas_flight.specs.Window.{Times, IsDuring}
 use Rattle.acas_flight.specs.Border.{border_of, border_gap, IsGapAt, IsLeastGap, turn, IsLate, IsSoon, IsNearestTime}

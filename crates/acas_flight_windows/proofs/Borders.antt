@@ -4,8 +4,8 @@ use Rattle.std.proofs.lemmas.Int.{ints}
 use lib.IntN.{*ℤ_comm}
 use Rattle.acas_frac.proofs.SignedProducts.{mul-le_ℤ, mul-lt_ℤ, le-from_mul_ℤ, lt-from_mul_ℤ}
 use Rattle.acas_frac.proofs.IntRing.{at, num, ◌⊕◌, ◌⊖◌, ◌⊗◌, ring, sub-mul_ℤ}
-use Rattle.acas_flight_laws.proofs.Held.{held-scaled}
-use Rattle.acas_flight_laws.proofs.Tangents.{gap, least_of_later, earlier_is_greater, earlier_than_slower}
+use Rattle.acas_flight_lemmas.proofs.Held.{held-scaled}
+use Rattle.acas_flight_lemmas.proofs.Tangents.{gap, least_of_later, earlier_is_greater, earlier_than_slower}
 use Rattle.acas_flight.specs.Contact.{vertical_separation}
 use Rattle.acas_flight.specs.Curves.{held}
 use Rattle.acas_flight.specs.Border.{Border, border_of, border_gap, IsGapAt}

@@ -7,7 +7,7 @@ use Rattle.acas_frac.proofs.SignedProducts.{le-trans_ℤ, mul-le_ℤ, mul-lt_ℤ
 use Rattle.acas_frac.proofs.IntRing.{at, ◌⊕◌, ◌⊗◌, ring}
 use Rattle.acas_frac.proofs.Orders.{by_above, le_of_lt_ℤ}
 use Rattle.acas_flight.proofs.Holding.{held-none}
-use Rattle.acas_flight_laws.proofs.Tangents.{gap, least_at_an_end, least_at_an_end_strict}
+use Rattle.acas_flight_lemmas.proofs.Tangents.{gap, least_at_an_end, least_at_an_end_strict}
 use Rattle.acas_flight_windows.proofs.Borders.{le_by, lt_by, lift_le, lift_lt, border_gap-gap}
 use Rattle.acas_flight.specs.Curves.{approach, held}
 use Rattle.acas_flight.specs.Window.{Times, IsDuring}

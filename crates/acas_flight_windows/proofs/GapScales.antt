@@ -4,7 +4,7 @@ use Rattle.std.specs.Int.Signed.{<ℤ-≤ℤ_trans}
 use lib.IntN.{*ℤ_comm}
 use Rattle.acas_frac.proofs.SignedProducts.{mul-lt_ℤ, lt-from_mul_ℤ}
 use Rattle.acas_frac.proofs.IntRing.{at, num, ◌⊕◌, ◌⊖◌, ◌⊗◌, ring, sub-mul_ℤ}
-use Rattle.acas_flight_laws.proofs.Held.{held-scaled}
+use Rattle.acas_flight_lemmas.proofs.Held.{held-scaled}
 use Rattle.acas_flight.specs.Contact.{vertical_separation}
 use Rattle.acas_flight.specs.Curves.{held}
 use Rattle.acas_flight.specs.Border.{Border, border_gap}

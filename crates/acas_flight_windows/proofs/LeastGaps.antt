@@ -12,9 +12,9 @@ use Rattle.acas_flight.specs.Extremes.{IsHighGapAt}
 use Rattle.acas_flight_windows.proofs.BestTimes.{best_least}
 use Rattle.acas_flight_windows.proofs.EndTimes.{first_least, last_least}
 use Rattle.acas_areas.specs.Limits.{AreEnds}
-use Rattle.acas_flight_laws.proofs.Scales.{cancel_left}
-use Rattle.acas_flight_laws.proofs.Gaps.{high_gap_of}
-use Rattle.acas_flight_laws.proofs.Numbers.{natural, strictly, test_true}
+use Rattle.acas_flight_lemmas.proofs.Scales.{cancel_left}
+use Rattle.acas_flight_lemmas.proofs.Gaps.{high_gap_of}
+use Rattle.acas_flight_lemmas.proofs.Numbers.{natural, strictly, test_true}
 
 pub first_of_ends : (v k : ℤ) (b g : ℕ) (h w : ℤ) (win : Times) (y z : Fraction) → k ≤ℤ v → g ≡ 0 → 0 < b → AreEnds win → IsFrac y → IsFrac z →
     IsGapAt (border_of v k b g h w) win.from y → IsGapAt (border_of v k b g h w) win.to z → int_le (y.num *ℤ pos z.den) (z.num *ℤ pos y.den) ≡ true → IsLeastGap (border_of v k b g h w) win win.from y

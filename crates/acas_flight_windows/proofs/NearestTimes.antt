@@ -12,7 +12,7 @@ use Rattle.acas_flight.specs.Border.{Border, border_of, turn, IsLate, IsSoon, Is
 use Rattle.acas_frac.proofs.IntRing.{at, ◌⊗◌, ring}
 use Rattle.acas_frac.proofs.Orders.{cases_lt_ℤ}
 use Rattle.acas_areas.specs.Limits.{AreEnds, IsEnd}
-use Rattle.acas_flight_laws.proofs.Numbers.{natural}
+use Rattle.acas_flight_lemmas.proofs.Numbers.{natural}
 
 -- a time x/p before the end n/d of a window
 pub before_end : (x p n d : ℕ) → 0 < d → n ≤ WINDOW_SECONDS * d → x * d ≤ n * p → x ≤ WINDOW_SECONDS * p

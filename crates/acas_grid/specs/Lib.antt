@@ -1,4 +1,3 @@
 pub mod Axis
 pub mod Grid
 pub mod States
-pub mod Examples

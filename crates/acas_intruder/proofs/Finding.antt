@@ -5,18 +5,18 @@ use Rattle.acas_flight.specs.Response.{Demand}
 use Rattle.acas_flight.specs.Window.{Times, IsDuring}
 use Rattle.acas_flight.specs.Clear.{Area}
 use Rattle.acas_areas.specs.Limits.{IsTime}
-use Rattle.acas_passes.specs.Search.{IsTimed, unit}
-use Rattle.acas_pass_laws.proofs.Neighbours.{unit_some}
-use Rattle.acas_manoeuvre.specs.Intruder.{Manoeuvre}
-use Rattle.acas_passes.specs.Value.{thinnest}
-use Rattle.acas_manoeuvre.specs.Apart.{IsApart}
-use Rattle.acas_manoeuvre.specs.Least.{IsRaceExtreme}
-use Rattle.acas_manoeuvre.specs.Race.{high_race, low_race, turned}
+use Rattle.acas_areas.specs.Search.{IsTimed, unit}
+use Rattle.acas_pass_lemmas.proofs.Neighbours.{unit_some}
+use Rattle.acas_meetings.specs.Intruder.{Manoeuvre}
+use Rattle.acas_areas.specs.Value.{thinnest}
+use Rattle.acas_meetings.specs.Apart.{IsApart}
+use Rattle.acas_meetings.specs.Least.{IsRaceExtreme}
+use Rattle.acas_meetings.specs.Race.{high_race, low_race, turned}
 use Rattle.acas_meetings.specs.Hunt.{CanMeet, IsHunt}
 use Rattle.acas_meetings.specs.Verdicts.{hunt_between}
-use Rattle.acas_hunt_laws.proofs.Founds.{found_course}
-use Rattle.acas_hunt_laws.proofs.Verdicts.{can-meet}
-use Rattle.acas_witness_laws.proofs.Meetings.{renamed}
+use Rattle.acas_hunt_lemmas.proofs.Founds.{found_course}
+use Rattle.acas_hunt_lemmas.proofs.Verdicts.{can-meet}
+use Rattle.acas_witness_lemmas.proofs.Meetings.{renamed}
 use Rattle.acas_witness.proofs.Contacts.{during_of}
 use Rattle.acas_meeting_search.specs.Courses.{IsFoundCourse}
 use Rattle.acas_meeting_search.specs.View.{hunt_of}

@@ -8,17 +8,17 @@ use Rattle.acas_flight.specs.Response.{demand_of}
 use Rattle.acas_flight.specs.Window.{IsWindowOfBox, Times}
 use Rattle.acas_flight.specs.Clear.{area_of_box}
 use Rattle.acas_areas.specs.Limits.{IsCurve}
-use Rattle.acas_passes.specs.Search.{unit}
+use Rattle.acas_areas.specs.Search.{unit}
 use Rattle.acas_rulings.specs.Boxes.{AuditedBox}
 use Rattle.acas_rulings.specs.Ranges.{IsBoxesRange, IsContactOfBox}
-use Rattle.acas_manoeuvre.specs.Intruder.{Manoeuvre}
-use Rattle.acas_manoeuvre.specs.declared.manoeuvre.Manoeuvre as declared
+use Rattle.acas_meetings.specs.Intruder.{Manoeuvre}
+use Rattle.acas_meetings.specs.declared.manoeuvre.Manoeuvre as declared
 use Rattle.acas_meetings.specs.Hunt.{Course, accel}
 use Rattle.acas_meetings.specs.Printed.{PrintsCourse, meeting_fractions}
 use Rattle.acas_meetings.specs.Verdicts.{IsMet, hunt_between}
 use Rattle.acas_meetings.specs.declared.meeting.Meeting.{Meeting}
-use Rattle.acas_hunt_laws.proofs.Prints.{printed-contact}
-use Rattle.acas_hunt_laws.proofs.Showing.{shown-endangers, shows-meeting}
+use Rattle.acas_hunt_lemmas.proofs.Prints.{printed-contact}
+use Rattle.acas_hunt_lemmas.proofs.Showing.{shown-endangers, shows-meeting}
 use Rattle.acas_witness_plans.specs.Plans.{IsPlanOf}
 use Rattle.acas_witness_plans.proofs.Overs.{whole_over_ℕ}
 use Rattle.acas_areas.proofs.Finer.{IsOver-finer}

@@ -4,11 +4,11 @@ use Rattle.acas_frac.specs.Fraction.{Fraction, whole_of}
 use Rattle.acas_flight.specs.Response.{Demand}
 use Rattle.acas_flight.specs.Window.{Times}
 use Rattle.acas_flight.specs.Clear.{Area}
-use Rattle.acas_passes.specs.Search.{unit}
-use Rattle.acas_passes.specs.Value.{thinnest}
-use Rattle.acas_manoeuvre.specs.Intruder.{Manoeuvre}
-use Rattle.acas_manoeuvre.specs.Least.{IsRaceExtreme}
-use Rattle.acas_manoeuvre.specs.Race.{high_race, low_race, turned}
+use Rattle.acas_areas.specs.Search.{unit}
+use Rattle.acas_areas.specs.Value.{thinnest}
+use Rattle.acas_meetings.specs.Intruder.{Manoeuvre}
+use Rattle.acas_meetings.specs.Least.{IsRaceExtreme}
+use Rattle.acas_meetings.specs.Race.{high_race, low_race, turned}
 use Rattle.acas_meetings.specs.Hunt.{CanMeet, Course, Finds, Hunt, IsHunt}
 use Rattle.acas_meetings.specs.Verdicts.{hunt_between}
 use Rattle.acas_meetings.specs.declared.meeting.Meeting.{Meeting}

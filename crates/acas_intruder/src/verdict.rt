@@ -1,14 +1,13 @@
 //! Verdicts on boxes against an intruder that may change its rate.
-ghost use Rattle.acas_manoeuvre.specs.Intruder.{RatesFit};
-ghost use Rattle.acas_manoeuvre.specs.View.{may_of};
+ghost use Rattle.acas_meetings.specs.Intruder.{RatesFit};
+ghost use Rattle.acas_meetings.specs.View.{may_of};
 ghost use Rattle.acas_rulings.specs.Boxes.{IsBoxOf, audited};
 ghost use Rattle.acas_meetings.specs.Verdicts.{IsMeetVerdict};
 
 use crate::courses::course_in;
 use crate::prints::meeting_of;
 use acas_base::Model;
-use acas_manoeuvre::Manoeuvre;
-use acas_meetings::MeetVerdict;
+use acas_meetings::{Manoeuvre, MeetVerdict};
 use acas_race::{Conflict, is_apart};
 use acas_region::window_of_box;
 use acas_rulings::AuditBox;

@@ -1,13 +1,13 @@
 -- From pass to pass.
 use Rattle.std.proofs.Common.{◌≡◌, ℕ, ◌<◌, ap, sym, subst, ◌∙◌, false, true≢false, Some, None, lit<}
 use Rattle.std.proofs.lemmas.Option.{same_Some}
-use Rattle.acas_passes.specs.Value.{is_below}
-use Rattle.acas_passes.specs.Passes.{IsGentle, IsLast}
-use Rattle.acas_pass_laws.proofs.Ends.{AllSome}
+use Rattle.acas_areas.specs.Value.{is_below}
+use Rattle.acas_areas.specs.Passes.{IsGentle, IsLast}
+use Rattle.acas_pass_lemmas.proofs.Ends.{AllSome}
 use Rattle.acas_meetings.specs.Hunt.{high_course}
-use Rattle.acas_hunt_laws.proofs.Gentle.{each_gentle}
-use Rattle.acas_hunt_laws.proofs.Joins.{joined, own-end}
-use Rattle.acas_hunt_laws.proofs.Somes.{each_some}
+use Rattle.acas_hunt_lemmas.proofs.Gentle.{each_gentle}
+use Rattle.acas_hunt_lemmas.proofs.Joins.{joined, own-end}
+use Rattle.acas_hunt_lemmas.proofs.Somes.{each_some}
 use Rattle.acas_witness_search.proofs.Chains.{end_here, end_later, first_below}
 use Rattle.acas_witness_search.specs.declared.quantity.Quantity.TheVariants.{Time, Altitude, Intruder, Aim, Pull, Hold, Own}
 use Rattle.acas_meeting_search.specs.declared.parts.Flown.{Flown}

@@ -1,8 +1,8 @@
 -- A pursuit's hunt may be searched.
 use Rattle.std.proofs.Common.{◌≡◌, ◌<◌, ap, arith, pos, neg_ℤ, unsigned_abs, mul-pos}
 use Rattle.std.proofs.lemmas.Int.{ints}
-use Rattle.acas_passes.specs.Search.{grain}
-use Rattle.acas_pass_laws.proofs.Neighbours.{unit_some}
+use Rattle.acas_areas.specs.Search.{grain}
+use Rattle.acas_pass_lemmas.proofs.Neighbours.{unit_some}
 use Rattle.acas_witness_search.specs.Surveys.{search_of}
 use Rattle.acas_witness_search.proofs.Chains.{search_fine}
 use Rattle.acas_meetings.specs.Hunt.{IsHunt}

@@ -1,8 +1,8 @@
 -- Courses as flown, and where a search through passes of a pursuit leads.
 use Rattle.std.specs.Prelude.{◌≡◌, ℕ, ◌<◌, true}
 use Rattle.acas_frac.specs.Fraction.{Fraction, Same}
-use Rattle.acas_passes.specs.Passes.{below_at}
-use Rattle.acas_passes.specs.Search.{unit}
+use Rattle.acas_areas.specs.Passes.{below_at}
+use Rattle.acas_areas.specs.Search.{unit}
 use Rattle.acas_witness_plans.specs.Plans.{IsPlanOf, CanBeFlown}
 use Rattle.acas_witness_search.specs.Passes.{IsMissed, IsHit, IsEndOf}
 use Rattle.acas_witness_search.specs.Surveys.{search_of}

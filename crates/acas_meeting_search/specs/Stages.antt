@@ -1,7 +1,7 @@
 -- The passes of a hunt by what they move, and their order.
 use Rattle.std.specs.Prelude.{Option, Some, List, ◌∷◌, map, ℤ}
 use Rattle.std.specs.Option.{option_map}
-use Rattle.acas_passes.specs.Passes.{Pass}
+use Rattle.acas_areas.specs.Passes.{Pass}
 use Rattle.acas_witness_search.specs.declared.quantity.Quantity.{Quantity}
 use Rattle.acas_witness_search.specs.declared.quantity.Quantity.TheVariants.{Time, Altitude, Intruder}
 use Rattle.acas_witness_search.specs.Order as quantities

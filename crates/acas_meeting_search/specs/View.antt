@@ -1,5 +1,5 @@
 -- The hunt of a pursuit.
-use Rattle.acas_manoeuvre.specs.View.{may_of}
+use Rattle.acas_meetings.specs.View.{may_of}
 use Rattle.acas_witness_search.specs.Surveys.{search_of}
 use Rattle.acas_meetings.specs.Hunt.{Hunt}
 use Rattle.acas_meeting_search.specs.declared.pursuit.Pursuit.{Pursuit}

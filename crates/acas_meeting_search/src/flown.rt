@@ -2,13 +2,13 @@
 ghost use Rattle.std.specs.Prelude.{◌≡◌, ◌*◌, ◌^◌, ◌<◌, ◌≤◌, ◌↔◌, IsTrue, pos, ◌*ℤ◌, unsigned_abs};
 ghost use Rattle.acas_frac.specs.Fraction.{Fraction, IsFrac, whole_of};
 ghost use Rattle.acas_flight.specs.Values.{IsApproach, IsHeld};
-ghost use Rattle.acas_passes.specs.Value.{IsWithinHalf, is_below};
+ghost use Rattle.acas_areas.specs.Value.{IsWithinHalf, is_below};
 ghost use Rattle.acas_witness_plans.specs.Plans.{CanBeFlown};
 ghost use Rattle.acas_meeting_search.specs.Turns.{CanBeFlownWith, value_in};
 
 use crate::parts::{Flown, Turn};
 use acas_frac::Frac;
-use acas_manoeuvre::Manoeuvre;
+use acas_meetings::Manoeuvre;
 use acas_region_curves::{approach, held};
 use acas_units::{GREATEST_HALF_HEIGHT, TICKS_PER_FOOT};
 use acas_witness_plans::{Plan, difference_parts, known};

@@ -3,8 +3,8 @@ ghost use Rattle.std.specs.Prelude.{◌≡◌, ℕ, ◌*◌, pos, ◌*ℤ◌, ne
 ghost use Rattle.acas_frac.specs.Fraction.{whole_of};
 ghost use Rattle.acas_flight.specs.Values.{IsOver};
 ghost use Rattle.acas_areas.specs.Limits.{IsRate, IsTime};
-ghost use Rattle.acas_passes.specs.Passes.{falling};
-ghost use Rattle.acas_passes.specs.Search.{rate_step};
+ghost use Rattle.acas_areas.specs.Passes.{falling};
+ghost use Rattle.acas_areas.specs.Search.{rate_step};
 ghost use Rattle.acas_witness_plans.specs.Plans.{CanBeFlown, IsPlanOf};
 ghost use Rattle.acas_meetings.specs.Hunt.{Course, bottom, top};
 ghost use Rattle.acas_meeting_search.specs.Courses.{point_of, unit_of};

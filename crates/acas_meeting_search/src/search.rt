@@ -1,6 +1,6 @@
 //! The search of a meeting through all passes.
 ghost use Rattle.std.specs.Prelude.{◌≡◌, false, MatchOption};
-ghost use Rattle.acas_passes.specs.Value.{is_below};
+ghost use Rattle.acas_areas.specs.Value.{is_below};
 ghost use Rattle.acas_meetings.specs.Hunt.{CanMeet, high_course, low_course};
 ghost use Rattle.acas_meeting_search.specs.Courses.{IsEndFrom, IsFlownOf, IsFoundCourse, IsHitIn, IsMissedIn, IsOutcomeOf, StartsBelow, value_at};
 ghost use Rattle.acas_meeting_search.specs.View.{hunt_of};
@@ -10,7 +10,7 @@ use crate::parts::Flown;
 use crate::pursuit::Pursuit;
 use crate::stage::Stage;
 use crate::stage_pass::StagePass;
-use acas_passes::{Pass, halve};
+use acas_areas::{Pass, halve};
 use acas_witness_plans::rate_steps;
 use acas_witness_search::Quantity;
 

@@ -6,7 +6,7 @@ use crate::flown::{fly_against, is_under};
 use crate::parts::Flown;
 use crate::pursuit::Pursuit;
 use crate::stage::Stage;
-use acas_passes::Pass;
+use acas_areas::Pass;
 
 /// A pass of a pursuit, and the number of its last point.
 #[derive(Clone, Copy)]

@@ -3,11 +3,11 @@ use Rattle.std.specs.Prelude.{ℕ, ◌*◌, ◌<◌, ◌≤◌, List, [], ◌∷
 use Rattle.acas_frac.specs.Fraction.{Fraction}
 use Rattle.acas_flight.specs.Curves.{approach, held}
 use Rattle.acas_flight.specs.Response.{Segment}
-use Rattle.acas_passes.specs.Flights.{Flight, flight}
-use Rattle.acas_passes.specs.Passes.{Pass, IsFound, moving_down}
-use Rattle.acas_passes.specs.Responses.{IsResponse}
-use Rattle.acas_passes.specs.Search.{Search, IsSearch, unit, rate_step, over_square, low_flight, high_flight, after_altitude, time_pass, altitude_pass, intruder_pass, aim_pass, pull_pass, hold_pass, own_pass, fastest}
-use Rattle.acas_manoeuvre.specs.Intruder.{Manoeuvre}
+use Rattle.acas_areas.specs.Flights.{Flight, flight}
+use Rattle.acas_areas.specs.Passes.{Pass, IsFound, moving_down}
+use Rattle.acas_areas.specs.Responses.{IsResponse}
+use Rattle.acas_areas.specs.Search.{Search, IsSearch, unit, rate_step, over_square, low_flight, high_flight, after_altitude, time_pass, altitude_pass, intruder_pass, aim_pass, pull_pass, hold_pass, own_pass, fastest}
+use Rattle.acas_meetings.specs.Intruder.{Manoeuvre}
 
 -- A flight of the search, and the rate to which the intruder goes, over q^2: its rate at the start is the flight's.
 pub record Course : Type 0 where

@@ -8,15 +8,15 @@ use Rattle.acas_flight.specs.State.{State}
 use Rattle.acas_flight.specs.Window.{IsWindowOfBox, Times}
 use Rattle.acas_flight.specs.Clear.{Area, area_of_box}
 use Rattle.acas_flight.specs.Values.{IsOver}
-use Rattle.acas_passes.specs.Search.{unit}
+use Rattle.acas_areas.specs.Search.{unit}
 use Rattle.acas_rulings.specs.Boxes.{AuditedBox}
 use Rattle.acas_rulings.specs.Printed.{AreParts, segments_of}
 use Rattle.acas_rulings.specs.Ranges.{IsBoxesRange}
 use Rattle.acas_rulings.specs.Witness.{search_between}
-use Rattle.acas_manoeuvre.specs.Intruder.{Manoeuvre}
-use Rattle.acas_manoeuvre.specs.Least.{IsRaceExtreme}
-use Rattle.acas_manoeuvre.specs.Meeting.{IsEndangeredBy, IsMeeting, MeetsDuring}
-use Rattle.acas_manoeuvre.specs.Race.{high_race, low_race, turned}
+use Rattle.acas_meetings.specs.Intruder.{Manoeuvre}
+use Rattle.acas_meetings.specs.Least.{IsRaceExtreme}
+use Rattle.acas_meetings.specs.Meeting.{IsEndangeredBy, IsMeeting, MeetsDuring}
+use Rattle.acas_meetings.specs.Race.{high_race, low_race, turned}
 use Rattle.acas_meetings.specs.Hunt.{Course, Finds, Hunt, accel}
 use Rattle.acas_meetings.specs.Printed.{PrintsCourse, against_of, meeting_fractions}
 use Rattle.acas_meetings.specs.declared.meeting.Meeting.{Meeting}

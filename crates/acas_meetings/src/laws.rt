@@ -2,9 +2,9 @@
 ghost use Rattle.std.specs.Prelude.{◌≡◌, ℕ, ◌*◌, ℤ, pos, neg_ℤ, ◌+ℤ◌, ◌-ℤ◌, ◌*ℤ◌, List, [], ◌∷◌};
 ghost use Rattle.acas_spec.specs.Model.{ModelData};
 ghost use Rattle.acas_flight.specs.Curves.{approach, held};
-ghost use Rattle.acas_passes.specs.Search.{aim_pass, altitude_pass, high_flight, hold_pass, intruder_pass, low_flight, own_pass, over_square, pull_pass, time_pass};
+ghost use Rattle.acas_areas.specs.Search.{aim_pass, altitude_pass, high_flight, hold_pass, intruder_pass, low_flight, own_pass, over_square, pull_pass, time_pass};
 ghost use Rattle.acas_rulings.specs.Boxes.{AuditedBox};
-ghost use Rattle.acas_manoeuvre.specs.Intruder.{Manoeuvre};
+ghost use Rattle.acas_meetings.specs.Intruder.{Manoeuvre};
 ghost use Rattle.acas_meetings.specs.Hunt.{Course, Hunt, course, goal_pass, high_course, low_course, passes, toward, value};
 ghost use Rattle.acas_meetings.specs.Verdicts.{IsMeetVerdict};
 ghost use Rattle.acas_meetings.specs.declared.meeting.Meeting.{Meeting};

@@ -1,11 +1,16 @@
-//! What is said of a box against an intruder that may change its rate, as data and as definitions: the rule that fixes a meeting, how it
-//! is printed, and verdicts. What is true of them is in `acas_hunt_laws` and `acas_ruling_laws`.
+//! An intruder that may change its rate, as definitions: its flights, the danger of them, and when an area is apart from all of them; and
+//! what is said of a box against it, as data and as definitions: the rule that fixes a meeting, how it is printed, and verdicts. What is
+//! true of them is in `acas_manoeuvre_lemmas`, `acas_hunt_lemmas`, `acas_flight_laws` and `acas_ruling_laws`.
 #![tactic(auto)]
 
+mod intruder_laws;
 mod laws;
+mod manoeuvre;
 mod meeting;
 mod verdict;
 
+pub use intruder_laws::{intruders_fly_within_two_numbers, meetings_in_numbers, races_in_numbers};
 pub use laws::{courses_in_numbers, hunts_pass_in_order, verdicts_exclude_each_other};
+pub use manoeuvre::Manoeuvre;
 pub use meeting::Meeting;
 pub use verdict::MeetVerdict;

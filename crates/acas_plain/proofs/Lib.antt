@@ -1,2 +1,3 @@
+mod OneCornerSet
 mod Below
 mod StateChecks

@@ -6,11 +6,12 @@ ghost use Rattle.acas_means.specs.Layer.{AreWithin, layer_values};
 ghost use Rattle.acas_step_stencils.specs.Stencils.{AreStencilsOf};
 ghost use Rattle.acas_means.specs.Values.{counted, value_with_cost};
 
+use crate::cell_search::CellSearch;
 use acas_base::Model;
 use acas_frac::Rounding;
 use acas_means::Side;
 use acas_spec::Choice;
-use acas_step::{CellSearch, LedTo, mean_by};
+use acas_step::{LedTo, mean_by};
 use acas_step_choices::{Backups, MeanSource, value_over};
 use acas_step_stencils::Stencils;
 use acas_units::Pair;

@@ -10,10 +10,10 @@ ghost use Rattle.acas_means.specs.Means.{AreMeansOf, AreVertexMeans};
 ghost use Rattle.acas_bounds.specs.Checks.{AnswersFault, OfBelow, state_fault};
 ghost use Rattle.acas_plain.specs.Checks.{MayAdvise};
 
+use crate::means::means_at;
 use acas_base::Model;
 use acas_bounds::{BoundFault, check_at, check_at_vertex};
 use acas_means::VertexMeans;
-use acas_step::means_at;
 use acas_units::{Entry, GREATEST_ADVISORIES, Pair};
 
 // The present advisory of a state and the number of its vertex.

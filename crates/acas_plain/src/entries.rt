@@ -7,9 +7,9 @@ ghost use Rattle.acas_means.specs.Choices.{choice_count};
 ghost use Rattle.acas_means.specs.Layer.{AreWithin};
 ghost use Rattle.acas_means.specs.declared.layer.Side.{Side};
 
+use crate::means::means_at;
 use acas_base::Model;
 use acas_means::VertexMeans;
-use acas_step::means_at;
 use acas_step_choices::{Backups, VertexEntries, VertexMeansSource, entries_over};
 use acas_units::Pair;
 

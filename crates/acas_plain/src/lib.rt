@@ -3,13 +3,18 @@
 #![tactic(auto)]
 
 mod backups;
+mod cell_search;
 mod check;
 mod entries;
+mod laws;
 mod layer;
 mod list;
+mod means;
 mod vertex;
 
 pub use backups::{backup, backup_by, backup_with};
 pub use check::{check_by_means, check_entry};
 pub use entries::entries_at;
+pub use laws::corners_are_one;
 pub use list::sweep_list;
+pub use means::{fill_means, mean, means_at};

@@ -4,7 +4,6 @@ pub mod Least
 pub mod AxisLaws
 pub mod VertexLaws
 pub mod MeanLaws
-pub mod CompiledLaws
 pub mod HatLaws
 pub mod CellLaws
 pub mod SizeLaws

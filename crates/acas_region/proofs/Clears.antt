@@ -13,7 +13,7 @@ use Rattle.acas_flight.specs.Border.{Border, border_of, border_gap, gap_number, 
 use Rattle.acas_frac.proofs.IntRing.{at, ◌⊗◌, ring}
 use Rattle.acas_frac.proofs.Orders.{cases_lt_ℤ, neg-lt_ℤ}
 use Rattle.acas_flight_windows.proofs.EndTimes.{first_least, last_least}
-use Rattle.acas_flight_laws.proofs.Gaps.{IsGapAt-of, low_pull-border, high_pull-border, least_gap-border, greatest_gap-border}
+use Rattle.acas_flight_lemmas.proofs.Gaps.{IsGapAt-of, low_pull-border, high_pull-border, least_gap-border, greatest_gap-border}
 use Rattle.acas_areas.specs.Chases.{StaysOver}
 use Rattle.acas_areas.specs.Limits.{AreEnds}
 use Rattle.acas_flight_windows.proofs.LeastGaps.{least_of_nearest}

@@ -6,7 +6,7 @@ use Rattle.acas_frac.proofs.IntRing.{at, num, ◌⊗◌, ring}
 use Rattle.acas_frac.proofs.Orders.{cases_lt_ℤ}
 use Rattle.acas_flight.proofs.Between.{test_lt, test_ge}
 use Rattle.acas_flight.proofs.Holding.{held-none}
-use Rattle.acas_flight_laws.proofs.Gaps.{cond_times, cond_none}
+use Rattle.acas_flight_lemmas.proofs.Gaps.{cond_times, cond_none}
 use Rattle.acas_frac.specs.Fraction.{Fraction, whole_of}
 use Rattle.acas_flight.specs.Response.{Demand, scaled}
 use Rattle.acas_flight.specs.Curves.{low_pull, high_pull, lowest, highest}

@@ -4,7 +4,7 @@ use Rattle.std.specs.Int.{w64}
 use Rattle.std.proofs.lemmas.Int.{ints, unsigned_abs-mul}
 use Rattle.acas_units.specs.declared.limits.TheConstants.{GREATEST_CLOSING, GREATEST_LIMIT}
 use Rattle.acas_flight.proofs.Curves.{steady}
-use Rattle.acas_flight_laws.proofs.Held.{held_one_form}
+use Rattle.acas_flight_lemmas.proofs.Held.{held_one_form}
 use Rattle.acas_frac.specs.Fraction.{ReducesWithinBounds}
 use Rattle.acas_flight.specs.Curves.{held}
 use Rattle.acas_flight.specs.Values.{all_lost}

@@ -3,7 +3,7 @@ use Rattle.std.proofs.Common.{◌≡◌, ℕ, ◌-◌, ◌*◌, ◌^◌, ◌<◌
 use Rattle.std.proofs.lemmas.Int.{ints, unsigned_abs-mul}
 use Rattle.std.proofs.lemmas.Bool.{cases_lt}
 use Rattle.acas_frac.proofs.IntRing.{at, ◌⊖◌, ◌⊗◌, ring}
-use Rattle.acas_flight_laws.proofs.Held.{held_one_form, IsHeld-over}
+use Rattle.acas_flight_lemmas.proofs.Held.{held_one_form, IsHeld-over}
 use Rattle.acas_frac.specs.Fraction.{Fraction, ReducesWithinBounds}
 use Rattle.acas_flight.specs.Curves.{held}
 use Rattle.acas_flight.specs.Values.{IsHeld}

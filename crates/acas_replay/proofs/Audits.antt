@@ -18,7 +18,7 @@ use Rattle.acas_flight.specs.State.{IsInCell, IsInside, State, from_place}
 use Rattle.acas_cells.specs.Order.{IsAdvisoryCell, IsCorner, cell_of}
 use Rattle.acas_cells.specs.declared.name.CellName.{CellName}
 use Rattle.acas_cells.proofs.Exact.{in_advisory_cells}
-use Rattle.acas_encounter.specs.Encounter.{EncounterData, IsEncounterOf, seconds}
+use Rattle.acas_replay.specs.Encounter.{EncounterData, IsEncounterOf, seconds}
 use Rattle.acas_replay.specs.Audited.{IsAudited, IsOfCells, flight_state}
 use Rattle.acas_replay.specs.Issue.{IsIssued, IsLayerOf, IsNearestVertex, IsTabledFor}
 use Rattle.acas_replay.specs.Replay.{Course, IsCourse, state_at}

@@ -3,8 +3,8 @@ use Rattle.std.proofs.Common.{ℕ, ◌+◌, ◌*◌, ◌<◌, ◌≤◌, ℤ, po
 use Rattle.std.proofs.lemmas.Int.{ints}
 use Rattle.acas_units.specs.declared.limits.TheConstants.{GREATEST_CLOSING, GREATEST_SECONDS}
 use Rattle.acas_spec.specs.Axis.{IsBetween}
-use Rattle.acas_encounter.specs.Encounter.{EncounterData, IsEncounter, intruder_at, own_at, seconds}
-use Rattle.acas_encounter.specs.declared.limits.TheConstants.{GREATEST_ACCELERATION, GREATEST_START_RANGE, LEAST_ACCELERATION}
+use Rattle.acas_replay.specs.Encounter.{EncounterData, IsEncounter, intruder_at, own_at, seconds}
+use Rattle.acas_replay.specs.declared.limits.TheConstants.{GREATEST_ACCELERATION, GREATEST_START_RANGE, LEAST_ACCELERATION}
 use Rattle.acas_replay.specs.States.{state_after}
 use Rattle.acas_replay.specs.Flown.{IsReached, altitude_size, rate_size}
 use Rattle.acas_replay.specs.declared.state.EncounterState.{EncounterState}

@@ -5,7 +5,7 @@ use Rattle.std.proofs.lemmas.Int.{ints}
 use Rattle.acas_spec.specs.Limits.{IsModel}
 use Rattle.acas_spec.specs.Model.{ModelData}
 use Rattle.acas_base.specs.Advices.{AdvicesData}
-use Rattle.acas_encounter.specs.Encounter.{EncounterData, IsEncounter, intruder_at, own_at, seconds}
+use Rattle.acas_replay.specs.Encounter.{EncounterData, IsEncounter, intruder_at, own_at, seconds}
 use Rattle.acas_replay.specs.Contact.{HasContact}
 use Rattle.acas_replay.specs.declared.second.Second.{Second}
 use Rattle.acas_replay.proofs.SecondContacts.{contact_or_none}

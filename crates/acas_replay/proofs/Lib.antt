@@ -1,3 +1,6 @@
+pub mod Read
+pub mod Pass
+pub mod Faults
 pub mod Signs
 pub mod Parabolas
 pub mod Crossings

@@ -7,7 +7,7 @@ use Rattle.acas_outside.proofs.Appended.{appends_none}
 use Rattle.acas_outside.specs.Printing.{Prints, below}
 use Rattle.acas_outside.proofs.PrintedPieces.{part_of_longer, part_of_next, prints_all, prints_both}
 use Rattle.acas_base.specs.Advices.{AdvicesData}
-use Rattle.acas_encounter.specs.Encounter.{EncounterData, seconds}
+use Rattle.acas_replay.specs.Encounter.{EncounterData, seconds}
 use Rattle.acas_replay.specs.Replay.{Course, IsCourse, contacts, counts_line, line_of, replay_text, second_line, state_at}
 use Rattle.acas_replay.specs.declared.state.EncounterState.{EncounterState}
 use Rattle.acas_replay.specs.Flown.{IsFound}

@@ -5,8 +5,8 @@ use Rattle.acas_units.specs.declared.ticks.TheConstants.{TICKS_PER_FOOT}
 use Rattle.acas_spec.specs.Model.{ModelData}
 use Rattle.acas_outside.specs.Printing.{below}
 use Rattle.acas_base.specs.Advices.{AdvicesData, AreAdvicesOf}
-use Rattle.acas_encounter.specs.Encounter.{EncounterData, IsEncounterOf, intruder_at, own_at, seconds}
-use Rattle.acas_encounter.specs.declared.limits.TheConstants.{GREATEST_ACCELERATION, GREATEST_START_RANGE}
+use Rattle.acas_replay.specs.Encounter.{EncounterData, IsEncounterOf, intruder_at, own_at, seconds}
+use Rattle.acas_replay.specs.declared.limits.TheConstants.{GREATEST_ACCELERATION, GREATEST_START_RANGE}
 use Rattle.acas_process.specs.Axis.{tent}
 use Rattle.acas_replay.specs.Contact.{HasContact}
 use Rattle.acas_replay.specs.States.{second_from}

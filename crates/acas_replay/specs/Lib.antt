@@ -1,3 +1,8 @@
+pub mod Encounter
+pub mod Start
+pub mod Accelerations
+pub mod Whole
+pub mod Text
 pub mod Contact
 pub mod Seconds
 pub mod Parabola

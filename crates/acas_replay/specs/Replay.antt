@@ -4,7 +4,7 @@ use Rattle.std.specs.Fmt.{decimal, signed_decimal}
 use Rattle.acas_spec.specs.Model.{ModelData, advisory_at}
 use Rattle.acas_outside.specs.Printing.{below}
 use Rattle.acas_base.specs.Advices.{AdvicesData}
-use Rattle.acas_encounter.specs.Encounter.{EncounterData, intruder_at, own_at, seconds}
+use Rattle.acas_replay.specs.Encounter.{EncounterData, intruder_at, own_at, seconds}
 use Rattle.acas_replay.specs.Contact.{HasContact}
 use Rattle.acas_replay.specs.declared.second.Second.{Second}
 use Rattle.acas_replay.specs.States.{second_from, start_of, state_after}

@@ -1,6 +1,6 @@
 -- The states of an encounter, second by second.
 use Rattle.std.specs.Prelude.{ℕ, ℤ, ◌-ℤ◌}
-use Rattle.acas_encounter.specs.Encounter.{EncounterData}
+use Rattle.acas_replay.specs.Encounter.{EncounterData}
 use Rattle.acas_process.specs.Step.{after_second}
 use Rattle.acas_replay.specs.declared.second.Second.{Second}
 use Rattle.acas_replay.specs.declared.state.EncounterState.{EncounterState}

@@ -3,7 +3,7 @@ ghost use Rattle.std.specs.Prelude.{◌≡◌, ◌↔◌, ◌<◌, ◌≤◌, �
 ghost use Rattle.acas_spec.specs.Limits.{IsModel};
 ghost use Rattle.acas_spec.specs.Model.{ModelData};
 ghost use Rattle.acas_base.specs.Advices.{AdvicesData, AreAdvices, AreAdvicesOf};
-ghost use Rattle.acas_encounter.specs.Encounter.{EncounterData, IsEncounter, IsEncounterOf, seconds};
+ghost use Rattle.acas_replay.specs.Encounter.{EncounterData, IsEncounter, IsEncounterOf, seconds};
 ghost use Rattle.acas_flight.specs.Contact.{IsInContact};
 ghost use Rattle.acas_replay.specs.Contact.{IsContactAt};
 ghost use Rattle.acas_replay.specs.Audited.{IsAudited, IsOfCells, flight_state, own_climb};

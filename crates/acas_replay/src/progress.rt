@@ -1,7 +1,7 @@
 //! How far a replay is.
 ghost use Rattle.std.specs.Prelude.{◌+◌, ◌<◌, IsTrue, ◌↔◌};
 ghost use Rattle.acas_base.specs.Advices.{AreAdvicesOf};
-ghost use Rattle.acas_encounter.specs.Encounter.{IsEncounterOf, seconds};
+ghost use Rattle.acas_replay.specs.Encounter.{IsEncounterOf, seconds};
 ghost use Rattle.acas_replay.specs.Contact.{HasContact};
 ghost use Rattle.acas_replay.specs.Seconds.{IsSecond};
 
@@ -10,7 +10,7 @@ use crate::issue::issued_advice;
 use crate::second::Second;
 use crate::state::EncounterState;
 use acas_base::{Advices, Model};
-use acas_encounter::Encounter;
+use crate::Encounter;
 
 /// An encounter, and the model and the advices of a table under which it is replayed.
 #[derive(Clone, Copy)]

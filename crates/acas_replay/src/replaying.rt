@@ -1,7 +1,7 @@
 //! The replay of an encounter, line by line to a sink.
 ghost use Rattle.std.specs.Prelude.{◌≡◌, ◌+◌, ◌<◌, ◌++◌, ℕ, List, [], OnOk, OnErr, IfOk, IsErr, IsErrOf};
 ghost use Rattle.acas_base.specs.Advices.{AreAdvicesOf};
-ghost use Rattle.acas_encounter.specs.Encounter.{IsEncounterOf, seconds};
+ghost use Rattle.acas_replay.specs.Encounter.{IsEncounterOf, seconds};
 ghost use Rattle.acas_outside.specs.Bytes.{Appends, AppendsPart};
 ghost use Rattle.acas_outside.specs.Frame.{Emits};
 ghost use Rattle.acas_outside.specs.Printing.{Prints};
@@ -11,7 +11,7 @@ ghost use Rattle.acas_replay.specs.Replay.{Course, IsReplay};
 use crate::lines::{write_counts, write_line};
 use crate::progress::{Progress, Replayed};
 use acas_base::{Advices, Model};
-use acas_encounter::Encounter;
+use crate::Encounter;
 use acas_outside::{Failed, Pen, PrintFault, Sink};
 use std::alloc::Global;
 

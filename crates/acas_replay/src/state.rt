@@ -1,12 +1,12 @@
 //! The states of an encounter.
 ghost use Rattle.std.specs.Prelude.{◌≡◌, ◌+◌, ◌≤◌, ℕ, pos, ◌+ℤ◌, ◌-ℤ◌, ◌*ℤ◌, unsigned_abs};
 ghost use Rattle.acas_units.specs.declared.limits.TheConstants.{GREATEST_SECONDS};
-ghost use Rattle.acas_encounter.specs.declared.limits.TheConstants.{GREATEST_ACCELERATION};
+ghost use Rattle.acas_replay.specs.declared.limits.TheConstants.{GREATEST_ACCELERATION};
 ghost use Rattle.acas_replay.specs.Seconds.{IsSecond};
 ghost use Rattle.acas_replay.specs.declared.second.TheConstants.{LARGEST_ALTITUDE, LARGEST_RATE};
 
 use crate::second::Second;
-use acas_encounter::{Encounter, GREATEST_ACCELERATION};
+use crate::{Encounter, GREATEST_ACCELERATION};
 use acas_spec::Point;
 use acas_units::GREATEST_SECONDS;
 

@@ -13,7 +13,7 @@ use Rattle.acas_report_lines.specs.Text.{is_certified}
 use Rattle.acas_report_lines.proofs.Reports.{report-of}
 use Rattle.acas_report_lines.specs.declared.counts.Counts.{Counts}
 use Rattle.acas_report_lines.specs.declared.counts.Which.{Which}
-use Rattle.acas_report_cells.specs.Report.{IsReport, clear_cells, report_text}
+use Rattle.acas_report_lines.specs.CellReport.{IsReport, clear_cells, report_text}
 use Rattle.acas_report.specs.Verdicts.{IsVerdict, IsVerdictOnCell}
 
 pub verdict : (m : ModelData) (advisory : ℕ) (IsIn : ℕ → State → Type 0) (IsRule : Witness → Type 0) (ruling : Ruling) → IsRuling m advisory IsIn IsRule ruling → IsVerdict m advisory IsIn ruling

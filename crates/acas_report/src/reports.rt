@@ -6,14 +6,13 @@ ghost use Rattle.acas_rulings.specs.Boxes.{AreBoxesOf};
 ghost use Rattle.acas_audit_blocks.specs.Decisions.{AreAuditsDecisions};
 ghost use Rattle.acas_report_lines.specs.Regions.{IsRegionsReport, IsRegionsReportBegun};
 ghost use Rattle.acas_report_lines.specs.Report.{WroteReport};
-ghost use Rattle.acas_report_cells.specs.Report.{IsReport, IsReportBegun};
+ghost use Rattle.acas_report_lines.specs.CellReport.{IsReport, IsReportBegun};
 
 use crate::sources::{ByBlocks, OneByOne};
 use acas_audit_blocks::{BlockAudit, Decisions};
 use acas_base::{Advices, Model};
 use acas_outside::{PrintFault, Sink};
-use acas_report_cells::{Audit, write_report_by};
-use acas_report_lines::{Counts, Which, write_boxes_by};
+use acas_report_lines::{Audit, Counts, Which, write_boxes_by, write_report_by};
 use acas_rulings::Boxes;
 use std::alloc::Global;
 

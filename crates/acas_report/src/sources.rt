@@ -9,8 +9,7 @@ ghost use Rattle.acas_report.specs.Ready.{IsReady};
 use acas_audit_blocks::{BlockAudit, DecidedBlock, Decisions};
 use acas_base::{Advices, Model};
 use acas_cells::{AdviceSet, CellName, advices_at};
-use acas_report_cells::{Place, Rulings};
-use acas_report_lines::BoxSource;
+use acas_report_lines::{BoxSource, Place, Rulings};
 use acas_rulings::{AuditBox, Ruling};
 use acas_witness::{box_verdict, verdict, witness_of};
 

@@ -9,7 +9,7 @@ use Rattle.acas_cells.specs.Corners.{advisory_cells}
 use Rattle.acas_rulings.specs.Rulings.{IsRulingOfCell}
 use Rattle.acas_cells.specs.declared.name.CellName.{CellName}
 use Rattle.acas_cells.proofs.Lists.{all_members, of_below, of_one}
-use Rattle.acas_manoeuvre.specs.Intruder.{Manoeuvre}
+use Rattle.acas_meetings.specs.Intruder.{Manoeuvre}
 use Rattle.acas_report_lines.specs.Meetings.{IsMeetVerdictAt, IsMeetingsBegun, IsMeetingsReport, as_counts, is_safe, meetings_text}
 use Rattle.acas_report_lines.specs.Report.{counts_of}
 use Rattle.acas_report_lines.specs.Text.{is_certified}
@@ -18,7 +18,7 @@ use Rattle.acas_report_lines.specs.declared.counts.Counts.{Counts}
 use Rattle.acas_report_lines.specs.declared.counts.Which.{Which}
 use Rattle.acas_report_lines.specs.declared.meet_counts.MeetCounts.{MeetCounts}
 use Rattle.acas_report_lines.proofs.Begun.{HasRuling}
-use Rattle.acas_report_cells.specs.Report.{IsReport, IsReportBegun, clear_cells, report_text}
+use Rattle.acas_report_lines.specs.CellReport.{IsReport, IsReportBegun, clear_cells, report_text}
 use Rattle.acas_report_laws.specs.Told.{IsNameOf}
 use Rattle.acas_report_laws.proofs.Honest.{audit_names}
 use Rattle.acas_report_laws.proofs.One.{HasOneRuling, begun_report, one_report, some_report}

@@ -12,7 +12,7 @@ ghost use Rattle.acas_cells.specs.Corners.{advisory_cells};
 ghost use Rattle.acas_cells.specs.Order.{by_numbers};
 ghost use Rattle.acas_cells.specs.declared.name.CellName.{CellName};
 ghost use Rattle.acas_rulings.specs.declared.ruling.Ruling.{Ruling};
-ghost use Rattle.acas_manoeuvre.specs.Intruder.{Manoeuvre};
+ghost use Rattle.acas_meetings.specs.Intruder.{Manoeuvre};
 ghost use Rattle.acas_meetings.specs.declared.verdict.MeetVerdict.{MeetVerdict};
 ghost use Rattle.acas_report_lines.specs.Meetings.{IsMeetVerdictAt, IsMeetingsBegun, IsMeetingsReport, meetings_text};
 ghost use Rattle.acas_report_lines.specs.Regions.{IsRegionsReport, IsRegionsReportBegun, places, regions_text};
@@ -21,7 +21,7 @@ ghost use Rattle.acas_report_lines.specs.declared.counts.Counts.{Counts};
 ghost use Rattle.acas_report_lines.specs.declared.counts.Which.{Which};
 ghost use Rattle.acas_report_lines.specs.declared.counts.Which.TheVariants as which;
 ghost use Rattle.acas_report_lines.specs.declared.meet_counts.MeetCounts.{MeetCounts};
-ghost use Rattle.acas_report_cells.specs.Report.{IsReport, IsReportBegun, report_text};
+ghost use Rattle.acas_report_lines.specs.CellReport.{IsReport, IsReportBegun, report_text};
 ghost use Rattle.acas_report_laws.specs.Told.{IsNameOf, IsShortRuling, IsShortVerdict, names_of, told, told_met};
 ghost use Rattle.acas_report_laws.specs.Holds.{HoldsOfBox, HoldsOfCell, HoldsOfMeeting};
 

@@ -1,3 +1,8 @@
+pub mod Carry
+pub mod CellCounts
+pub mod Certified
+pub mod Decided
+pub mod Subject
 pub mod Appending
 pub mod Whole
 pub mod Lengths

@@ -1,3 +1,6 @@
+pub mod CellReport
+pub mod Blocks
+pub mod Plans
 pub mod Report
 pub mod Regions
 pub mod Meetings

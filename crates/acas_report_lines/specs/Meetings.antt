@@ -2,7 +2,7 @@
 use Rattle.std.specs.Prelude.{ℕ, List, ◌++◌, codes, Bool, true, false, Option}
 use Rattle.acas_spec.specs.Model.{ModelData}
 use Rattle.acas_rulings.specs.Boxes.{AuditedBox, box_at}
-use Rattle.acas_manoeuvre.specs.Intruder.{Manoeuvre}
+use Rattle.acas_meetings.specs.Intruder.{Manoeuvre}
 use Rattle.acas_meetings.specs.Printed.{against_of}
 use Rattle.acas_meetings.specs.Verdicts.{IsMeetVerdict}
 use Rattle.acas_meetings.specs.declared.meeting.Meeting.{Meeting}

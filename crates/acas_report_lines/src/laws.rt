@@ -4,7 +4,7 @@ ghost use Rattle.acas_spec.specs.Model.{ModelData};
 ghost use Rattle.acas_outside.specs.Bytes.{AppendsPart};
 ghost use Rattle.acas_rulings.specs.Boxes.{AuditedBox};
 ghost use Rattle.acas_rulings.specs.declared.ruling.Ruling.{Ruling};
-ghost use Rattle.acas_manoeuvre.specs.Intruder.{Manoeuvre};
+ghost use Rattle.acas_meetings.specs.Intruder.{Manoeuvre};
 ghost use Rattle.acas_meetings.specs.declared.verdict.MeetVerdict.{MeetVerdict};
 ghost use Rattle.acas_report_lines.specs.Meetings.{IsMeetVerdictAt, IsMeetingsBegun, IsMeetingsReport};
 ghost use Rattle.acas_report_lines.specs.Regions.{IsRegionsReport, IsRegionsReportBegun, IsRulingAt, places};

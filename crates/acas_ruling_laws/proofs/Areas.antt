@@ -4,7 +4,7 @@ use Rattle.std.proofs.lemmas.Int.{ints}
 use Rattle.acas_units.specs.declared.limits.TheConstants.{GREATEST_RATE, LEAST_RATE}
 use Rattle.acas_spec.specs.Axis.{IsAxis, IsWithin, Rises, place_value}
 use Rattle.acas_flight.specs.State.{from_place}
-use Rattle.acas_passes.specs.Search.{AreRates}
+use Rattle.acas_areas.specs.Search.{AreRates}
 
 pub rises_at : (axis : List ℤ) (place : ℕ) → IsAxis axis → place + 1 < length axis → place_value axis place ≤ℤ place_value axis (place + 1)
 unfolding Rises

@@ -1,9 +1,9 @@
 -- Each course that a hunt finds has some pull.
 use Rattle.std.proofs.Common.{ℕ, ◌<◌}
 use Rattle.acas_flight.specs.Parts.{CanBeMet}
-use Rattle.acas_passes.specs.Passes.{Each, at_low, at_high, between}
-use Rattle.acas_passes.specs.Search.{unit}
-use Rattle.acas_pass_laws.proofs.Ends.{ends-in}
+use Rattle.acas_areas.specs.Passes.{Each, at_low, at_high, between}
+use Rattle.acas_areas.specs.Search.{unit}
+use Rattle.acas_pass_lemmas.proofs.Ends.{ends-in}
 use Rattle.acas_ruling_laws.proofs.Pulls as own
 use Rattle.acas_meetings.specs.Hunt.{Course, Finds, Hunt, accel, passes, value}
 

@@ -13,19 +13,19 @@ use Rattle.acas_flight.specs.Parts.{CanBeMet}
 use Rattle.acas_flight.specs.Clear.{Area}
 use Rattle.acas_flight.specs.Values.{IsOver}
 use Rattle.acas_flight.specs.Window.{Times}
-use Rattle.acas_flight_laws.proofs.Rising.{scaled_le}
-use Rattle.acas_flight_laws.proofs.Safe.{low_pull-some, high_pull-some}
-use Rattle.acas_flight_laws.proofs.Extremes.{during_ends}
-use Rattle.acas_flight_laws.proofs.Numbers.{natural}
+use Rattle.acas_flight_lemmas.proofs.Rising.{scaled_le}
+use Rattle.acas_flight_lemmas.proofs.Safe.{low_pull-some, high_pull-some}
+use Rattle.acas_flight_lemmas.proofs.Extremes.{during_ends}
+use Rattle.acas_flight_lemmas.proofs.Numbers.{natural}
 use Rattle.acas_areas.specs.Limits.{AreEnds}
-use Rattle.acas_passes.specs.Search.{IsMoment}
-use Rattle.acas_manoeuvre.specs.Intruder.{Manoeuvre, RatesFit}
-use Rattle.acas_manoeuvre.specs.Race.{Race, high_race, low_race, race_gap, race_tick, turned}
-use Rattle.acas_manoeuvre.specs.Apart.{IsApart, StaysAbove}
-use Rattle.acas_manoeuvre.specs.Least.{IsFirstLeastTime, IsRaceExtreme}
-use Rattle.acas_manoeuvre.specs.Turns.{Instant, IsEarlyTurn, IsFirstOf, IsLateTurn, IsLooked, IsSoonerOrSame, IsTurnTime, ahead, at_goal, falling, fraction_of, on_the_way, race_number, too_slow, turned_before, turning, turns_after}
-use Rattle.acas_manoeuvre_laws.proofs.FirstTimes.{first_least_time}
-use Rattle.acas_manoeuvre_laws.proofs.Stays.{below-turned, stays-over}
+use Rattle.acas_areas.specs.Search.{IsMoment}
+use Rattle.acas_meetings.specs.Intruder.{Manoeuvre, RatesFit}
+use Rattle.acas_meetings.specs.Race.{Race, high_race, low_race, race_gap, race_tick, turned}
+use Rattle.acas_meetings.specs.Apart.{IsApart, StaysAbove}
+use Rattle.acas_meetings.specs.Least.{IsFirstLeastTime, IsRaceExtreme}
+use Rattle.acas_meetings.specs.Turns.{Instant, IsEarlyTurn, IsFirstOf, IsLateTurn, IsLooked, IsSoonerOrSame, IsTurnTime, ahead, at_goal, falling, fraction_of, on_the_way, race_number, too_slow, turned_before, turning, turns_after}
+use Rattle.acas_manoeuvre_lemmas.proofs.FirstTimes.{first_least_time}
+use Rattle.acas_manoeuvre_lemmas.proofs.Stays.{below-turned, stays-over}
 use Rattle.acas_race.proofs.SameTimes.{least_time-same}
 use Rattle.acas_race.proofs.Tests.{first_of_all, in_order, last_of_all, last_of_ends, on_window, turn_of_all}
 use Rattle.acas_race.proofs.Turns.{late-ahead}

@@ -10,16 +10,16 @@ use Rattle.acas_flight.specs.Response.{Demand, demand_of}
 use Rattle.acas_flight.specs.Parts.{CanBeMet}
 use Rattle.acas_flight.specs.Clear.{Area, area_of_box}
 use Rattle.acas_flight.specs.Window.{Times}
-use Rattle.acas_flight_laws.proofs.Models.{demand_can_be_met}
-use Rattle.acas_flight_laws.proofs.Extremes.{extreme-same, extreme-windows}
-use Rattle.acas_passes.specs.Search.{unit}
-use Rattle.acas_pass_laws.proofs.Ends.{found-one}
+use Rattle.acas_flight_lemmas.proofs.Models.{demand_can_be_met}
+use Rattle.acas_flight_lemmas.proofs.Extremes.{extreme-same, extreme-windows}
+use Rattle.acas_areas.specs.Search.{unit}
+use Rattle.acas_pass_lemmas.proofs.Ends.{found-one}
 use Rattle.acas_rulings.specs.Boxes.{AuditedBox, IsBoxOf}
 use Rattle.acas_rulings.specs.Printed.{flight_fractions, fractions_of, some_part}
 use Rattle.acas_rulings.specs.Ranges.{IsBoxesRange}
 use Rattle.acas_rulings.specs.Witness.{search_between}
-use Rattle.acas_manoeuvre.specs.Intruder.{Manoeuvre}
-use Rattle.acas_manoeuvre.specs.Race.{high_race, low_race, race_gap, turned}
+use Rattle.acas_meetings.specs.Intruder.{Manoeuvre}
+use Rattle.acas_meetings.specs.Race.{high_race, low_race, race_gap, turned}
 use Rattle.acas_meetings.specs.Hunt.{Course, Finds, Hunt, accel, high_course, low_course, passes, value}
 use Rattle.acas_meetings.specs.Printed.{PrintsCourse, against_of, meeting_fractions}
 use Rattle.acas_meetings.specs.Verdicts.{IsMeetVerdict, IsMeetingOf, IsMet, hunt_between}

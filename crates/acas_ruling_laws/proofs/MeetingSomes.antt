@@ -7,30 +7,30 @@ use Rattle.acas_frac.specs.Fraction.{Fraction, IsReduced}
 use Rattle.acas_flight.specs.Response.{demand_of}
 use Rattle.acas_flight.specs.Clear.{Area, area_of_box}
 use Rattle.acas_flight.specs.Window.{IsWindowOfBox, Times}
-use Rattle.acas_flight_laws.proofs.Models.{demand_can_be_met}
+use Rattle.acas_flight_lemmas.proofs.Models.{demand_can_be_met}
 use Rattle.acas_areas.specs.Limits.{IsArea}
 use Rattle.acas_flight_windows.proofs.EachWindow.{window_of_box}
-use Rattle.acas_passes.specs.Value.{thinnest}
-use Rattle.acas_passes.specs.Search.{IsMoment, IsTimed, fastest, unit}
-use Rattle.acas_pass_laws.proofs.Neighbours.{unit_some}
+use Rattle.acas_areas.specs.Value.{thinnest}
+use Rattle.acas_areas.specs.Search.{IsMoment, IsTimed, fastest, unit}
+use Rattle.acas_pass_lemmas.proofs.Neighbours.{unit_some}
 use Rattle.acas_rulings.specs.Boxes.{AuditedBox, IsBoxOf}
 use Rattle.acas_rulings.specs.Printed.{flight_fractions}
-use Rattle.acas_manoeuvre.specs.Intruder.{Manoeuvre, RatesFit}
-use Rattle.acas_manoeuvre.specs.Race.{high_race, low_race, turned}
-use Rattle.acas_manoeuvre.specs.Apart.{IsApart}
-use Rattle.acas_manoeuvre_laws.proofs.Safe.{apart-safe}
-use Rattle.acas_manoeuvre_laws.proofs.Windows.{in_window}
+use Rattle.acas_meetings.specs.Intruder.{Manoeuvre, RatesFit}
+use Rattle.acas_meetings.specs.Race.{high_race, low_race, turned}
+use Rattle.acas_meetings.specs.Apart.{IsApart}
+use Rattle.acas_manoeuvre_lemmas.proofs.Safe.{apart-safe}
+use Rattle.acas_manoeuvre_lemmas.proofs.Windows.{in_window}
 use Rattle.acas_meetings.specs.declared.meeting.Meeting.{Meeting}
 use Rattle.acas_meetings.specs.declared.verdict.MeetVerdict.{MeetVerdict}
 use Rattle.acas_meetings.specs.declared.verdict.MeetVerdict.TheVariants.{Certified, Reported}
 use Rattle.acas_meetings.specs.Hunt.{IsHunt, accel}
 use Rattle.acas_meetings.specs.Printed.{PrintsCourse}
 use Rattle.acas_meetings.specs.Verdicts.{IsMeetVerdict, IsMet, hunt_between}
-use Rattle.acas_hunt_laws.proofs.Founds.{finds, found_course, some_pull}
-use Rattle.acas_hunt_laws.proofs.Prints.{printed-contact}
-use Rattle.acas_hunt_laws.proofs.Showing.{shown-endangers, shows-meeting}
-use Rattle.acas_hunt_laws.proofs.Somes.{accel_some}
-use Rattle.acas_hunt_laws.proofs.Verdicts.{can-meet}
+use Rattle.acas_hunt_lemmas.proofs.Founds.{finds, found_course, some_pull}
+use Rattle.acas_hunt_lemmas.proofs.Prints.{printed-contact}
+use Rattle.acas_hunt_lemmas.proofs.Showing.{shown-endangers, shows-meeting}
+use Rattle.acas_hunt_lemmas.proofs.Somes.{accel_some}
+use Rattle.acas_hunt_lemmas.proofs.Verdicts.{can-meet}
 use Rattle.acas_ruling_laws.proofs.Ranges.{range_of_box}
 use Rattle.acas_ruling_laws.proofs.RulingSomes.{AreInOrder, flyable_box, in_order_or_empty}
 use Rattle.acas_ruling_laws.proofs.Somes.{IsFlyable, search_of}

@@ -6,10 +6,10 @@ use Rattle.acas_flight.specs.Response.{Demand}
 use Rattle.acas_flight.specs.Parts.{CanBeMet}
 use Rattle.acas_flight.specs.Window.{Times, IsDuring}
 use Rattle.acas_flight.specs.Clear.{Area, greatest_gap, least_gap}
-use Rattle.acas_flight_laws.proofs.Extremes.{extreme-same, extreme-windows}
-use Rattle.acas_passes.specs.Flights.{Flight, value}
-use Rattle.acas_passes.specs.Search.{Search, IsFound, unit, low_flight, high_flight, passes}
-use Rattle.acas_pass_laws.proofs.Ends.{found-one}
+use Rattle.acas_flight_lemmas.proofs.Extremes.{extreme-same, extreme-windows}
+use Rattle.acas_areas.specs.Flights.{Flight, value}
+use Rattle.acas_areas.specs.Search.{Search, IsFound, unit, low_flight, high_flight, passes}
+use Rattle.acas_pass_lemmas.proofs.Ends.{found-one}
 use Rattle.acas_rulings.specs.declared.flight.Flight as printed
 use Rattle.acas_rulings.specs.Witness.{IsWitnessOf, search_between}
 use Rattle.acas_rulings.specs.Printed.{Prints, flight_fractions}

@@ -4,7 +4,7 @@ use Rattle.std.specs.List.{AllByRecursion, flat_map}
 use Rattle.acas_frac.specs.Fraction.{Fraction, IsReduced}
 use Rattle.acas_frac.proofs.Reduced.{over-IsReduced-same}
 use Rattle.acas_flight.specs.Response.{Segment}
-use Rattle.acas_passes.specs.Responses.{IsHoldFor, not_held, held_for, IsApproachFor, at_once, at_aim, before, past}
+use Rattle.acas_areas.specs.Responses.{IsHoldFor, not_held, held_for, IsApproachFor, at_once, at_aim, before, past}
 use Rattle.acas_rulings.specs.declared.flight.Segment as part
 use Rattle.acas_rulings.specs.Printed.{IsPart, AreParts, no_parts, a_part, level, hold_part, some_part}
 

@@ -6,9 +6,9 @@ use Rattle.acas_frac.specs.Fraction.{Fraction, whole_of, IsReduced}
 use Rattle.acas_frac.proofs.Reduced.{some_reduced}
 use Rattle.acas_flight.specs.Response.{Segment}
 use Rattle.acas_flight.specs.Values.{IsOver}
-use Rattle.acas_passes.specs.Flights.{Flight}
-use Rattle.acas_passes.specs.Responses.{segment, IsHoldFor, not_held, held_for, IsApproachFor, at_once, at_aim, before, past, fine, scale, acceleration}
-use Rattle.acas_pass_laws.proofs.Founds.{response}
+use Rattle.acas_areas.specs.Flights.{Flight}
+use Rattle.acas_areas.specs.Responses.{segment, IsHoldFor, not_held, held_for, IsApproachFor, at_once, at_aim, before, past, fine, scale, acceleration}
+use Rattle.acas_pass_lemmas.proofs.Founds.{response}
 use Rattle.acas_witness_plans.proofs.Portions.{none_over}
 use Rattle.acas_rulings.specs.declared.flight.Flight as printed
 use Rattle.acas_rulings.specs.declared.flight.Segment as part

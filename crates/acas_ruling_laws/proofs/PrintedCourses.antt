@@ -8,7 +8,7 @@ use Rattle.acas_frac.proofs.Reduced.{num_ahead}
 use Rattle.acas_flight.specs.Response.{Segment}
 use Rattle.acas_flight.specs.Values.{IsOver}
 use Rattle.acas_flight.specs.Window.{IsDuring, Times}
-use Rattle.acas_passes.specs.Responses.{IsApproachFor, acceleration}
+use Rattle.acas_areas.specs.Responses.{IsApproachFor, acceleration}
 use Rattle.acas_rulings.specs.declared.flight.Flight as printed
 use Rattle.acas_rulings.specs.declared.flight.Segment as part
 use Rattle.acas_rulings.specs.Printed.{AreSegments, Prints, flight_fractions, fractions_of, some_part}
@@ -19,7 +19,7 @@ use Rattle.acas_ruling_laws.proofs.Somes.{HasTime}
 use Rattle.acas_meetings.specs.declared.meeting.Meeting.{Meeting}
 use Rattle.acas_meetings.specs.Hunt.{Course, of_intruder}
 use Rattle.acas_meetings.specs.Printed.{against_of, meeting_fractions}
-use Rattle.acas_hunt_laws.proofs.Founds.{flown_by}
+use Rattle.acas_hunt_lemmas.proofs.Founds.{flown_by}
 
 -- the own flight and the intruder's segments of a course, in lowest terms
 pub record IsPrinted (q a : ℕ) (c : Course) : Type 0 where

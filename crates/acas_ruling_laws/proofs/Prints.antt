@@ -4,8 +4,8 @@ use Rattle.std.proofs.lemmas.List.Elements.{recursion_from_All}
 use Rattle.std.specs.List.{All}
 use Rattle.acas_frac.specs.Fraction.{Fraction, IsReduced}
 use Rattle.acas_frac.proofs.Reduced.{over-IsReduced-same}
-use Rattle.acas_passes.specs.Flights.{Flight}
-use Rattle.acas_passes.specs.Responses.{fine}
+use Rattle.acas_areas.specs.Flights.{Flight}
+use Rattle.acas_areas.specs.Responses.{fine}
 use Rattle.acas_rulings.specs.declared.flight.Flight as printed
 use Rattle.acas_rulings.specs.declared.flight.Segment as part
 use Rattle.acas_rulings.specs.Printed.{IsHeldPart, AreSegments, Prints, hold_part, some_part, flight_fractions}

@@ -2,11 +2,11 @@
 use Rattle.std.proofs.Common.{ℕ, ◌*◌, ◌<◌, ◌≤◌, arith, ℤ, mul-pos, mul-le-mul_right}
 use Rattle.acas_flight.specs.Response.{scaled}
 use Rattle.acas_flight.specs.Parts.{CanBeMet}
-use Rattle.acas_passes.specs.Flights.{Flight, value}
-use Rattle.acas_passes.specs.Passes.{Each, toward, at_low, at_high, between}
-use Rattle.acas_passes.specs.Search.{Search, IsFound, grain, unit, passes, over_square, pull_at_low, pull_at_high}
-use Rattle.acas_pass_laws.proofs.Ends.{ends-in}
-use Rattle.acas_pass_laws.proofs.Neighbours.{low_pull_within, high_pull_within}
+use Rattle.acas_areas.specs.Flights.{Flight, value}
+use Rattle.acas_areas.specs.Passes.{Each, toward, at_low, at_high, between}
+use Rattle.acas_areas.specs.Search.{Search, IsFound, grain, unit, passes, over_square, pull_at_low, pull_at_high}
+use Rattle.acas_pass_lemmas.proofs.Ends.{ends-in}
+use Rattle.acas_pass_lemmas.proofs.Neighbours.{low_pull_within, high_pull_within}
 
 pub toward_some : (from to n : ℕ) → 0 < from → 0 < to → 0 < toward from to n
 toward_some from to n p q = omega arith

@@ -6,11 +6,11 @@ use Rattle.acas_spec.specs.Model.{ModelData}
 use Rattle.acas_spec.specs.Limits.{IsModel}
 use Rattle.acas_frac.specs.Fraction.{IsReduced}
 use Rattle.acas_flight.specs.Response.{demand_of}
-use Rattle.acas_flight_laws.proofs.Models.{demand_can_be_met}
+use Rattle.acas_flight_lemmas.proofs.Models.{demand_can_be_met}
 use Rattle.acas_flight.specs.State.{State, IsInBox, IsInCell}
 use Rattle.acas_flight.specs.Clear.{area_of_box, area_of_cell}
 use Rattle.acas_flight.specs.Window.{IsWindowOfBox, IsWindowOfCell, Times}
-use Rattle.acas_passes.specs.Search.{unit}
+use Rattle.acas_areas.specs.Search.{unit}
 use Rattle.acas_rulings.specs.declared.flight.Witness.{Witness}
 use Rattle.acas_rulings.specs.Ranges.{IsBoxesRange, IsCellsRange}
 use Rattle.acas_rulings.specs.Printed.{fractions_of, flight_fractions}

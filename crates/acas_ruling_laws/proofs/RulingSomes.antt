@@ -7,8 +7,8 @@ use Rattle.acas_frac.proofs.SignedProducts.{mul-lt_ℤ, mul_comm_ℤ}
 use Rattle.acas_flight.specs.Response.{demand_of}
 use Rattle.acas_flight.specs.State.{Box, Interval, IsInBox, IsInside, State}
 use Rattle.acas_flight.specs.Clear.{area_of_box, area_of_cell}
-use Rattle.acas_flight_laws.proofs.Dangers.{clear_box_is_safe, clear_cell_is_safe}
-use Rattle.acas_flight_laws.proofs.Endangered.{endangered_box, endangered_cell}
+use Rattle.acas_flight_lemmas.proofs.Dangers.{clear_box_is_safe, clear_cell_is_safe}
+use Rattle.acas_flight_lemmas.proofs.Endangered.{endangered_box, endangered_cell}
 use Rattle.acas_frac.proofs.Orders.{cases_lt_ℤ}
 use Rattle.acas_areas.specs.Limits.{IsArea}
 use Rattle.acas_rulings.specs.declared.flight.Witness.{Witness}

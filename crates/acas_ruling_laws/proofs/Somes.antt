@@ -10,14 +10,14 @@ use Rattle.acas_frac.proofs.Reduced.{num_ahead}
 use Rattle.acas_flight.specs.Response.{Demand, demand_of, lasting}
 use Rattle.acas_flight.specs.Window.{Times, IsDuring}
 use Rattle.acas_flight.specs.Clear.{Area, IsClear, IsEndangeredDuring}
-use Rattle.acas_flight_laws.proofs.Models.{demand_can_be_met}
+use Rattle.acas_flight_lemmas.proofs.Models.{demand_can_be_met}
 use Rattle.acas_areas.specs.Limits.{AreEnds}
-use Rattle.acas_passes.specs.Search.{AreRates, CanMeet, IsMoment, IsSearch, unit}
-use Rattle.acas_pass_laws.proofs.Founds.{finds}
+use Rattle.acas_areas.specs.Search.{AreRates, CanMeet, IsMoment, IsSearch, unit}
+use Rattle.acas_pass_lemmas.proofs.Founds.{finds}
 use Rattle.acas_rulings.specs.declared.flight.Flight as printed
 use Rattle.acas_witness.proofs.Contacts.{contact_at, during_of}
-use Rattle.acas_witness_laws.proofs.Extremes.{HasHighExtreme, HasLowExtreme, high_reached, low_reached}
-use Rattle.acas_witness_laws.proofs.Meetings.{clear_or_meet}
+use Rattle.acas_witness_lemmas.proofs.Extremes.{HasHighExtreme, HasLowExtreme, high_reached, low_reached}
+use Rattle.acas_witness_lemmas.proofs.Meetings.{clear_or_meet}
 use Rattle.acas_rulings.specs.Witness.{IsFlightInContact, IsWitnessOf, search_between}
 use Rattle.acas_rulings.specs.Printed.{flight_fractions}
 use Rattle.acas_ruling_laws.proofs.Ones.{unit_some}

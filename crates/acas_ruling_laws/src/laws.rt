@@ -9,7 +9,7 @@ ghost use Rattle.acas_flight.specs.Response.{demand_of};
 ghost use Rattle.acas_flight.specs.Window.{Times};
 ghost use Rattle.acas_flight.specs.Clear.{Area, IsClear, area_of_box};
 ghost use Rattle.acas_areas.specs.Limits.{AreEnds, IsArea};
-ghost use Rattle.acas_passes.specs.Search.{AreRates, fastest};
+ghost use Rattle.acas_areas.specs.Search.{AreRates, fastest};
 ghost use Rattle.acas_rulings.specs.declared.flight.Flight.{Flight};
 ghost use Rattle.acas_rulings.specs.Witness.{IsWitnessOf};
 ghost use Rattle.acas_rulings.specs.Printed.{flight_fractions};
@@ -19,7 +19,7 @@ ghost use Rattle.acas_cells.specs.Order.{cell_of};
 ghost use Rattle.acas_cells.specs.declared.name.CellName.{CellName};
 ghost use Rattle.acas_rulings.specs.declared.ruling.Ruling.{Ruling};
 ghost use Rattle.acas_rulings.specs.Rulings.{IsRulingOfBox, IsRulingOfCell};
-ghost use Rattle.acas_manoeuvre.specs.Intruder.{Manoeuvre, RatesFit};
+ghost use Rattle.acas_meetings.specs.Intruder.{Manoeuvre, RatesFit};
 ghost use Rattle.acas_meetings.specs.Verdicts.{IsMeetVerdict};
 ghost use Rattle.acas_meetings.specs.declared.verdict.MeetVerdict.{MeetVerdict};
 

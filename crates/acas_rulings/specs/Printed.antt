@@ -4,8 +4,8 @@ use Rattle.std.specs.List.{flat_map}
 use Rattle.acas_frac.specs.Fraction.{Fraction, whole_of}
 use Rattle.acas_flight.specs.Response.{Segment}
 use Rattle.acas_flight.specs.Values.{IsOver}
-use Rattle.acas_passes.specs.Flights.{Flight}
-use Rattle.acas_passes.specs.Responses.{IsHoldFor, IsApproachFor, fine, scale}
+use Rattle.acas_areas.specs.Flights.{Flight}
+use Rattle.acas_areas.specs.Responses.{IsHoldFor, IsApproachFor, fine, scale}
 use Rattle.acas_rulings.specs.declared.flight.Flight as printed
 use Rattle.acas_rulings.specs.declared.flight.Segment as part
 use Rattle.acas_rulings.specs.declared.flight.Witness.{Witness}

@@ -8,8 +8,8 @@ use Rattle.acas_flight.specs.Window.{Times, IsDuring}
 use Rattle.acas_flight.specs.Clear.{Area, EndsInVerticalContact, IsClear, IsEndangeredDuring}
 use Rattle.acas_flight.specs.Extremes.{IsLowExtreme, IsHighExtreme}
 use Rattle.acas_flight.specs.Values.{IsOver}
-use Rattle.acas_passes.specs.Flights.{Flight}
-use Rattle.acas_passes.specs.Search.{Search, IsFound, unit}
+use Rattle.acas_areas.specs.Flights.{Flight}
+use Rattle.acas_areas.specs.Search.{Search, IsFound, unit}
 use Rattle.acas_areas.specs.View.{area_of, times_of}
 use Rattle.acas_areas.specs.declared.parts.BoxState.{BoxState}
 use Rattle.acas_areas.specs.declared.parts.Window.{Window}

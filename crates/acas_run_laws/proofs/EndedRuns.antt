@@ -11,11 +11,11 @@ use Rattle.std.proofs.lemmas.Int.{ints}
 use Rattle.acas_boxes.specs.Rates.{fitting_boxes_of}
 use Rattle.acas_boxes.specs.Whole.{boxes_of}
 use Rattle.acas_rulings.specs.Boxes.{AuditedBox}
-use Rattle.acas_manoeuvre.specs.Intruder.{Manoeuvre as Intruder}
+use Rattle.acas_meetings.specs.Intruder.{Manoeuvre as Intruder}
 use Rattle.acas_report_lines.specs.Meetings.{IsMeetingsBegun}
 use Rattle.acas_report_lines.specs.Regions.{IsRegionsReportBegun}
 use Rattle.acas_report_lines.specs.declared.counts.Which.{Which}
-use Rattle.acas_report_cells.specs.Report.{IsReportBegun}
+use Rattle.acas_report_lines.specs.CellReport.{IsReportBegun}
 use Rattle.acas_command.specs.Answers.{Agrees, Completes}
 use Rattle.acas_command.specs.Called.{Called, IsReportOutcome, MayPrint, PrintsPart, calls_for_report}
 use Rattle.acas_command.specs.Outcome.{Outcome, prints, with_file}

@@ -23,7 +23,7 @@ use Rattle.acas_check_commands.specs.AcceptedLine.{accepted_line}
 use Rattle.acas_safeable_commands.specs.Calls.{IsSafeableText, IsSafeableTextBegun, safeable_looks_at}
 use Rattle.acas_table_commands.specs.Calls.{values_of}
 use Rattle.acas_check_commands.specs.Calls.{check_of}
-use Rattle.acas_table_lines.specs.ValuesText.{values_text}
+use Rattle.acas_table_rows.specs.ValuesText.{values_text}
 use Rattle.acas_cli.specs.Calls.{CallsFor}
 use Rattle.acas_cli_words.specs.Words.{Form, Values, Compile, Check, Risk, Audit, Regions, Manoeuvre, Safeable, Replay, Migrate, Drill}
 use Rattle.acas_run_laws.specs.Forms.{written_by}

@@ -8,7 +8,7 @@ use Rattle.acas_outside.specs.Files.{Files}
 use Rattle.acas_outside.specs.Outside.{Outside}
 use Rattle.acas_boxes.specs.Rates.{fitting_boxes_of}
 use Rattle.acas_boxes.specs.Whole.{boxes_of}
-use Rattle.acas_encounter.specs.Whole.{encounter_of}
+use Rattle.acas_replay.specs.Whole.{encounter_of}
 use Rattle.acas_table_text.specs.Shape.{shape_of}
 use Rattle.acas_table_text.specs.Tables.{as_layered}
 use Rattle.acas_spec.specs.Model.{ModelData}
@@ -29,7 +29,7 @@ use Rattle.acas_box_commands.specs.RegionsCalls.{IsRegionsBegun, IsRegionsText, 
 use Rattle.acas_drill.specs.Calls.{IsDrillBegun, IsDrillText}
 use Rattle.acas_drill_model.specs.Word.{drill_number}
 use Rattle.acas_encounter_commands.specs.Calls.{IsReplayBegun, IsReplayText, encounter_looked_at, replay_looks_at}
-use Rattle.acas_manoeuvre.specs.Intruder.{Manoeuvre as Intruder}
+use Rattle.acas_meetings.specs.Intruder.{Manoeuvre as Intruder}
 use Rattle.acas_box_commands.specs.ManoeuvreCalls.{IsManoeuvreBegun, IsManoeuvreText, manoeuvre_looks_at}
 use Rattle.acas_report_lines.specs.declared.counts.Which.{Which}
 use Rattle.acas_report_lines.specs.declared.counts.Which.TheVariants.{All as Whole, Reported as OnlyReported}
@@ -38,7 +38,7 @@ use Rattle.acas_safeable_commands.specs.Calls.{IsSafeableText, IsSafeableTextBeg
 use Rattle.acas_check_commands.specs.AcceptedLine.{accepted_line}
 use Rattle.acas_table_rows.specs.StoredLine.{compiled_line, migrated_line}
 use Rattle.acas_table_rows.specs.TableFile.{compiled_text}
-use Rattle.acas_table_lines.specs.ValuesText.{values_text}
+use Rattle.acas_table_rows.specs.ValuesText.{values_text}
 use Rattle.acas_cli.specs.Calls.{CallsFor}
 use Rattle.acas_cli_words.specs.Words.{Form, Values, Compile, Check, Risk, Audit, Regions, Manoeuvre, Safeable, Replay, Migrate, Drill, accel_of, are_apart, are_file_names, form_of, is_file_name, manoeuvre_of, rate_of}
 use Rattle.acas_run_laws.specs.Refusals.{RefusesBy}

@@ -8,18 +8,18 @@ use Rattle.acas_outside.specs.Files.{Files}
 use Rattle.std.proofs.lemmas.Int.{ints}
 use Rattle.acas_boxes.specs.Rates.{fitting_boxes_of}
 use Rattle.acas_boxes.specs.Whole.{boxes_of}
-use Rattle.acas_encounter.specs.Encounter.{EncounterData}
-use Rattle.acas_encounter.specs.Whole.{encounter_of}
+use Rattle.acas_replay.specs.Encounter.{EncounterData}
+use Rattle.acas_replay.specs.Whole.{encounter_of}
 use Rattle.acas_process.specs.Compiled.{compiled}
 use Rattle.acas_rulings.specs.Boxes.{AuditedBox}
-use Rattle.acas_manoeuvre.specs.Intruder.{Manoeuvre as Intruder}
+use Rattle.acas_meetings.specs.Intruder.{Manoeuvre as Intruder}
 use Rattle.acas_report_lines.specs.Meetings.{IsMeetingsReport}
 use Rattle.acas_report_lines.specs.Regions.{IsRegionsReport}
 use Rattle.acas_report_lines.specs.declared.counts.Counts.{Counts}
 use Rattle.acas_report_lines.specs.declared.counts.Which.{Which}
 use Rattle.acas_report_lines.specs.declared.counts.Which.TheVariants.{All}
 use Rattle.acas_report_lines.specs.declared.meet_counts.MeetCounts.{MeetCounts}
-use Rattle.acas_report_cells.specs.Report.{IsReport}
+use Rattle.acas_report_lines.specs.CellReport.{IsReport}
 use Rattle.acas_replay.specs.Replay.{IsReplay}
 use Rattle.acas_replay.proofs.Texts.{texts_same}
 use Rattle.acas_command.specs.Called.{IsRefusal, IsReportOutcome, MayPrint, calls_for_report}

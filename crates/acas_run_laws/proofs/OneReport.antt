@@ -6,8 +6,8 @@ use Rattle.acas_base.specs.Advices.{AdvicesData}
 use Rattle.acas_outside.specs.Bytes.{AppendsPart}
 use Rattle.acas_flight.specs.Clear.{area_of_box}
 use Rattle.acas_areas.specs.Limits.{IsArea}
-use Rattle.acas_passes.specs.Search.{fastest}
-use Rattle.acas_manoeuvre.specs.Intruder.{Manoeuvre}
+use Rattle.acas_areas.specs.Search.{fastest}
+use Rattle.acas_meetings.specs.Intruder.{Manoeuvre}
 use Rattle.acas_rulings.specs.Boxes.{AreBoxesOf, AuditedBox, box_at}
 use Rattle.acas_boxes.specs.Rates.{AllRatesFit}
 use Rattle.acas_report_lines.specs.Meetings.{IsMeetingsBegun, IsMeetingsReport}
@@ -15,7 +15,7 @@ use Rattle.acas_report_lines.specs.Regions.{IsRegionsReport, IsRegionsReportBegu
 use Rattle.acas_report_lines.specs.declared.counts.Counts.{Counts}
 use Rattle.acas_report_lines.specs.declared.counts.Which.{Which}
 use Rattle.acas_report_lines.specs.declared.meet_counts.MeetCounts.{MeetCounts}
-use Rattle.acas_report_cells.specs.Report.{IsReport, IsReportBegun}
+use Rattle.acas_report_lines.specs.CellReport.{IsReport, IsReportBegun}
 use Rattle.acas_report_laws.proofs.Reports.{begun_audit, begun_meetings, begun_regions, one_audit, one_meetings, one_regions, some_audit, some_meetings, some_regions}
 use Rattle.acas_safeable.specs.SafeableText.{IsSafeableBegun, IsSafeableReport}
 use Rattle.acas_safeable.specs.declared.counts.SafeCounts.{SafeCounts}

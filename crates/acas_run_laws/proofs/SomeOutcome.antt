@@ -19,12 +19,12 @@ use Rattle.acas_boxes.specs.Text.{IsBoxesText}
 use Rattle.acas_boxes.specs.Whole.{boxes_of}
 use Rattle.acas_boxes.proofs.Fitting.{fitting_ok}
 use Rattle.acas_boxes.proofs.Read as boxes_text
-use Rattle.acas_encounter.specs.Encounter.{EncounterData, IsEncounter, seconds}
-use Rattle.acas_encounter.specs.Text.{IsEncounterText}
-use Rattle.acas_encounter.specs.Whole.{encounter_of}
-use Rattle.acas_encounter.proofs.Read as encounter_text
-use Rattle.acas_manoeuvre.specs.Intruder.{Manoeuvre as Intruder}
-use Rattle.acas_passes.specs.Search.{fastest}
+use Rattle.acas_replay.specs.Encounter.{EncounterData, IsEncounter, seconds}
+use Rattle.acas_replay.specs.Text.{IsEncounterText}
+use Rattle.acas_replay.specs.Whole.{encounter_of}
+use Rattle.acas_replay.proofs.Read as encounter_text
+use Rattle.acas_meetings.specs.Intruder.{Manoeuvre as Intruder}
+use Rattle.acas_areas.specs.Search.{fastest}
 use Rattle.acas_process.specs.Compiled.{compiled}
 use Rattle.acas_rulings.specs.Boxes.{AuditedBox, box_at}
 use Rattle.acas_report_lines.specs.declared.counts.Which.{Which}

@@ -8,7 +8,7 @@ use Rattle.acas_outside.specs.Files.{Files}
 use Rattle.acas_input.specs.declared.fault.InputFault.{InputFault}
 use Rattle.acas_boxes.specs.Rates.{fitting_boxes_of}
 use Rattle.acas_boxes.specs.Whole.{boxes_of}
-use Rattle.acas_encounter.specs.Whole.{encounter_of}
+use Rattle.acas_replay.specs.Whole.{encounter_of}
 use Rattle.acas_accept.specs.Refusals.{first_refusal}
 use Rattle.acas_table_text.specs.declared.refusal.TableRefusal.{TableRefusal}
 use Rattle.acas_command.specs.ModelFile.{IsModelFile}

@@ -2,6 +2,7 @@
 //! nothing: their clauses are the laws.
 #![tactic(auto)]
 
+mod accepted;
 mod drills;
 mod ends;
 mod faults;
@@ -15,6 +16,10 @@ mod two_runs;
 mod verdicts;
 mod work;
 
+pub use accepted::{
+    accepted_tables_have_no_refusal, accepted_tables_have_two_sided_bounds,
+    compiled_tables_are_accepted, migrated_texts_are_accepted,
+};
 pub use drills::drills_need_no_folder;
 pub use ends::{drills_are_not_refused, only_reports_end_with_1, right_files_are_not_refused};
 pub use faults::{faults_have_their_counts, refusals_are_of_bytes, risen_counts_are_greater};

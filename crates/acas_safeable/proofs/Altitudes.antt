@@ -7,10 +7,10 @@ use Rattle.acas_frac.proofs.Orders.{cases_lt_ℤ, le_of_lt_ℤ}
 use Rattle.acas_frac.proofs.RoundingLaws.{down_is_floor, up_is_ceiling}
 use Rattle.acas_frac.proofs.SignedProducts.{add-mul_ℤ, le-from_mul_ℤ, mul-le_ℤ}
 use Rattle.acas_flight.proofs.Between.{test_ge, test_lt}
-use Rattle.acas_flight_laws.proofs.Models.{scaled_can_be_met}
-use Rattle.acas_flight_laws.proofs.Rising.{scaled_le}
-use Rattle.acas_flight_laws.proofs.Gaps.{high_pull-over, low_pull-over}
-use Rattle.acas_flight_laws.proofs.Safe.{greatest_start, high_bound, high_pull-some, least_start, low_bound, low_pull-some}
+use Rattle.acas_flight_lemmas.proofs.Models.{scaled_can_be_met}
+use Rattle.acas_flight_lemmas.proofs.Rising.{scaled_le}
+use Rattle.acas_flight_lemmas.proofs.Gaps.{high_pull-over, low_pull-over}
+use Rattle.acas_flight_lemmas.proofs.Safe.{greatest_start, high_bound, high_pull-some, least_start, low_bound, low_pull-some}
 use Rattle.acas_flight.specs.Contact.{vertical_separation}
 use Rattle.acas_flight.specs.Curves.{high_pull, highest, low_pull, lowest}
 use Rattle.acas_flight.specs.Parts.{CanBeMet}

@@ -1,7 +1,7 @@
 -- A curve at one second, over any denominator.
 use Rattle.std.proofs.Common.{◌≡◌, ℕ, ◌*◌, ◌<◌, ap₂, ◌∙◌, arith, ℤ, pos, ◌*ℤ◌}
-use Rattle.acas_flight_laws.proofs.Gaps.{high_hold-over, high_pull-over, low_hold-over, low_pull-over}
-use Rattle.acas_flight_laws.proofs.Held.{held-scaled}
+use Rattle.acas_flight_lemmas.proofs.Gaps.{high_hold-over, high_pull-over, low_hold-over, low_pull-over}
+use Rattle.acas_flight_lemmas.proofs.Held.{held-scaled}
 use Rattle.acas_flight.specs.Curves.{held, high_hold, high_pull, highest, low_hold, low_pull, lowest}
 use Rattle.acas_flight.specs.Response.{Demand, scaled}
 

@@ -6,8 +6,8 @@ use Rattle.acas_spec.specs.Limits.{IsModel}
 use Rattle.acas_spec.specs.Model.{ModelData}
 use Rattle.acas_frac.proofs.IntRing.{at, num, ◌⊕◌, ◌⊖◌, ◌⊗◌, ring}
 use Rattle.acas_frac.proofs.Orders.{mul_nonneg}
-use Rattle.acas_flight_laws.proofs.Endangered.{scaled-finer}
-use Rattle.acas_flight_laws.proofs.Finer.{climb_finer, finer_meet, lasting_finer}
+use Rattle.acas_flight_lemmas.proofs.Endangered.{scaled-finer}
+use Rattle.acas_flight_lemmas.proofs.Finer.{climb_finer, finer_meet, lasting_finer}
 use Rattle.acas_flight.specs.Contact.{IsHorizontalContact, IsVerticalContact, vertical_separation}
 use Rattle.acas_flight.specs.Parts.{finer}
 use Rattle.acas_flight.specs.Response.{Demand, Meets, Segment, climb, climb_within, lasting, rate_after, scaled}

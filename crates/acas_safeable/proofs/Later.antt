@@ -2,10 +2,10 @@
 use Rattle.std.proofs.Common.{◌≡◌, ℕ, ◌+◌, ◌-◌, ◌*◌, ◌<◌, arith, List, pos, ◌-ℤ◌, ◌*ℤ◌, mul-pos}
 use Rattle.acas_spec.specs.Limits.{IsModel}
 use Rattle.acas_spec.specs.Model.{ModelData}
-use Rattle.acas_flight_laws.proofs.Models.{demand_can_be_met}
-use Rattle.acas_flight_laws.proofs.Safe.{clear_areas_are_safe}
-use Rattle.acas_flight_laws.proofs.Endangered.{IsDuring-finer, IsInside-finer}
-use Rattle.acas_flight_laws.proofs.Finer.{lasting_finer}
+use Rattle.acas_flight_lemmas.proofs.Models.{demand_can_be_met}
+use Rattle.acas_flight_lemmas.proofs.Safe.{clear_areas_are_safe}
+use Rattle.acas_flight_lemmas.proofs.Endangered.{IsDuring-finer, IsInside-finer}
+use Rattle.acas_flight_lemmas.proofs.Finer.{lasting_finer}
 use Rattle.acas_flight.specs.Clear.{EndsInVerticalContact}
 use Rattle.acas_flight.specs.Contact.{IsEndangeredCell, vertical_separation}
 use Rattle.acas_flight.specs.Parts.{finer}

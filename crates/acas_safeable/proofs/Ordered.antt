@@ -6,9 +6,9 @@ use Rattle.acas_frac.proofs.IntRing.{at, num, ◌⊕◌, ◌⊖◌, ◌⊗◌, r
 use Rattle.acas_frac.proofs.Orders.{by_above, by_below, cases_lt_ℤ}
 use Rattle.acas_frac.proofs.SignedProducts.{le-from_mul_ℤ}
 use Rattle.acas_flight.proofs.Holding.{level_rate}
-use Rattle.acas_flight_laws.proofs.Models.{scaled_can_be_met}
-use Rattle.acas_flight_laws.proofs.Rising.{scaled_le}
-use Rattle.acas_flight_laws.proofs.Cuts.{cuts_meet}
+use Rattle.acas_flight_lemmas.proofs.Models.{scaled_can_be_met}
+use Rattle.acas_flight_lemmas.proofs.Rising.{scaled_le}
+use Rattle.acas_flight_lemmas.proofs.Cuts.{cuts_meet}
 use Rattle.acas_flight.specs.Parts.{CanBeMet, until}
 use Rattle.acas_flight.specs.Response.{Demand, Follows, Meets, Segment, lasting, scaled}
 use Rattle.acas_flight.specs.State.{Interval}

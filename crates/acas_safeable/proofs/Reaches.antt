@@ -2,7 +2,7 @@
 use Rattle.std.proofs.Common.{◌≡◌, ℕ, ◌*◌, ◌<◌, arith, List, pos, ◌*ℤ◌}
 use Rattle.acas_spec.specs.Limits.{IsModel}
 use Rattle.acas_spec.specs.Model.{ModelData}
-use Rattle.acas_flight_laws.proofs.Models.{demand_can_be_met}
+use Rattle.acas_flight_lemmas.proofs.Models.{demand_can_be_met}
 use Rattle.acas_flight.specs.Contact.{vertical_separation}
 use Rattle.acas_flight.specs.Response.{Meets, Segment, climb, demand_of, lasting, scaled}
 use Rattle.acas_flight.specs.State.{IsInCell, IsInside, State, from_place}

@@ -5,7 +5,7 @@ use Rattle.acas_units.specs.declared.limits.TheConstants.{GREATEST_ALTITUDE}
 use Rattle.acas_units.specs.declared.ticks.TheConstants.{TICKS_PER_FOOT}
 use Rattle.acas_spec.specs.Limits.{IsModel}
 use Rattle.acas_spec.specs.Model.{ModelData, choices_at}
-use Rattle.acas_flight_laws.proofs.Models.{demand_can_be_met}
+use Rattle.acas_flight_lemmas.proofs.Models.{demand_can_be_met}
 use Rattle.acas_flight.specs.Clear.{Area, IsClear}
 use Rattle.acas_flight.specs.Response.{Demand, demand_of}
 use Rattle.acas_flight.specs.Window.{IsDuring, IsWindowOfCell, Times}

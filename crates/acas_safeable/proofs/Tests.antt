@@ -13,8 +13,8 @@ use Rattle.acas_flight.specs.Response.{Demand}
 use Rattle.acas_flight.specs.Window.{Times}
 use Rattle.acas_areas.specs.Chases.{StaysOver}
 use Rattle.acas_areas.specs.Limits.{AreEnds}
-use Rattle.acas_flight_laws.proofs.Safe.{high_pull-some, low_pull-some}
-use Rattle.acas_flight_laws.proofs.Numbers.{natural}
+use Rattle.acas_flight_lemmas.proofs.Safe.{high_pull-some, low_pull-some}
+use Rattle.acas_flight_lemmas.proofs.Numbers.{natural}
 use Rattle.acas_flight_windows.proofs.NearestTimes.{nearest}
 use Rattle.acas_region.proofs.Clears.{above_by, below_by, both_decide, either_decides, first_decides, nearest_decides}
 

@@ -5,5 +5,4 @@ pub mod Weights
 pub mod SumSteps
 pub mod Quotients
 pub mod SigmaSteps
-mod OneCornerSet
 pub mod CellColumns

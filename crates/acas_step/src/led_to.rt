@@ -5,8 +5,7 @@ ghost use Rattle.acas_grid.specs.States as numbers;
 ghost use Rattle.acas_process.specs.Step as process;
 ghost use Rattle.acas_step.specs.Corners.{IsInterpolation, IsWeighting};
 
-use crate::cell::{CornerSet, corners};
-use crate::second::moved;
+use crate::cell::CornerSet;
 use acas_base::Model;
 
 /// Gives the corners of the cells to which the sigma points lead within a second.
@@ -24,16 +23,4 @@ pub trait LedTo {
             let s = process.moved model.now x advisory sigma in
             IsInterpolation model.now.grid s result.corners result.total }
         ensures weights { IsWeighting model.now.grid result.corners result.total };
-}
-
-/// Looks for each cell anew.
-#[derive(Drop)]
-pub struct CellSearch;
-
-impl LedTo for CellSearch {
-    ghost serves = { λ it m. Unit {0} };
-
-    fn corners_led_to(&self, model: &Model, vertex: u32, advisory: u8, sigma: u32) -> CornerSet {
-        corners(model, moved(model, vertex, advisory, sigma))
-    }
 }

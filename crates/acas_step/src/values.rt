@@ -10,7 +10,7 @@ ghost use Rattle.acas_means.specs.Layer.{AreWithin, layer_values};
 ghost use Rattle.acas_means.specs.Values.{layer_mean};
 
 use crate::cell::CornerSet;
-use crate::led_to::{CellSearch, LedTo};
+use crate::led_to::LedTo;
 use crate::weighted::{weighted, weighted_sum};
 use acas_base::Model;
 use acas_frac::Rounding;
@@ -62,7 +62,9 @@ pub fn total_weight(model: &Model) -> i128
     i128::from(model.total_weight())
 }
 
-/// The mean as `mean` gives it, by what gives the corners.
+/// The mean of a layer's values over the points to which the sigma points lead from a vertex within a second under an advisory,
+/// in millionths, rounded at each point and once more at the end, by what gives the corners. It is the same for each present advisory,
+/// and no mean is larger than the largest value.
 pub fn mean_by<R: Rounding, L: LedTo>(
     model: &Model,
     led_to: &L,
@@ -85,24 +87,4 @@ pub fn mean_by<R: Rounding, L: LedTo>(
         sum += weighted(sigma_weight(model, sigma), value);
     }
     R::div(sum, total_weight(model)) as i64
-}
-
-/// The mean of a layer's values over the points to which the sigma points lead from a vertex within a second under an advisory,
-/// in millionths, rounded at each point and once more at the end. It is the same for each present advisory.
-pub fn mean<R: Rounding>(
-    model: &Model,
-    vertex: u32,
-    advisory: u8,
-    side: Side,
-    below: &[Pair],
-) -> i64
-    requires vertex { vertex < vertices model.now.grid }
-    requires advisory { advisory < model.now.grid.advisories }
-    requires below { length below.now ≡ states model.now.grid }
-    ensures value { result ≡ layer_mean R.round model.now side below.now vertex advisory }
-
-    // No mean is larger than the largest value.
-    ensures bounded { (most : ℕ) → AreWithin most side below.now → unsigned_abs result ≤ most }
-{
-    mean_by::<R, CellSearch>(model, &CellSearch, vertex, advisory, side, below)
 }

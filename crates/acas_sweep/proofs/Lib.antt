@@ -1,3 +1,4 @@
+mod CompiledLaws
 pub mod Below
 pub mod Over
 pub mod Written

@@ -24,7 +24,7 @@ use Rattle.acas_command.specs.Says.{SaysModel}
 use Rattle.acas_table_commands.specs.Calls.{CallsForCompile, CallsForValues, compile_of, values_of}
 use Rattle.acas_table_rows.specs.StoredLine.{compiled_line}
 use Rattle.acas_table_rows.specs.TableFile.{compiled_text}
-use Rattle.acas_table_lines.specs.ValuesText.{values_text}
+use Rattle.acas_table_rows.specs.ValuesText.{values_text}
 use Rattle.acas_table_commands.specs.Worth.{CompileIsWorth, IsTightTableOf, PrintsTable, StoresTable, ValuesIsWorth}
 
 -- the compiled table of a model that a file says

@@ -6,7 +6,7 @@ use Rattle.acas_command.specs.Calls.{with_model}
 use Rattle.acas_command.specs.Outcome.{Outcome, prints, stores}
 use Rattle.acas_table_rows.specs.StoredLine.{compiled_line}
 use Rattle.acas_table_rows.specs.TableFile.{compiled_text}
-use Rattle.acas_table_lines.specs.ValuesText.{values_text}
+use Rattle.acas_table_rows.specs.ValuesText.{values_text}
 
 -- `values M` prints the compiled table of the model
 abbrev pub values_of : Option (List ℕ) → Outcome

@@ -15,7 +15,7 @@ use Rattle.acas_command.specs.Says.{SaysModel}
 use Rattle.acas_command.specs.Worth.{IsNotRefused}
 use Rattle.acas_command.specs.declared.status.Cause.{Cause}
 use Rattle.acas_command.specs.declared.status.Cause.TheVariants.{Done, Output}
-use Rattle.acas_table_lines.specs.ValuesText.{table_lines}
+use Rattle.acas_table_rows.specs.ValuesText.{table_lines}
 
 -- M says the model m by these bytes, and t is a table of it that has two-sided bounds and is tight
 pub record IsTightTableOf (model : List ℕ) (files : Files) (bytes : List ℕ) (m : ModelData) (t : Table) : Type 0 where

@@ -16,7 +16,7 @@ use acas_outside::{Folder, Sink};
 use acas_plane::Turned;
 use acas_step_choices::Backups;
 use acas_sweep::Sweep;
-use acas_table_lines::{Pen, print_table};
+use acas_table_rows::{Pen, print_table};
 use std::alloc::Global;
 
 /// Prints the compiled table of a model, layer by layer as the sweep goes. It takes all its memory before the first

@@ -1,3 +1,7 @@
+pub mod LayerParts
+pub mod ValuesText
+pub mod LineRows
+pub mod Heads
 pub mod BegunWriter
 pub mod TableRows
 pub mod TableFile

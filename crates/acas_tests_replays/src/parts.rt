@@ -1,10 +1,10 @@
 //! A model, the advices of a table and an encounter, each from a few words.
 ghost use Rattle.std.specs.Prelude.{IfSome};
 ghost use Rattle.acas_base.specs.Advices.{AreAdvicesOf};
-ghost use Rattle.acas_encounter.specs.Encounter.{IsEncounterOf};
+ghost use Rattle.acas_replay.specs.Encounter.{IsEncounterOf};
 
 use acas_base::{Advices, Model};
-use acas_encounter::{Encounter, read_encounter};
+use acas_replay::{Encounter, read_encounter};
 use acas_tests_data::model_of;
 use std::alloc::Global;
 

@@ -11,8 +11,8 @@ use acas_grid::{Point, state_present};
 use acas_means::{
     ColumnMeans, LayerMeans, Side, column_count, reach_of, terminal, vertex_in_column,
 };
-use acas_plain::backup;
-use acas_step::{Corner, corners, mean, means_at, moved};
+use acas_plain::{backup, mean, means_at};
+use acas_step::{Corner, corners, moved};
 use acas_step_choices::Backups;
 use acas_step_columns::StencilMeans;
 use acas_step_stencils::Stencils;

@@ -1,6 +1,6 @@
 //! The text of an encounter, in two spellings and with each fault that it can have.
 use crate::faults::three_advisories;
-use acas_encounter::{Encounter, Start, read_encounter};
+use acas_replay::{Encounter, Start, read_encounter};
 use std::alloc::Global;
 
 /// Three seconds.

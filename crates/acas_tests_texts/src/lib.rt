@@ -1,4 +1,4 @@
-//! Tests of texts: the public calls of `acas_doc`, `acas_model`, `acas_base`, `acas_boxes` and `acas_encounter`, with values worked out by
+//! Tests of texts: the public calls of `acas_doc`, `acas_model`, `acas_base`, `acas_boxes` and `acas_replay`, with values worked out by
 //! hand. Rows are lines of text, so that a row costs no proof. More texts of no model are cases of `acas_cases`.
 #![tactic(auto)]
 

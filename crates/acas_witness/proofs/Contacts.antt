@@ -9,14 +9,14 @@ use Rattle.acas_flight.specs.Clear.{Area}
 use Rattle.acas_flight.specs.Window.{Times, IsDuring}
 use Rattle.acas_flight.specs.Values.{IsOver}
 use Rattle.acas_frac.proofs.IntRing.{at, ◌⊗◌, ring, mul_swapped_ℤ}
-use Rattle.acas_flight_laws.proofs.Rising.{scaled_le}
+use Rattle.acas_flight_lemmas.proofs.Rising.{scaled_le}
 use Rattle.acas_areas.specs.Limits.{IsHeldCurve, IsOneAtMostNotWhole, IsEnd}
-use Rattle.acas_passes.specs.Value.{thinnest}
-use Rattle.acas_passes.specs.Flights.{Flight}
-use Rattle.acas_passes.specs.Search.{Search, IsSearch, IsTimed, IsFound, CanMeet, unit}
-use Rattle.acas_passes.specs.Responses.{IsResponse, fine}
-use Rattle.acas_pass_laws.proofs.Founds.{found-contact}
-use Rattle.acas_pass_laws.proofs.Touching.{lasts}
+use Rattle.acas_areas.specs.Value.{thinnest}
+use Rattle.acas_areas.specs.Flights.{Flight}
+use Rattle.acas_areas.specs.Search.{Search, IsSearch, IsTimed, IsFound, CanMeet, unit}
+use Rattle.acas_areas.specs.Responses.{IsResponse, fine}
+use Rattle.acas_pass_lemmas.proofs.Founds.{found-contact}
+use Rattle.acas_pass_lemmas.proofs.Touching.{lasts}
 use Rattle.acas_witness_plans.specs.declared.plan.Plan.{Plan}
 use Rattle.acas_rulings.specs.declared.flight.Flight as printed
 use Rattle.acas_rulings.specs.Witness.{search_between, IsFlightInContact}

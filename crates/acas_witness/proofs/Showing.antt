@@ -12,8 +12,8 @@ use Rattle.acas_flight.specs.Window.{IsWindowOfBox, IsWindowOfCell, Times}
 use Rattle.acas_flight.specs.Clear.{Area, EndsInVerticalContact, area_of_box, area_of_cell}
 use Rattle.acas_flight.specs.Values.{IsOver}
 use Rattle.acas_frac.proofs.IntRing.{at, ◌⊗◌, ring}
-use Rattle.acas_flight_laws.proofs.Finer.{lasting_finer}
-use Rattle.acas_flight_laws.proofs.Endangered.{EndsInVerticalContact-finer}
+use Rattle.acas_flight_lemmas.proofs.Finer.{lasting_finer}
+use Rattle.acas_flight_lemmas.proofs.Endangered.{EndsInVerticalContact-finer}
 use Rattle.acas_rulings.specs.Printed.{AreParts, flight_fractions, fractions_of, segments_of}
 use Rattle.acas_rulings.specs.Ranges.{IsBoxesRange, IsCellsRange, IsContactOfBox, IsContactOfCell}
 use Rattle.acas_rulings.specs.Witness.{IsFlightInContact, IsWitnessOf}

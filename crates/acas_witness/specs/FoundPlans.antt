@@ -6,9 +6,9 @@ use Rattle.acas_flight.specs.Response.{Demand, demand_of}
 use Rattle.acas_flight.specs.Window.{Times}
 use Rattle.acas_flight.specs.Clear.{Area}
 use Rattle.acas_flight.specs.Extremes.{IsLowExtreme, IsHighExtreme}
-use Rattle.acas_passes.specs.Value.{thinnest}
-use Rattle.acas_passes.specs.Flights.{Flight}
-use Rattle.acas_passes.specs.Search.{Search, IsSearch, IsFound, CanMeet, unit}
+use Rattle.acas_areas.specs.Value.{thinnest}
+use Rattle.acas_areas.specs.Flights.{Flight}
+use Rattle.acas_areas.specs.Search.{Search, IsSearch, IsFound, CanMeet, unit}
 use Rattle.acas_areas.specs.Limits.{IsEnd}
 use Rattle.acas_areas.specs.View.{area_of, times_of}
 use Rattle.acas_areas.specs.declared.parts.BoxState.{BoxState}

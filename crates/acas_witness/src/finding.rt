@@ -5,7 +5,7 @@ ghost use Rattle.acas_frac.specs.Fraction.{IsReduced};
 ghost use Rattle.acas_flight.specs.Response.{demand_of};
 ghost use Rattle.acas_areas.specs.Limits.{IsEnd, IsTime};
 ghost use Rattle.acas_areas.specs.View.{area_of};
-ghost use Rattle.acas_passes.specs.Search.{CanMeet, high_flight, low_flight, unit};
+ghost use Rattle.acas_areas.specs.Search.{CanMeet, high_flight, low_flight, unit};
 ghost use Rattle.acas_witness_plans.specs.Plans.{CanBeFlown, IsOutcomeOf};
 ghost use Rattle.acas_rulings.specs.Printed.{flight_fractions};
 ghost use Rattle.acas_witness_response.specs.PrintedPlans.{PrintsPlan};

@@ -3,12 +3,12 @@ use Rattle.std.proofs.Common.{◌≡◌, ℕ, ◌+◌, ◌-◌, ◌*◌, ◌<◌
 use Rattle.std.proofs.lemmas.Int.{ints}
 use Rattle.acas_frac.proofs.SignedProducts.{le-from_mul_ℤ}
 use Rattle.acas_frac.proofs.IntRing.{at, num, ◌⊗◌, ring, mul_swapped_ℤ}
-use Rattle.acas_flight_laws.proofs.Rising.{scaled_le}
+use Rattle.acas_flight_lemmas.proofs.Rising.{scaled_le}
 use Rattle.acas_frac.specs.Fraction.{Fraction, IsFrac, ReducesWithinBounds}
 use Rattle.acas_flight.specs.Values.{IsOver}
 use Rattle.acas_frac.proofs.Lowest.{den_at_most, ReducesWithinBounds-over}
 use Rattle.acas_areas.specs.Limits.{IsRate, IsPull, IsHold, IsTime, IsEnd}
-use Rattle.acas_passes.specs.Passes.{toward}
+use Rattle.acas_areas.specs.Passes.{toward}
 use native.Mathlib.Nat.{lt_of_mul-lt-mul_left}
 use lib.IntN.{*ℤ_comm}
 

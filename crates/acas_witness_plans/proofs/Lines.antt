@@ -1,11 +1,11 @@
 -- The value of a flight of the code is that of its numbers over q.
 use Rattle.std.proofs.Common.{◌≡◌, ℕ, ◌*◌, ◌<◌, refl, ap, ap₂, sym, ◌∙◌, [], ◌∷◌, ℤ, pos, ◌+ℤ◌, ◌-ℤ◌, ◌*ℤ◌, mul-pos}
 use Rattle.acas_frac.proofs.IntRing.{at, num, ◌⊕◌, ◌⊖◌, ◌⊗◌, ring}
-use Rattle.acas_flight_laws.proofs.Scales.{cancel_left}
+use Rattle.acas_flight_lemmas.proofs.Scales.{cancel_left}
 use Rattle.acas_frac.specs.Fraction.{Fraction, Same}
 use Rattle.acas_flight.specs.Values.{IsOver, IsHeld}
 use Rattle.acas_flight.specs.Curves.{held}
-use Rattle.acas_passes.specs.Flights.{Flight, value, intruder_end}
+use Rattle.acas_areas.specs.Flights.{Flight, value, intruder_end}
 use Rattle.acas_witness_plans.specs.Plans.{clearance_of, IsIntruderEnd, IsPlanOf, CanBeFlown, IsOutcomeOf}
 use Rattle.acas_witness_plans.specs.declared.plan.Outcome.{Outcome}
 use Rattle.acas_witness_plans.specs.declared.plan.Plan.{Plan}

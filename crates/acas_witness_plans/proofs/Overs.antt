@@ -2,13 +2,13 @@
 use Rattle.std.proofs.Common.{◌≡◌, ℕ, ◌+◌, ◌-◌, ◌*◌, ◌<◌, ◌≤◌, refl, ap, ap₂, sym, ◌∙◌, arith, cond, [], ◌∷◌, ℤ, pos, ◌+ℤ◌, ◌-ℤ◌, ◌*ℤ◌, ◌≤ℤ◌, unsigned_abs, int_lt, min, mul-pos}
 use Rattle.std.proofs.lemmas.Int.{ints, unsigned_abs-mul}
 use Rattle.acas_frac.proofs.IntRing.{at, num, ◌⊕◌, ◌⊖◌, ◌⊗◌, ring}
-use Rattle.acas_flight_laws.proofs.Held.{min_scaled, sub_scaled}
-use Rattle.acas_flight_laws.proofs.Gaps.{test_scaled, cond_times, cond_none}
+use Rattle.acas_flight_lemmas.proofs.Held.{min_scaled, sub_scaled}
+use Rattle.acas_flight_lemmas.proofs.Gaps.{test_scaled, cond_times, cond_none}
 use Rattle.acas_frac.specs.Fraction.{Fraction, whole_of}
 use Rattle.acas_flight.specs.Values.{IsOver}
 use Rattle.acas_flight.specs.Curves.{low_pull, low_hold}
-use Rattle.acas_passes.specs.Passes.{toward, rising, falling}
-use Rattle.acas_passes.specs.Search.{Search, grain, unit, rate_step, over_square, low_time, high_time, pull_at_low, hold_at_low, pull_at_high, hold_at_high}
+use Rattle.acas_areas.specs.Passes.{toward, rising, falling}
+use Rattle.acas_areas.specs.Search.{Search, grain, unit, rate_step, over_square, low_time, high_time, pull_at_low, hold_at_low, pull_at_high, hold_at_high}
 
 -- a whole number over n
 pub whole_over : (v w : ℤ) (n : ℕ) (f : Fraction) → f ≡ whole_of w → w ≡ v → IsOver n (v *ℤ pos n) f

@@ -5,8 +5,8 @@ use Rattle.std.proofs.lemmas.Bool.{cases_lt}
 use Rattle.acas_frac.proofs.SignedProducts.{mul-le_ℤ, mul-lt_ℤ, le-from_mul_ℤ, lt-from_mul_ℤ}
 use Rattle.acas_frac.proofs.IntRing.{at, num, ◌⊖◌, ◌⊗◌, ring, mul_swapped_ℤ, zero-sub_ℤ}
 use Rattle.acas_areas.proofs.Finer.{IsOver-finer}
-use Rattle.acas_flight_laws.proofs.Scales.{cancel_left, pos_inj}
-use Rattle.acas_flight_laws.proofs.Numbers.{test_true, strictly}
+use Rattle.acas_flight_lemmas.proofs.Scales.{cancel_left, pos_inj}
+use Rattle.acas_flight_lemmas.proofs.Numbers.{test_true, strictly}
 use Rattle.acas_frac.specs.Fraction.{Fraction, whole_of}
 use Rattle.acas_flight.specs.Values.{IsOver}
 use Rattle.acas_witness_plans.specs.Bends.{IsBend, IsDifference}

@@ -2,9 +2,9 @@
 use Rattle.std.proofs.Common.{◌≡◌, ℕ, ◌+◌, ◌-◌, ◌*◌, ◌<◌, ◌≤◌, refl, ap, ap₂, sym, ◌∙◌, arith, [], ◌∷◌, ℤ, pos, ◌-ℤ◌, ◌*ℤ◌, unsigned_abs, mul-pos}
 use Rattle.std.proofs.lemmas.Int.{unsigned_abs-mul}
 use Rattle.acas_frac.proofs.IntRing.{at, num, ◌⊖◌, ◌⊗◌, ring}
-use Rattle.acas_flight_laws.proofs.Held.{sub_scaled}
+use Rattle.acas_flight_lemmas.proofs.Held.{sub_scaled}
 use Rattle.acas_frac.specs.Fraction.{Fraction}
-use Rattle.acas_passes.specs.Passes.{Pass, IsLast}
+use Rattle.acas_areas.specs.Passes.{Pass, IsLast}
 
 pub exact_last : {F : Type 0} (p : Pass F) (last : ℕ) → p.way ≡ last * p.step → 0 < p.step → IsLast p last
 exact_last p last e h = record { reaches = omega arith; first = omega arith }

@@ -4,9 +4,9 @@ use Rattle.acas_frac.specs.Fraction.{Fraction, Same}
 use Rattle.acas_flight.specs.Values.{IsOver}
 use Rattle.acas_areas.specs.Limits.{IsHeldCurve, IsRate, IsWhole}
 use Rattle.acas_areas.specs.Sizes.{altitude_size}
-use Rattle.acas_passes.specs.declared.steps.TheConstants.{TIME_STEPS, PULL_STEPS}
-use Rattle.acas_passes.specs.Flights.{Flight, value}
-use Rattle.acas_passes.specs.Passes.{toward}
+use Rattle.acas_areas.specs.declared.steps.TheConstants.{TIME_STEPS, PULL_STEPS}
+use Rattle.acas_areas.specs.Flights.{Flight, value}
+use Rattle.acas_areas.specs.Passes.{toward}
 use Rattle.acas_witness_plans.specs.declared.plan.Plan.{Plan}
 use Rattle.acas_witness_plans.specs.declared.plan.Outcome.{Outcome}
 

@@ -5,7 +5,7 @@ ghost use Rattle.acas_flight.specs.Values.{IsHeld};
 ghost use Rattle.acas_areas.specs.Limits.{IsRate, IsTime};
 ghost use Rattle.acas_region_curves.specs.Ratios.{IsShort};
 ghost use Rattle.acas_areas.specs.Sizes.{altitude_size, shared_parts};
-ghost use Rattle.acas_passes.specs.Value.{is_below, IsWithinHalf};
+ghost use Rattle.acas_areas.specs.Value.{is_below, IsWithinHalf};
 ghost use Rattle.acas_witness_plans.specs.Plans.{CanBeFlown, IsIntruderEnd, clearance_of};
 
 use crate::plan::{Outcome, Plan};

@@ -3,13 +3,13 @@ use Rattle.std.proofs.Common.{◌≡◌, ◌≢◌, refl, sym, ℕ, ◌-◌, ◌
 use Rattle.std.specs.Int.{w128}
 use Rattle.std.proofs.lemmas.Int.{ints}
 use Rattle.std.proofs.lemmas.Option.{none-some}
-use Rattle.acas_flight_laws.proofs.Rising.{scaled_le}
+use Rattle.acas_flight_lemmas.proofs.Rising.{scaled_le}
 use Rattle.acas_frac.specs.Fraction.{Fraction, IsFrac, whole_of}
 use Rattle.acas_flight.specs.Response as response
 use Rattle.acas_flight.specs.Values.{IsAtMost, IsOver}
 use Rattle.acas_frac.proofs.Lowest.{den_at_most}
 use Rattle.acas_areas.specs.Limits.{IsRate, IsPull}
-use Rattle.acas_passes.specs.Responses.{segment, not_held, held_for, at_once, at_aim, before, past}
+use Rattle.acas_areas.specs.Responses.{segment, not_held, held_for, at_once, at_aim, before, past}
 use Rattle.acas_witness_plans.specs.Bends.{IsBend, IsDifference}
 use Rattle.acas_rulings.specs.Printed.{IsPart, AreParts, IsHeldPart, AreSegments, no_parts, a_part, level}
 use Rattle.acas_rulings.specs.declared.flight.Segment.{Segment}

@@ -5,8 +5,8 @@ use Rattle.std.proofs.lemmas.Int.{ints, int_max_is, int_min_is, unsigned_abs-mul
 use Rattle.std.specs.Int.{int_max, int_min}
 use Rattle.acas_frac.proofs.SignedProducts.{le-from_mul_ℤ}
 use Rattle.acas_frac.proofs.IntRing.{at, num, ◌⊖◌, ◌⊗◌, ring, mul_swapped_ℤ}
-use Rattle.acas_flight_laws.proofs.Scales.{cancel_left}
-use Rattle.acas_flight_laws.proofs.Held.{min_scaled}
+use Rattle.acas_flight_lemmas.proofs.Scales.{cancel_left}
+use Rattle.acas_flight_lemmas.proofs.Held.{min_scaled}
 use Rattle.acas_frac.specs.Fraction.{Fraction, whole_of}
 use Rattle.acas_flight.specs.Values.{IsOver}
 use Rattle.acas_flight_windows.proofs.Windows.{Near, IsHorizontalContact-of}

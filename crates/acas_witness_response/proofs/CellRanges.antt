@@ -3,8 +3,8 @@ use Rattle.std.proofs.Common.{unsigned_abs, arith, ◌≡◌, ℕ, ◌+◌, ◌-
 use Rattle.std.proofs.lemmas.Bool.{cases_lt}
 use lib.IntN.{*ℤ_comm}
 use Rattle.acas_frac.proofs.IntRing.{at, num, ◌⊕◌, ◌⊗◌, ring, mul_swapped_ℤ}
-use Rattle.acas_flight_laws.proofs.Scales.{cancel_left, pos_inj}
-use Rattle.acas_flight_laws.proofs.Held.{min_scaled}
+use Rattle.acas_flight_lemmas.proofs.Scales.{cancel_left, pos_inj}
+use Rattle.acas_flight_lemmas.proofs.Held.{min_scaled}
 use Rattle.acas_frac.specs.Fraction.{Fraction, whole_of}
 use Rattle.acas_flight.specs.Values.{IsOver}
 use Rattle.acas_spec.specs.Model.{ModelData}

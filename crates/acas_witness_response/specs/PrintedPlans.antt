@@ -2,7 +2,7 @@
 use Rattle.std.specs.Prelude.{ℕ, ◌-◌, ◌*◌, ◌^◌, ◌<◌, ◌≤◌, min, Option, ℤ, pos, neg_ℤ, unsigned_abs, int_le, if◌then◌else◌}
 use Rattle.acas_frac.specs.Fraction.{Fraction}
 use Rattle.acas_flight.specs.Values.{IsOver}
-use Rattle.acas_passes.specs.Flights.{Flight}
+use Rattle.acas_areas.specs.Flights.{Flight}
 use Rattle.acas_rulings.specs.declared.flight.Flight as printed
 use Rattle.acas_rulings.specs.declared.flight.Segment as part
 use Rattle.acas_witness_plans.specs.declared.plan.Plan.{Plan}

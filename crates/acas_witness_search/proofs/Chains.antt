@@ -2,15 +2,15 @@
 use Rattle.std.proofs.Common.{◌≡◌, ℕ, ◌<◌, ap, sym, subst, ◌∙◌, Bool, true, true≢false, List, ◌∷◌, Some, None, lit<}
 use Rattle.std.proofs.lemmas.Option.{same_Some}
 use Rattle.acas_frac.specs.Fraction.{Fraction, Same}
-use Rattle.acas_passes.specs.Value.{is_below}
-use Rattle.acas_passes.proofs.Halvings.{is_below-Same}
-use Rattle.acas_passes.specs.Flights.{value}
-use Rattle.acas_passes.specs.Passes.{Pass, IsLast, here, later, below_at, IsGentle}
-use Rattle.acas_passes.specs.Search.{Search, IsSearch, unit}
-use Rattle.acas_pass_laws.proofs.Ends.{AllSome}
-use Rattle.acas_pass_laws.proofs.Joins.{joined, own-end}
-use Rattle.acas_pass_laws.proofs.Gentle.{each_gentle}
-use Rattle.acas_pass_laws.proofs.Somes.{each_some}
+use Rattle.acas_areas.specs.Value.{is_below}
+use Rattle.acas_areas.proofs.Halvings.{is_below-Same}
+use Rattle.acas_areas.specs.Flights.{value}
+use Rattle.acas_areas.specs.Passes.{Pass, IsLast, here, later, below_at, IsGentle}
+use Rattle.acas_areas.specs.Search.{Search, IsSearch, unit}
+use Rattle.acas_pass_lemmas.proofs.Ends.{AllSome}
+use Rattle.acas_pass_lemmas.proofs.Joins.{joined, own-end}
+use Rattle.acas_pass_lemmas.proofs.Gentle.{each_gentle}
+use Rattle.acas_pass_lemmas.proofs.Somes.{each_some}
 use Rattle.acas_witness_search.specs.declared.quantity.Quantity.{Quantity}
 use Rattle.acas_witness_search.specs.declared.quantity.Quantity.TheVariants.{Time, Altitude, Intruder, Aim, Pull, Hold, Own}
 use Rattle.acas_witness_search.specs.declared.survey.Survey.{Survey}

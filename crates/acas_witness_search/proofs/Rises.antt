@@ -7,16 +7,16 @@ use Rattle.acas_frac.proofs.Squares.{sq}
 use Rattle.acas_frac.proofs.Orders.{by_above, by_below, cases_lt_ℤ}
 use Rattle.acas_flight.proofs.Between.{test_lt}
 use Rattle.acas_flight.proofs.Curves.{steady, approach_below, approach_above}
-use Rattle.acas_flight_laws.proofs.Rising.{scaled_le}
-use Rattle.acas_flight_laws.proofs.Tangents.{faster}
-use Rattle.acas_pass_laws.proofs.Deficits.{start_change}
-use Rattle.acas_pass_laws.proofs.Neighbours.{next, rising_next, falling_next}
+use Rattle.acas_flight_lemmas.proofs.Rising.{scaled_le}
+use Rattle.acas_flight_lemmas.proofs.Tangents.{faster}
+use Rattle.acas_pass_lemmas.proofs.Deficits.{start_change}
+use Rattle.acas_pass_lemmas.proofs.Neighbours.{next, rising_next, falling_next}
 use Rattle.acas_flight.specs.Curves.{approach, held}
-use Rattle.acas_passes.specs.Halving.{HalvesTo, ends, raises, lowers}
-use Rattle.acas_passes.specs.Value.{is_below}
-use Rattle.acas_passes.specs.Flights.{Flight, flight, value}
-use Rattle.acas_passes.specs.Passes.{Pass, rising, falling}
-use Rattle.acas_passes.specs.Search.{Search, unit, over_square, rate_step, high_time, pull_at_low, hold_at_low, altitude_pass, intruder_pass, aim_pass}
+use Rattle.acas_areas.specs.Halving.{HalvesTo, ends, raises, lowers}
+use Rattle.acas_areas.specs.Value.{is_below}
+use Rattle.acas_areas.specs.Flights.{Flight, flight, value}
+use Rattle.acas_areas.specs.Passes.{Pass, rising, falling}
+use Rattle.acas_areas.specs.Search.{Search, unit, over_square, rate_step, high_time, pull_at_low, hold_at_low, altitude_pass, intruder_pass, aim_pass}
 use Rattle.acas_witness_search.specs.declared.quantity.Quantity.{Quantity}
 use Rattle.acas_witness_search.specs.declared.quantity.Quantity.TheVariants.{Time, Altitude, Intruder, Aim, Pull, Hold, Own}
 use Rattle.acas_witness_search.specs.declared.survey.Survey.{Survey}

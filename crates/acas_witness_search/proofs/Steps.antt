@@ -2,7 +2,7 @@
 use Rattle.std.proofs.Common.{◌≡◌, ℕ, ◌≤◌, arith, ℤ, pos, ◌*ℤ◌, ◌≤ℤ◌, unsigned_abs, to_z, of_z}
 use Rattle.std.specs.Int.{w64}
 use Rattle.std.proofs.lemmas.Int.{ints}
-use Rattle.acas_passes.specs.Passes.{rising, falling}
+use Rattle.acas_areas.specs.Passes.{rising, falling}
 use Rattle.acas_witness_plans.proofs.Overs.{rising_size, falling_size}
 
 pub rate64 : (v : ℤ) → unsigned_abs v ≤ 10000 → to_z w64 (of_z w64 v) ≡ v

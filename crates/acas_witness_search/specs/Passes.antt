@@ -1,10 +1,10 @@
 -- Where a pass, or those from one on, ends.
 use Rattle.std.specs.Prelude.{◌≡◌, ℕ, List, [], ◌∷◌, true, false}
 use Rattle.acas_frac.specs.Fraction.{Fraction}
-use Rattle.acas_passes.specs.Halving.{HalvesTo}
-use Rattle.acas_passes.specs.Flights.{Flight, value}
-use Rattle.acas_passes.specs.Passes.{Pass, IsLast, EndsAt, below_at}
-use Rattle.acas_passes.specs.Search.{Search, unit, passes, altitude_pass, intruder_pass, aim_pass, pull_pass, hold_pass, own_pass}
+use Rattle.acas_areas.specs.Halving.{HalvesTo}
+use Rattle.acas_areas.specs.Flights.{Flight, value}
+use Rattle.acas_areas.specs.Passes.{Pass, IsLast, EndsAt, below_at}
+use Rattle.acas_areas.specs.Search.{Search, unit, passes, altitude_pass, intruder_pass, aim_pass, pull_pass, hold_pass, own_pass}
 use Rattle.acas_witness_plans.specs.declared.plan.Plan.{Plan}
 use Rattle.acas_witness_search.specs.declared.survey.Survey.{Survey}
 use Rattle.acas_witness_search.specs.declared.quantity.Quantity.{Quantity}

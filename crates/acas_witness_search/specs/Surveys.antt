@@ -3,10 +3,10 @@ use Rattle.std.specs.Prelude.{◌≡◌, ℕ, Bool, true, false, ℤ, pos, ◌*�
 use Rattle.acas_flight.specs.Response.{Demand}
 use Rattle.acas_areas.specs.Chases.{demand_from}
 use Rattle.acas_areas.specs.View.{area_of}
-use Rattle.acas_passes.specs.Value.{is_below}
-use Rattle.acas_passes.specs.Flights.{Flight, value}
-use Rattle.acas_passes.specs.Passes.{Pass, below_at}
-use Rattle.acas_passes.specs.Search.{Search, unit, rate_step, high_flight_from, high_flight, time_pass, altitude_pass, intruder_pass, aim_pass, pull_pass, hold_pass, own_pass}
+use Rattle.acas_areas.specs.Value.{is_below}
+use Rattle.acas_areas.specs.Flights.{Flight, value}
+use Rattle.acas_areas.specs.Passes.{Pass, below_at}
+use Rattle.acas_areas.specs.Search.{Search, unit, rate_step, high_flight_from, high_flight, time_pass, altitude_pass, intruder_pass, aim_pass, pull_pass, hold_pass, own_pass}
 use Rattle.acas_witness_search.specs.declared.survey.Survey.{Survey}
 use Rattle.acas_witness_search.specs.declared.quantity.Quantity.{Quantity}
 use Rattle.acas_witness_search.specs.declared.quantity.Quantity.TheVariants.{Time, Altitude, Intruder, Aim, Pull, Hold, Own}

@@ -1,12 +1,12 @@
 //! The first flight that is not below, in a pass along which the value of a flight never falls.
 ghost use Rattle.std.specs.Prelude.{◌≡◌, ℕ, ◌+◌, ◌<◌, true, false};
-ghost use Rattle.acas_passes.specs.Halving.{HalvesTo};
+ghost use Rattle.acas_areas.specs.Halving.{HalvesTo};
 ghost use Rattle.acas_witness_plans.specs.Plans.{CanBeFlown};
 ghost use Rattle.acas_witness_search.specs.Order.{rises};
 ghost use Rattle.acas_witness_search.specs.Surveys.{below_in, IsPointOf, pass_of};
 
 use crate::quantity::SearchPass;
-use acas_passes::Pass;
+use acas_areas::Pass;
 use acas_witness_plans::Outcome;
 
 /// The flight at which the halving of a pass ends, from the flight of its last point. As its values never fall, that is the first one

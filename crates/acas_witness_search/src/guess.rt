@@ -5,7 +5,7 @@ ghost use Rattle.acas_witness_search.specs.Order.{rises};
 
 use crate::quantity::Quantity;
 use crate::survey::Survey;
-use acas_passes::RATE_STEPS;
+use acas_areas::RATE_STEPS;
 use acas_witness_plans::{Outcome, clearance, end_parts};
 
 /// The greatest way between two rates, in steps.

@@ -1,11 +1,11 @@
 //! The numbers of the last points of the passes.
 ghost use Rattle.std.specs.Prelude.{◌≡◌, ◌+◌, ◌-◌, ◌*◌, ◌<◌, ◌≤◌, pos, ◌-ℤ◌, ◌*ℤ◌, ◌≤ℤ◌, unsigned_abs};
-ghost use Rattle.acas_passes.specs.Passes.{IsLast};
-ghost use Rattle.acas_passes.specs.Search.{aim_pass, altitude_pass, hold_pass, intruder_pass, own_pass, pull_pass, time_pass};
+ghost use Rattle.acas_areas.specs.Passes.{IsLast};
+ghost use Rattle.acas_areas.specs.Search.{aim_pass, altitude_pass, hold_pass, intruder_pass, own_pass, pull_pass, time_pass};
 ghost use Rattle.acas_witness_search.specs.Surveys.{search_of};
 
 use crate::survey::Survey;
-use acas_passes::{PULL_STEPS, RATE_STEPS, TIME_STEPS};
+use acas_areas::{PULL_STEPS, RATE_STEPS, TIME_STEPS};
 use acas_units::{GREATEST_CLOSING, GREATEST_RATE, WINDOW_SECONDS};
 use acas_witness_plans::{end_parts, rate_steps};
 

@@ -2,15 +2,15 @@
 ghost use Rattle.std.specs.Prelude.{◌≡◌, ◌*◌, ◌<◌, ◌≤◌, pos, ◌*ℤ◌, ◌≤ℤ◌, unsigned_abs, int_lt, if◌then◌else◌};
 ghost use Rattle.acas_frac.specs.Fraction.{whole_of};
 ghost use Rattle.acas_flight.specs.Curves.{low_hold, low_pull};
-ghost use Rattle.acas_passes.specs.Passes.{falling, rising};
-ghost use Rattle.acas_passes.specs.Search.{after_altitude, aim_pass, altitude_pass, hold_pass, intruder_pass, low_flight, own_pass, pull_pass, time_pass, unit};
+ghost use Rattle.acas_areas.specs.Passes.{falling, rising};
+ghost use Rattle.acas_areas.specs.Search.{after_altitude, aim_pass, altitude_pass, hold_pass, intruder_pass, low_flight, own_pass, pull_pass, time_pass, unit};
 ghost use Rattle.acas_areas.specs.Limits.{IsHold, IsPull, IsRate, IsWhole};
 ghost use Rattle.acas_witness_plans.specs.Plans.{CanBeFlown, IsPlanOf, IsWholePlan};
 ghost use Rattle.acas_witness_search.specs.Surveys.{IsHighPlan, IsPointOf, asked_in, search_of};
 
 use crate::survey::Survey;
 use acas_frac::Frac;
-use acas_passes::{PULL_STEPS, RATE_STEPS, TIME_STEPS};
+use acas_areas::{PULL_STEPS, RATE_STEPS, TIME_STEPS};
 use acas_units::{GREATEST_DELAY, GREATEST_LIMIT, GREATEST_RATE};
 use acas_witness_plans::{Plan, hold_at, place, pull_at, rate_at, rate_steps, time_place};
 

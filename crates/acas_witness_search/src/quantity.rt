@@ -1,14 +1,14 @@
 //! One pass of a survey.
 ghost use Rattle.std.specs.Prelude.{◌≡◌};
-ghost use Rattle.acas_passes.specs.Flights.{value};
-ghost use Rattle.acas_passes.specs.Passes.{IsLast};
-ghost use Rattle.acas_passes.specs.Search.{unit};
+ghost use Rattle.acas_areas.specs.Flights.{value};
+ghost use Rattle.acas_areas.specs.Passes.{IsLast};
+ghost use Rattle.acas_areas.specs.Search.{unit};
 ghost use Rattle.acas_witness_plans.specs.Plans.{CanBeFlown, clearance_of};
 ghost use Rattle.acas_witness_search.specs.Order.{next_of};
 ghost use Rattle.acas_witness_search.specs.Surveys.{IsPointOf, pass_of, search_of};
 
 use crate::survey::Survey;
-use acas_passes::Pass;
+use acas_areas::Pass;
 use acas_witness_plans::{Outcome, Plan, fly, is_under};
 
 /// The quantity that a pass moves.

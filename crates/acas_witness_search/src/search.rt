@@ -1,15 +1,15 @@
 //! The search through all passes.
 ghost use Rattle.std.specs.Prelude.{◌≡◌, true, MatchOption};
-ghost use Rattle.acas_passes.specs.Value.{is_below};
-ghost use Rattle.acas_passes.specs.Flights.{value};
-ghost use Rattle.acas_passes.specs.Search.{low_flight, passes, unit};
+ghost use Rattle.acas_areas.specs.Value.{is_below};
+ghost use Rattle.acas_areas.specs.Flights.{value};
+ghost use Rattle.acas_areas.specs.Search.{low_flight, passes, unit};
 ghost use Rattle.acas_witness_search.specs.Passes.{IsEndIn, IsHitIn, IsMissedIn, passes_from};
 ghost use Rattle.acas_witness_search.specs.Surveys.{EndsNotBelow, StartsBelow, pass_of, search_of};
 
 use crate::first::first_from;
 use crate::quantity::{Quantity, SearchPass};
 use crate::survey::Survey;
-use acas_passes::{Pass, halve};
+use acas_areas::{Pass, halve};
 use acas_witness_plans::Outcome;
 
 // The flight at which the halving of a pass ends, if the last flight of the pass is not below. Where the values of a pass never fall, it

@@ -4,7 +4,7 @@ ghost use Rattle.acas_units.specs.declared.limits.TheConstants.{GREATEST_HALF_HE
 ghost use Rattle.acas_units.specs.declared.ticks.TheConstants.{TICKS_PER_FOOT};
 ghost use Rattle.acas_areas.specs.Chases.{IsAsked, demand_from};
 ghost use Rattle.acas_areas.specs.Limits.{IsEnd};
-ghost use Rattle.acas_passes.specs.Value.{thinnest};
+ghost use Rattle.acas_areas.specs.Value.{thinnest};
 
 use acas_areas::BoxState;
 use acas_frac::Frac;

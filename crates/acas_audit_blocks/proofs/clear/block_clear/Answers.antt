@@ -3,7 +3,7 @@ use Rattle.std.proofs.lemmas.Bool.{true_from_ne_false}
 use Rattle.acas_flight.specs.Response.{demand_of}
 use Rattle.acas_flight.specs.Clear.{Area, IsEndangeredDuring}
 use Rattle.acas_areas.specs.View.{times_of}
-use Rattle.acas_witness_laws.proofs.Dangers.{not_clear_in}
+use Rattle.acas_witness_lemmas.proofs.Dangers.{not_clear_in}
 use Rattle.acas_audit_blocks.proofs.Blocks.{danger_in_area, danger_in_block}
 use Rattle.acas_audit_blocks.proofs.clear.block_clear.Goals as goal
 

@@ -1,6 +1,6 @@
 use Rattle.std.proofs.Common.{refl}
 use Rattle.acas_report_lines.specs.declared.counts.Which.TheVariants.{All}
-use Rattle.acas_report_cells.specs.Report.{report_text}
+use Rattle.acas_report_lines.specs.CellReport.{report_text}
 use Rattle.acas_drill.proofs.counts.audit_counts.Goals as goal
 
 pub returns-in-Ok : goal.returns-in-Ok

@@ -6,7 +6,7 @@ use Rattle.acas_base.specs.Advices.{AreAdvices}
 use Rattle.acas_outside.specs.Counts.{Rose}
 use Rattle.acas_outside.specs.Files.{Files, Given}
 use Rattle.acas_outside.specs.Outside.{Outside, outside}
-use Rattle.acas_encounter.specs.Whole.{encounter_of}
+use Rattle.acas_replay.specs.Whole.{encounter_of}
 use Rattle.acas_command.specs.Called.{calls_for}
 use Rattle.acas_command.specs.Calls.{input_cause, with_input}
 use Rattle.acas_command.specs.InputFile.{IsInputFile}

@@ -1,5 +1,5 @@
 use Rattle.std.proofs.Common.{◌≡◌, ℕ, ◌+◌, ◌/◌, nat_lt, refl, arith}
-use Rattle.acas_passes.specs.Halving.{HalvesTo, ends, raises, lowers}
+use Rattle.acas_areas.specs.Halving.{HalvesTo, ends, raises, lowers}
 use Rattle.acas_flight_examples.proofs.passes.halving_takes_the_lower_middle.Goals as goal
 
 pub returns-clause-third : goal.returns-clause-third

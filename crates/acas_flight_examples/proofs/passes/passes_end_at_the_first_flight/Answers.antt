@@ -1,8 +1,8 @@
 use Rattle.std.proofs.Common.{◌≡◌, ℕ, List, [], ◌∷◌, false, true≢false, pos, refl, sym, subst, arith}
 use Rattle.acas_flight.specs.Curves.{approach}
-use Rattle.acas_passes.specs.Halving.{ends, raises, lowers}
-use Rattle.acas_passes.specs.Flights.{Flight, value}
-use Rattle.acas_passes.specs.Passes.{EndsAt, IsLast, Pass, below_at, here, later}
+use Rattle.acas_areas.specs.Halving.{ends, raises, lowers}
+use Rattle.acas_areas.specs.Flights.{Flight, value}
+use Rattle.acas_areas.specs.Passes.{EndsAt, IsLast, Pass, below_at, here, later}
 use Rattle.acas_flight_examples.specs.Searched.{at_start, far_below, up_to_it}
 use Rattle.acas_flight_examples.proofs.passes.passes_end_at_the_first_flight.Goals as goal
 

@@ -1,5 +1,5 @@
 use Rattle.std.proofs.Common.{refl, arith}
-use Rattle.acas_passes.specs.Responses.{held_for, before, past, up, down, at_once}
+use Rattle.acas_areas.specs.Responses.{held_for, before, past, up, down, at_once}
 use Rattle.acas_flight_examples.proofs.searches.responses_are_worked_out.Goals as goal
 
 pub returns-clause-to_the_aim : goal.returns-clause-to_the_aim

@@ -3,13 +3,13 @@ use Rattle.std.proofs.lemmas.Int.{ints}
 use Rattle.acas_frac.specs.Fraction.{Fraction}
 use Rattle.acas_flight.specs.Response.{demand_of}
 use Rattle.acas_flight.specs.Clear.{area_of_box}
-use Rattle.acas_flight_laws.proofs.Models.{demand_can_be_met}
+use Rattle.acas_flight_lemmas.proofs.Models.{demand_can_be_met}
 use Rattle.acas_areas.specs.View.{times_of}
-use Rattle.acas_passes.specs.Search.{unit}
+use Rattle.acas_areas.specs.Search.{unit}
 use Rattle.acas_rulings.specs.Boxes.{audited}
-use Rattle.acas_manoeuvre.specs.View.{may_of}
-use Rattle.acas_manoeuvre_laws.proofs.Safe.{apart-safe}
-use Rattle.acas_manoeuvre_laws.proofs.Windows.{in_window}
+use Rattle.acas_meetings.specs.View.{may_of}
+use Rattle.acas_manoeuvre_lemmas.proofs.Safe.{apart-safe}
+use Rattle.acas_manoeuvre_lemmas.proofs.Windows.{in_window}
 use Rattle.acas_meetings.specs.Verdicts.{hunt_between}
 use Rattle.acas_intruder.proofs.Finding.{some}
 use Rattle.acas_intruder.proofs.Meetings.{accel_is, met, prints-course}

@@ -1,8 +1,8 @@
 use Rattle.std.proofs.Common.{◌≡◌, ap, pos, neg_ℤ, ◌*ℤ◌, unsigned_abs, refl, to_z, of_z, arith}
 use Rattle.std.specs.Int.{w64}
 use Rattle.std.proofs.lemmas.Int.{ints}
-use Rattle.acas_passes.specs.declared.steps.TheConstants.{RATE_STEPS}
-use Rattle.acas_passes.specs.Search.{grain, high_flight, high_flight_from, high_time}
+use Rattle.acas_areas.specs.declared.steps.TheConstants.{RATE_STEPS}
+use Rattle.acas_areas.specs.Search.{grain, high_flight, high_flight_from, high_time}
 use Rattle.acas_witness_search.specs.Surveys.{search_of}
 use Rattle.acas_witness_plans.specs.Plans.{IsPlanOf}
 use Rattle.acas_witness_plans.proofs.Overs.{eighths_of, high_over}

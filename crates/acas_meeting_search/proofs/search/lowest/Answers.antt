@@ -1,5 +1,5 @@
 use Rattle.std.proofs.Common.{pos, unsigned_abs, refl}
-use Rattle.acas_passes.specs.Search.{low_time}
+use Rattle.acas_areas.specs.Search.{low_time}
 use Rattle.acas_witness_search.specs.Surveys.{search_of}
 use Rattle.acas_witness_plans.proofs.Overs.{low_over}
 use Rattle.acas_meetings.specs.Hunt.{low_course}

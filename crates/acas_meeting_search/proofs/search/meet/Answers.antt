@@ -1,11 +1,11 @@
 use Rattle.std.proofs.Common.{◌∙◌, ap}
-use Rattle.acas_passes.specs.Passes.{at_high, at_low, between}
-use Rattle.acas_passes.specs.Value.{is_below}
-use Rattle.acas_pass_laws.proofs.Ends.{below_or_not}
+use Rattle.acas_areas.specs.Passes.{at_high, at_low, between}
+use Rattle.acas_areas.specs.Value.{is_below}
+use Rattle.acas_pass_lemmas.proofs.Ends.{below_or_not}
 use Rattle.acas_meetings.specs.Hunt.{high_course, low_course}
-use Rattle.acas_hunt_laws.proofs.Joins.{time-start}
-use Rattle.acas_hunt_laws.proofs.Somes.{high_some, low_some}
-use Rattle.acas_witness_laws.proofs.Meetings.{above_of, within_of, not_within_of}
+use Rattle.acas_hunt_lemmas.proofs.Joins.{time-start}
+use Rattle.acas_hunt_lemmas.proofs.Somes.{high_some, low_some}
+use Rattle.acas_witness_lemmas.proofs.Meetings.{above_of, within_of, not_within_of}
 use Rattle.acas_meeting_search.specs.Courses.{value_at}
 use Rattle.acas_meeting_search.specs.Turns.{value_in}
 use Rattle.acas_meeting_search.specs.View.{hunt_of}

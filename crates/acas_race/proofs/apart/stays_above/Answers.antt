@@ -1,6 +1,6 @@
 use Rattle.acas_areas.specs.View.{times_of}
 use Rattle.acas_race.specs.View.{race_in, instant_at}
-use Rattle.acas_manoeuvre_laws.proofs.Stays.{stays-at}
+use Rattle.acas_manoeuvre_lemmas.proofs.Stays.{stays-at}
 use Rattle.acas_race.proofs.Tests.{decided}
 use Rattle.acas_race.proofs.apart.stays_above.Goals as goal
 

@@ -1,5 +1,5 @@
 use Rattle.acas_race.specs.View.{instant_at, race_in}
-use Rattle.acas_manoeuvre_laws.proofs.FirstTimes.{first_least_time}
+use Rattle.acas_manoeuvre_lemmas.proofs.FirstTimes.{first_least_time}
 use Rattle.acas_race.proofs.first.first_least.Goals as goal
 
 pub returns : goal.returns

@@ -1,4 +1,4 @@
-use Rattle.acas_manoeuvre.specs.Turns.{turning, too_slow}
+use Rattle.acas_meetings.specs.Turns.{turning, too_slow}
 use Rattle.acas_race.specs.View.{instant_at}
 use Rattle.acas_race.proofs.Tests.{test_false}
 use Rattle.acas_race.proofs.turn.turn_within.Goals as goal

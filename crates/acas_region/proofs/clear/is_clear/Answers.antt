@@ -1,8 +1,8 @@
 use Rattle.std.proofs.Common.{◌≡◌, arith}
 use Rattle.std.proofs.lemmas.Int.{ints}
 use Rattle.acas_flight.specs.Response.{demand_of}
-use Rattle.acas_flight_laws.proofs.Models.{demand_can_be_met}
-use Rattle.acas_flight_laws.proofs.Safe.{clear_areas_are_safe}
+use Rattle.acas_flight_lemmas.proofs.Models.{demand_can_be_met}
+use Rattle.acas_flight_lemmas.proofs.Safe.{clear_areas_are_safe}
 use Rattle.acas_areas.specs.View.{area_of, demand_in, times_of}
 use Rattle.acas_region.proofs.Clears.{clear_by}
 use Rattle.acas_region.proofs.clear.is_clear.Goals as goal

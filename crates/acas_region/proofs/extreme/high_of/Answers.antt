@@ -1,5 +1,5 @@
 use Rattle.acas_areas.specs.View.{demand_in, times_of, area_of}
-use Rattle.acas_flight_laws.proofs.Gaps.{high_extreme_of}
+use Rattle.acas_flight_lemmas.proofs.Gaps.{high_extreme_of}
 use Rattle.acas_flight_windows.proofs.LeastGaps.{high_gap}
 use Rattle.acas_region.proofs.extreme.high_of.Goals as goal
 

@@ -1,5 +1,5 @@
 use Rattle.acas_areas.specs.View.{demand_in, times_of, area_of}
-use Rattle.acas_flight_laws.proofs.Gaps.{low_extreme_of, low_gap_of}
+use Rattle.acas_flight_lemmas.proofs.Gaps.{low_extreme_of, low_gap_of}
 use Rattle.acas_region.proofs.extreme.low_of.Goals as goal
 
 pub returns-clause-least : goal.returns-clause-least

@@ -1,6 +1,6 @@
 use Rattle.acas_areas.specs.View.{times_of, time_at}
 use Rattle.acas_flight.specs.Border.{border_of}
-use Rattle.acas_flight_laws.proofs.Numbers.{natural}
+use Rattle.acas_flight_lemmas.proofs.Numbers.{natural}
 use Rattle.acas_flight_windows.proofs.LeastGaps.{least_of_nearest}
 use Rattle.acas_flight_windows.proofs.NearestTimes.{nearest_same}
 use Rattle.acas_region.proofs.least.at_nearest.Goals as goal

@@ -4,7 +4,7 @@ use Rattle.std.proofs.lemmas.Int.{ints}
 use Rattle.std.proofs.lemmas.Grind.{common_steps}
 use Rattle.acas_frac.specs.Fraction.{Fraction}
 use Rattle.acas_flight.specs.Border.{Border, border_of, IsGapAt, gap_number}
-use Rattle.acas_flight_laws.proofs.Gaps.{IsGapAt-of}
+use Rattle.acas_flight_lemmas.proofs.Gaps.{IsGapAt-of}
 use Rattle.acas_region.proofs.least.gap.Goals as goal
 
 from_parts : (s : Border) (time y : Fraction) (n d down : ℕ) (up : ℤ) → time.num ≡ pos n → time.den ≡ d → 0 < time.den → down ≡ d * d * s.pull → up ≡ gap_number s d n → y.num *ℤ pos down ≡ up *ℤ pos y.den → IsGapAt s time y

@@ -2,7 +2,7 @@ use Rattle.std.proofs.Common.{ℕ, ◌≡◌, ◌∙◌, ap₂, sym, arith, ℤ,
 use Rattle.std.specs.Int.{w128, w64}
 use Rattle.std.proofs.lemmas.Int.{ints}
 use Rattle.acas_flight.specs.Values.{less_or_more}
-use Rattle.acas_flight_laws.proofs.Held.{held_one_form}
+use Rattle.acas_flight_lemmas.proofs.Held.{held_one_form}
 use Rattle.acas_region_curves.proofs.curve.numerator.Goals as goal
 
 pub returns-clause-value : goal.returns-clause-value

@@ -1,5 +1,5 @@
 use Rattle.std.proofs.Common.{refl}
-use Rattle.acas_encounter.specs.Encounter.{seconds}
+use Rattle.acas_replay.specs.Encounter.{seconds}
 use Rattle.acas_replay.specs.Replay.{contacts, replay_text}
 use Rattle.acas_replay.proofs.Courses.{some_course}
 use Rattle.acas_replay.proofs.replaying.replay.Goals as goal

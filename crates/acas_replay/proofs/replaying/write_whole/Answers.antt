@@ -1,5 +1,5 @@
 use Rattle.std.proofs.Common.{◌≡◌, ◌∙◌, ap₂}
-use Rattle.acas_encounter.specs.Encounter.{seconds}
+use Rattle.acas_replay.specs.Encounter.{seconds}
 use Rattle.acas_outside.specs.Bytes.{AppendsPart}
 use Rattle.acas_outside.proofs.Appended.{on_err_always}
 use Rattle.acas_replay.specs.Replay.{Course, IsCourse, contacts, counts_line, replay_text}

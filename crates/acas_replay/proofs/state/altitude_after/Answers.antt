@@ -1,7 +1,7 @@
 use Rattle.std.proofs.Common.{◌≡◌, ◌≤◌, ℤ, pos, ◌+ℤ◌, ◌-ℤ◌, ◌*ℤ◌, unsigned_abs, to_z, of_z, w64, arith}
 use Rattle.std.proofs.lemmas.Int.{ints, to_z-of_z}
 use mir.Val.{SFits}
-use Rattle.acas_encounter.specs.declared.limits.TheConstants.{GREATEST_ACCELERATION}
+use Rattle.acas_replay.specs.declared.limits.TheConstants.{GREATEST_ACCELERATION}
 use Rattle.acas_replay.specs.declared.second.TheConstants.{LARGEST_ALTITUDE, LARGEST_RATE}
 use Rattle.acas_replay.proofs.state.altitude_after.Goals as goal
 

@@ -1,4 +1,4 @@
-use Rattle.acas_flight_laws.proofs.Models.{demand_can_be_met}
+use Rattle.acas_flight_lemmas.proofs.Models.{demand_can_be_met}
 use Rattle.acas_ruling_laws.proofs.Ones.{witness-one}
 use Rattle.acas_ruling_laws.proofs.Somes.{not_clear}
 use Rattle.acas_ruling_laws.proofs.laws.witnesses_are_one.Goals as goal

@@ -3,7 +3,7 @@ use Rattle.acas_spec.specs.Limits.{IsModel}
 use Rattle.acas_spec.specs.Model.{ModelData, states}
 use Rattle.acas_units.specs.declared.pair.Pair.{Pair}
 use Rattle.acas_process.specs.Compiled.{compiled}
-use Rattle.acas_process.proofs.CompiledLaws.{compiled_advice_within}
+use Rattle.acas_sweep.proofs.CompiledLaws.{compiled_advice_within}
 use Rattle.acas_grid.specs.States.{state_present, state_vertex}
 use Rattle.acas_means.specs.Layer.{IsLayer}
 use Rattle.acas_grid.proofs.StateNumbers.{state_present-below}

@@ -5,7 +5,7 @@ use Rattle.acas_command.specs.Outcome.{prints}
 use Rattle.acas_command.proofs.Behind.{answers-done, answers-output, told-kept}
 use Rattle.acas_command.proofs.Files.{called-model}
 use Rattle.acas_table_commands.specs.Calls.{values_of}
-use Rattle.acas_table_lines.specs.ValuesText.{values_text}
+use Rattle.acas_table_rows.specs.ValuesText.{values_text}
 use Rattle.acas_table_commands.proofs.Swept.{answered}
 use Rattle.acas_table_commands.proofs.Worth.{rest_of_values}
 use Rattle.acas_table_commands.proofs.values_command.print_compiled.Goals as goal

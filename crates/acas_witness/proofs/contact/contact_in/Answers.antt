@@ -1,5 +1,5 @@
 use Rattle.std.proofs.Common.{subst, sym}
-use Rattle.acas_flight_laws.proofs.Endangered.{endangered_cell, endangered_box}
+use Rattle.acas_flight_lemmas.proofs.Endangered.{endangered_cell, endangered_box}
 use Rattle.acas_flight.specs.Response.{demand_of}
 use Rattle.acas_flight.specs.Clear.{Area, IsEndangeredDuring}
 use Rattle.acas_areas.specs.View.{times_of}

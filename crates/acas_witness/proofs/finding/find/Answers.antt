@@ -1,6 +1,6 @@
 use Rattle.acas_flight.specs.Response.{demand_of, lasting}
 use Rattle.acas_areas.specs.View.{area_of, times_of}
-use Rattle.acas_passes.specs.Search.{unit}
+use Rattle.acas_areas.specs.Search.{unit}
 use Rattle.acas_rulings.specs.Witness.{search_between}
 use Rattle.acas_witness.proofs.Contacts.{unit_positive, contact_of, during_of}
 use Rattle.acas_witness.proofs.finding.find.Goals as goal

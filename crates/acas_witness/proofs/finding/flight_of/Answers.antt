@@ -1,7 +1,7 @@
 use Rattle.std.proofs.Common.{◌≡◌, ◌∙◌, ◌-◌, ◌*◌, ◌≤◌, pos, unsigned_abs, to_z, of_z, arith, mul-le-mul}
 use Rattle.std.specs.Int.{w64}
 use Rattle.std.proofs.lemmas.Int.{ints}
-use Rattle.acas_flight_laws.proofs.Held.{min_scaled, sub_scaled}
+use Rattle.acas_flight_lemmas.proofs.Held.{min_scaled, sub_scaled}
 use Rattle.acas_areas.proofs.Finer.{IsOver-finer}
 use Rattle.acas_witness_response.proofs.Assembly.{fine_some}
 use Rattle.acas_witness.proofs.Contacts.{planned_dens}

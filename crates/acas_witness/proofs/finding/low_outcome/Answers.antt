@@ -1,5 +1,5 @@
 use Rattle.std.proofs.Common.{arith, mul-pos}
-use Rattle.acas_passes.specs.Search.{unit, low_flight}
+use Rattle.acas_areas.specs.Search.{unit, low_flight}
 use Rattle.acas_witness_search.specs.Surveys.{search_of}
 use Rattle.acas_witness_plans.proofs.Lines.{outcome_of}
 use Rattle.acas_witness.proofs.finding.low_outcome.Goals as goal

@@ -1,12 +1,12 @@
-use Rattle.acas_passes.specs.Flights.{value}
-use Rattle.acas_passes.specs.Passes.{at_low, at_high, between}
-use Rattle.acas_passes.specs.Search.{unit, low_flight, high_flight}
-use Rattle.acas_pass_laws.proofs.Somes.{low_some, high_some}
-use Rattle.acas_pass_laws.proofs.Ends.{below_or_not}
+use Rattle.acas_areas.specs.Flights.{value}
+use Rattle.acas_areas.specs.Passes.{at_low, at_high, between}
+use Rattle.acas_areas.specs.Search.{unit, low_flight, high_flight}
+use Rattle.acas_pass_lemmas.proofs.Somes.{low_some, high_some}
+use Rattle.acas_pass_lemmas.proofs.Ends.{below_or_not}
 use Rattle.acas_witness_search.specs.Surveys.{search_of}
 use Rattle.acas_witness_plans.specs.Plans.{clearance_of}
 use Rattle.acas_witness_search.proofs.Chains.{search_fine}
-use Rattle.acas_witness_laws.proofs.Meetings.{above_of, within_of, not_within_of}
+use Rattle.acas_witness_lemmas.proofs.Meetings.{above_of, within_of, not_within_of}
 use Rattle.acas_witness.proofs.finding.meet.Goals as goal
 
 pub returns-then-is_in_contact-clause-found : goal.returns-then-is_in_contact-clause-found

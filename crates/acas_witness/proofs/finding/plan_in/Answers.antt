@@ -1,13 +1,13 @@
 use Rattle.std.proofs.Common.{◌*◌, ◌≤◌, sym}
 use Rattle.acas_flight.specs.Response.{demand_of}
 use Rattle.acas_areas.specs.View.{area_of, times_of}
-use Rattle.acas_passes.specs.Value.{thinnest}
-use Rattle.acas_passes.specs.Search.{CanMeet, IsSearch}
+use Rattle.acas_areas.specs.Value.{thinnest}
+use Rattle.acas_areas.specs.Search.{CanMeet, IsSearch}
 use Rattle.acas_witness_search.specs.Surveys.{search_of}
 use Rattle.acas_rulings.specs.Witness.{search_between}
 use Rattle.acas_witness.specs.FoundPlans.{IsFoundPlan}
 use Rattle.acas_witness_search.proofs.Chains.{search_fine}
-use Rattle.acas_witness_laws.proofs.Meetings.{can_meet, renamed}
+use Rattle.acas_witness_lemmas.proofs.Meetings.{can_meet, renamed}
 use Rattle.acas_witness.proofs.finding.plan_in.Goals as goal
 
 pub meet-requires : goal.meet-requires

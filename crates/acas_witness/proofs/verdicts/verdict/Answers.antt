@@ -1,7 +1,7 @@
 use Rattle.std.proofs.Common.{true≢false, subst, sym, ◌∙◌}
 use Rattle.acas_flight.specs.Response.{demand_of}
 use Rattle.acas_flight.specs.Clear.{Area, IsEndangeredDuring}
-use Rattle.acas_flight_laws.proofs.Endangered.{endangered_cell}
+use Rattle.acas_flight_lemmas.proofs.Endangered.{endangered_cell}
 use Rattle.acas_areas.specs.View.{times_of}
 use Rattle.acas_witness.proofs.verdicts.verdict.Goals as goal
 

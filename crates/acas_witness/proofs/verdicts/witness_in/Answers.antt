@@ -3,7 +3,7 @@ use Rattle.acas_frac.specs.Fraction.{Fraction}
 use Rattle.acas_flight.specs.Response.{demand_of}
 use Rattle.acas_flight.specs.State.{IsInCell}
 use Rattle.acas_flight.specs.Clear.{Area, IsEndangeredDuring}
-use Rattle.acas_flight_laws.proofs.Endangered.{endangered_cell}
+use Rattle.acas_flight_lemmas.proofs.Endangered.{endangered_cell}
 use Rattle.acas_areas.specs.View.{area_of, times_of}
 use Rattle.acas_rulings.specs.declared.flight.Witness.{Witness}
 use Rattle.acas_rulings.specs.Rulings.{IsReported, IsWitnessOfCell}

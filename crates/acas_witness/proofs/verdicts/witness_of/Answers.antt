@@ -1,7 +1,7 @@
 use Rattle.std.proofs.Common.{subst}
 use Rattle.acas_flight.specs.Response.{demand_of}
 use Rattle.acas_flight.specs.Clear.{Area, IsClear}
-use Rattle.acas_flight_laws.proofs.Dangers.{clear_cell_is_safe}
+use Rattle.acas_flight_lemmas.proofs.Dangers.{clear_cell_is_safe}
 use Rattle.acas_areas.specs.View.{times_of}
 use Rattle.acas_witness.proofs.verdicts.witness_of.Goals as goal
 

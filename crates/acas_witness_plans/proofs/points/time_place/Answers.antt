@@ -1,7 +1,7 @@
 use Rattle.std.proofs.Common.{◌≡◌, ℕ, ◌*◌, sym, ◌∙◌, pos, unsigned_abs}
 use Rattle.acas_frac.specs.Fraction.{Fraction}
 use Rattle.acas_flight.specs.Values.{IsOver}
-use Rattle.acas_passes.specs.Passes.{toward}
+use Rattle.acas_areas.specs.Passes.{toward}
 use Rattle.acas_witness_plans.proofs.Lattices.{later_most, sooner_room, over_later, over_sooner, over_end, end_later, end_sooner}
 use Rattle.acas_witness_plans.proofs.points.time_place.Goals as goal
 

@@ -6,7 +6,7 @@ use Rattle.acas_flight.specs.Values.{IsAtMost}
 use Rattle.acas_witness_plans.proofs.Casts.{whole128}
 use Rattle.acas_witness_response.proofs.Assembly.{from_none}
 use Rattle.acas_frac.proofs.Lowest.{ReducesWithinBounds-over}
-use Rattle.acas_flight_laws.proofs.Rising.{scaled_le}
+use Rattle.acas_flight_lemmas.proofs.Rising.{scaled_le}
 use Rattle.acas_witness_response.proofs.response.difference.Goals as goal
 
 size : (a b : ℤ) (n : ℕ) → b ≤ℤ a → pos 0 ≤ℤ b → a ≤ℤ pos n → unsigned_abs (a -ℤ b) ≤ n

@@ -3,7 +3,7 @@ use Rattle.std.proofs.lemmas.Int.{ints}
 use Rattle.acas_frac.specs.Fraction.{Fraction}
 use Rattle.acas_flight.specs.Values.{IsAtMost}
 use Rattle.acas_flight_windows.proofs.Ends.{le_pos}
-use Rattle.acas_flight_laws.proofs.Numbers.{test_true, strictly}
+use Rattle.acas_flight_lemmas.proofs.Numbers.{test_true, strictly}
 use Rattle.acas_witness_plans.proofs.Portions.{le_of, lt_of, lt_ℕ, none_of, some_of, none_over, difference_over}
 use Rattle.acas_witness_response.proofs.Assembly.{not_zero, hold_none, hold_some, difference_den, difference_least, difference_most}
 use Rattle.acas_witness_response.proofs.response.held_part.Goals as goal

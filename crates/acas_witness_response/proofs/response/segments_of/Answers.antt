@@ -1,7 +1,7 @@
 use Rattle.std.proofs.Common.{◌≡◌, ◌∙◌, sym, ◌*◌, pos, ◌-ℤ◌, ◌*ℤ◌, unsigned_abs, arith, mul-le-mul_left}
 use Rattle.std.proofs.lemmas.Int.{ints}
 use Rattle.acas_flight_windows.proofs.Ends.{le_pos}
-use Rattle.acas_flight_laws.proofs.Numbers.{test_true, strictly}
+use Rattle.acas_flight_lemmas.proofs.Numbers.{test_true, strictly}
 use Rattle.acas_witness_plans.proofs.Portions.{le_of, lt_of, lt_ℕ, none_of, some_of, bend_over, difference_over}
 use Rattle.acas_witness_response.proofs.Assembly.{fine_some, not_zero, without, level_only, before_bend, past_bend, pull_some, bend_den, bend_least}
 use Rattle.acas_witness_response.proofs.response.segments_of.Goals as goal

@@ -1,6 +1,6 @@
 use Rattle.std.proofs.Common.{◌≡◌, Bool, true, false, arith}
-use Rattle.acas_passes.specs.Flights.{value}
-use Rattle.acas_passes.specs.Search.{unit}
+use Rattle.acas_areas.specs.Flights.{value}
+use Rattle.acas_areas.specs.Search.{unit}
 use Rattle.acas_witness_plans.specs.Plans.{clearance_of}
 use Rattle.acas_witness_search.specs.Surveys.{below_in, search_of, pass_of}
 use Rattle.acas_witness_search.proofs.Chains.{search_fine, all_some, tested}

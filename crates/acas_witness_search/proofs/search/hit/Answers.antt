@@ -1,6 +1,6 @@
 use Rattle.std.proofs.Common.{true, false}
-use Rattle.acas_passes.specs.Flights.{value}
-use Rattle.acas_passes.specs.Search.{unit}
+use Rattle.acas_areas.specs.Flights.{value}
+use Rattle.acas_areas.specs.Search.{unit}
 use Rattle.acas_witness_search.specs.Surveys.{search_of, pass_of}
 use Rattle.acas_witness_plans.specs.Plans.{clearance_of}
 use Rattle.acas_witness_search.proofs.Chains.{search_fine, gentle_of, all_some, tested}

@@ -1,8 +1,8 @@
 use Rattle.std.proofs.Common.{ap, ◌∙◌}
-use Rattle.acas_passes.specs.Value.{is_below}
-use Rattle.acas_passes.specs.Flights.{value}
-use Rattle.acas_passes.specs.Search.{unit}
-use Rattle.acas_pass_laws.proofs.Joins.{time-start}
+use Rattle.acas_areas.specs.Value.{is_below}
+use Rattle.acas_areas.specs.Flights.{value}
+use Rattle.acas_areas.specs.Search.{unit}
+use Rattle.acas_pass_lemmas.proofs.Joins.{time-start}
 use Rattle.acas_witness_search.specs.Surveys.{search_of}
 use Rattle.acas_witness_search.proofs.search.through.Goals as goal
 

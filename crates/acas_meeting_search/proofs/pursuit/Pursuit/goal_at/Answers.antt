@@ -2,8 +2,8 @@ use Rattle.std.proofs.Common.{arith, ◌≡◌, ◌*◌, ◌≤ℤ◌, pos, neg_
 use Rattle.std.specs.Int.{w64}
 use Rattle.std.proofs.lemmas.Int.{ints}
 use Rattle.acas_units.specs.declared.limits.TheConstants.{GREATEST_RATE}
-use Rattle.acas_passes.specs.declared.steps.TheConstants.{RATE_STEPS}
-use Rattle.acas_passes.specs.Search.{grain}
+use Rattle.acas_areas.specs.declared.steps.TheConstants.{RATE_STEPS}
+use Rattle.acas_areas.specs.Search.{grain}
 use Rattle.acas_witness_search.specs.Surveys.{search_of}
 use Rattle.acas_witness_plans.proofs.Overs.{falling_over, falling_size}
 use Rattle.acas_meeting_search.proofs.pursuit.Pursuit.goal_at.Goals as goal

@@ -1,7 +1,7 @@
 use Rattle.std.proofs.Common.{◌≡◌, pos, neg_ℤ, ◌-ℤ◌, unsigned_abs, to_z, of_z, arith}
 use Rattle.std.specs.Int.{w64}
 use Rattle.std.proofs.lemmas.Int.{ints}
-use Rattle.acas_passes.specs.Search.{grain}
+use Rattle.acas_areas.specs.Search.{grain}
 use Rattle.acas_witness_search.specs.Surveys.{search_of}
 use Rattle.acas_witness_plans.proofs.Ways.{exact_last, eighth_some, eighths_way}
 use Rattle.acas_meetings.specs.Hunt.{goal_pass}

@@ -1,4 +1,4 @@
-use Rattle.acas_hunt_laws.proofs.Joins.{intruder-start}
+use Rattle.acas_hunt_lemmas.proofs.Joins.{intruder-start}
 use Rattle.acas_meeting_search.specs.View.{hunt_of}
 use Rattle.acas_meeting_search.proofs.Pursuits.{hunt_fine}
 use Rattle.acas_meeting_search.proofs.pursuit.Pursuit.plan_at.Goals as goal

@@ -1,6 +1,6 @@
 use Rattle.std.proofs.Common.{◌*◌, pos, neg_ℤ, unsigned_abs, refl}
-use Rattle.acas_passes.specs.Passes.{toward}
-use Rattle.acas_passes.specs.Search.{high_time, low_time, time_step}
+use Rattle.acas_areas.specs.Passes.{toward}
+use Rattle.acas_areas.specs.Search.{high_time, low_time, time_step}
 use Rattle.acas_witness_search.specs.Surveys.{search_of}
 use Rattle.acas_witness_plans.proofs.Overs.{high_over}
 use Rattle.acas_meeting_search.specs.Courses.{unit_of}

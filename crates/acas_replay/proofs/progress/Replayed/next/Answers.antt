@@ -3,7 +3,7 @@ use Rattle.std.proofs.lemmas.Int.{to_z-of_z}
 use mir.Val.{SFits, bool_byte}
 use Rattle.acas_spec.specs.Model.{ModelData}
 use Rattle.acas_base.specs.Advices.{AdvicesData}
-use Rattle.acas_encounter.specs.Encounter.{EncounterData, intruder_at, own_at, seconds}
+use Rattle.acas_replay.specs.Encounter.{EncounterData, intruder_at, own_at, seconds}
 use Rattle.acas_replay.specs.States.{state_after}
 use Rattle.acas_replay.specs.Flown.{HasFlown, IsFound, IsReached}
 use Rattle.acas_replay.specs.declared.progress.Found.{Found}

@@ -1,7 +1,7 @@
 use Rattle.std.proofs.Common.{refl, unsigned_abs, arith}
 use Rattle.std.proofs.lemmas.Int.{ints}
 use Rattle.acas_units.specs.declared.limits.TheConstants.{GREATEST_CLOSING, GREATEST_SECONDS}
-use Rattle.acas_encounter.specs.declared.limits.TheConstants.{GREATEST_ACCELERATION}
+use Rattle.acas_replay.specs.declared.limits.TheConstants.{GREATEST_ACCELERATION}
 use Rattle.acas_replay.specs.declared.second.TheConstants.{LARGEST_RANGE}
 use Rattle.acas_replay.specs.Flown.{altitude_size, rate_size}
 use Rattle.acas_replay.proofs.Casts.{whole, whole_difference}

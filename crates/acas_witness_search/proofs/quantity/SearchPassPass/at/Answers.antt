@@ -1,5 +1,5 @@
 use Rattle.std.proofs.Common.{◌<◌, arith, mul-pos}
-use Rattle.acas_passes.specs.Search.{unit}
+use Rattle.acas_areas.specs.Search.{unit}
 use Rattle.acas_witness_search.specs.Surveys.{search_of, pass_of}
 use Rattle.acas_witness_plans.proofs.Lines.{value-Same}
 use Rattle.acas_witness_search.proofs.quantity.SearchPassPass.at.Goals as goal

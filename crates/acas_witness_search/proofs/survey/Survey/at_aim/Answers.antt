@@ -1,5 +1,5 @@
 use Rattle.std.proofs.Common.{◌∙◌, ◌*◌, refl}
-use Rattle.acas_passes.specs.Search.{unit, grain}
+use Rattle.acas_areas.specs.Search.{unit, grain}
 use Rattle.acas_witness_search.specs.Surveys.{search_of}
 use Rattle.acas_witness_plans.proofs.Overs.{whole_over, rising_over}
 use Rattle.acas_witness_search.proofs.Steps.{rate64, altitude64, rising64}

@@ -1,5 +1,5 @@
 use Rattle.std.proofs.Common.{◌∙◌, refl}
-use Rattle.acas_passes.specs.Search.{grain}
+use Rattle.acas_areas.specs.Search.{grain}
 use Rattle.acas_witness_search.specs.Surveys.{search_of}
 use Rattle.acas_witness_plans.proofs.Overs.{falling_over}
 use Rattle.acas_witness_search.proofs.Steps.{altitude64, falling64}

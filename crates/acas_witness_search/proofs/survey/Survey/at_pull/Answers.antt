@@ -1,7 +1,7 @@
 use Rattle.std.proofs.Common.{◌≡◌, ◌∙◌, sym, ap, ◌*◌, pos, ◌*ℤ◌, to_z, of_z, mul-pos}
 use Rattle.std.specs.Int.{w64}
-use Rattle.acas_passes.specs.declared.steps.TheConstants.{RATE_STEPS}
-use Rattle.acas_passes.specs.Search.{unit, grain, over_square, pull_at_low, pull_at_high}
+use Rattle.acas_areas.specs.declared.steps.TheConstants.{RATE_STEPS}
+use Rattle.acas_areas.specs.Search.{unit, grain, over_square, pull_at_low, pull_at_high}
 use Rattle.acas_witness_search.specs.Surveys.{search_of}
 use Rattle.acas_witness_plans.proofs.Overs.{whole_over, low_pull_over, first_pull_over, pull_place_over}
 use Rattle.acas_witness_search.proofs.Steps.{rate64, altitude64, steps64}

@@ -1,7 +1,7 @@
 use Rattle.std.proofs.Common.{◌≡◌, to_z, of_z, arith, mul-pos}
 use Rattle.std.specs.Int.{w64}
 use Rattle.std.proofs.lemmas.Int.{ints}
-use Rattle.acas_passes.specs.Search.{grain, aim_pass}
+use Rattle.acas_areas.specs.Search.{grain, aim_pass}
 use Rattle.acas_witness_search.specs.Surveys.{search_of}
 use Rattle.acas_witness_plans.proofs.Ways.{exact_last, eighth_some, eighths_way}
 use Rattle.acas_witness_search.proofs.survey.Survey.last_aim.Goals as goal

@@ -1,8 +1,8 @@
 use Rattle.std.proofs.Common.{◌≡◌, ◌∙◌, sym, ap, ◌*◌, ◌<◌, pos, ◌*ℤ◌, to_z, of_z, arith, mul-pos}
 use Rattle.std.specs.Int.{w64}
 use Rattle.std.proofs.lemmas.Int.{ints}
-use Rattle.acas_passes.specs.declared.steps.TheConstants.{RATE_STEPS}
-use Rattle.acas_passes.specs.Search.{unit, grain, over_square, hold_at_low, hold_at_high, hold_pass}
+use Rattle.acas_areas.specs.declared.steps.TheConstants.{RATE_STEPS}
+use Rattle.acas_areas.specs.Search.{unit, grain, over_square, hold_at_low, hold_at_high, hold_pass}
 use Rattle.acas_witness_search.specs.Surveys.{search_of}
 use Rattle.acas_witness_plans.proofs.Overs.{low_hold_over, first_hold_over}
 use Rattle.acas_witness_plans.proofs.Ways.{exact_last, holds_way}

@@ -1,5 +1,5 @@
 use Rattle.std.proofs.Common.{◌∙◌, sym, ap, refl, ◌*◌, mul-pos}
-use Rattle.acas_passes.specs.Search.{unit, pull_at_low, hold_at_low}
+use Rattle.acas_areas.specs.Search.{unit, pull_at_low, hold_at_low}
 use Rattle.acas_witness_search.specs.Surveys.{search_of}
 use Rattle.acas_witness_plans.proofs.Overs.{whole_over, whole_over_ℕ, low_over, low_pull_over, low_hold_over}
 use Rattle.acas_witness_search.proofs.Steps.{rate64, altitude64}

@@ -1,7 +1,7 @@
 use Rattle.std.proofs.Common.{◌≡◌, ◌∙◌, sym, ap, refl, ◌*◌, pos, ◌*ℤ◌, to_z, of_z, arith, mul-pos}
 use Rattle.std.specs.Int.{w64}
 use Rattle.std.proofs.lemmas.Int.{ints}
-use Rattle.acas_passes.specs.Search.{unit, grain, rate_step, pull_at_high, hold_at_high}
+use Rattle.acas_areas.specs.Search.{unit, grain, rate_step, pull_at_high, hold_at_high}
 use Rattle.acas_witness_search.specs.Surveys.{search_of}
 use Rattle.acas_witness_plans.proofs.Overs.{whole_over, whole_over_ℕ, eighth_over, high_over, high_pull_over, high_hold_over}
 use Rattle.acas_witness_search.proofs.Steps.{rate64, altitude64}

@@ -1,6 +1,0 @@
-use Rattle.acas_encounter.proofs.Read.{said}
-use Rattle.acas_encounter.proofs.Pass.{understood}
-use Rattle.acas_encounter.proofs.laws.texts_say_their_encounters.Goals as goal
-
-pub returns : goal.returns
-returns c = λ m bytes e valid. (said m bytes e valid, understood m bytes e valid)

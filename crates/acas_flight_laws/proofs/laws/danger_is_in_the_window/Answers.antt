@@ -1,5 +1,0 @@
-use Rattle.acas_flight_laws.proofs.Endangered.{endangered_cell, endangered_box}
-use Rattle.acas_flight_laws.proofs.laws.danger_is_in_the_window.Goals as goal
-
-pub returns : goal.returns
-returns c = record { cells = endangered_cell; boxes = endangered_box }

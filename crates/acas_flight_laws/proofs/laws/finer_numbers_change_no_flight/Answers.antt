@@ -1,5 +1,0 @@
-use Rattle.acas_flight_laws.proofs.Finer.{finer_meet, climb_finer, lasting_finer}
-use Rattle.acas_flight_laws.proofs.laws.finer_numbers_change_no_flight.Goals as goal
-
-pub returns : goal.returns
-returns c = record { lasts = lasting_finer; climbs = climb_finer; meets = finer_meet }

@@ -1,5 +1,0 @@
-use Rattle.acas_hunt_laws.proofs.Joins.{joined, time-start, own-end}
-use Rattle.acas_hunt_laws.proofs.laws.hunts_are_joined.Goals as goal
-
-pub returns : goal.returns
-returns c = record { first = time-start; next = joined; last = λ h last is l. own-end h is last l }

@@ -1,8 +1,0 @@
-use Rattle.acas_hunt_laws.proofs.Prints.{printed-contact, rule-contact}
-use Rattle.acas_hunt_laws.proofs.laws.printed_meetings_show_contact.Goals as goal
-
-pub returns : goal.returns
-returns c = record {
-  found = λ half h w c meeting thick is timed can found prints. printed-contact half h w c meeting thick is timed can found prints;
-  rule = rule-contact;
-}

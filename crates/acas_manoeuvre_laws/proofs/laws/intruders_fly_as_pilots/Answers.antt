@@ -1,5 +1,0 @@
-use Rattle.acas_manoeuvre_laws.proofs.Flown.{flown-meets, meets-flown}
-use Rattle.acas_manoeuvre_laws.proofs.laws.intruders_fly_as_pilots.Goals as goal
-
-pub returns : goal.returns
-returns c = λ may v flight h. (flown-meets may v flight, meets-flown may v flight h)

@@ -1,5 +1,0 @@
-use Rattle.acas_step.proofs.OneCornerSet.{one_corner_set}
-use Rattle.acas_step.proofs.laws.corners_are_one.Goals as goal
-
-pub returns : goal.returns
-returns c = one_corner_set

@@ -1,3 +1,0 @@
-pub mod TableLines
-pub mod SweptLines
-pub mod Heads

@@ -1,4 +1,0 @@
-pub mod LayerParts
-pub mod ValuesText
-pub mod LineRows
-pub mod Heads

@@ -1,5 +1,0 @@
-use Rattle.acas_witness_laws.proofs.Dangers.{not_clear_in}
-use Rattle.acas_witness_laws.proofs.laws.areas_that_are_not_clear_are_endangered.Goals as goal
-
-pub returns : goal.returns
-returns c = not_clear_in

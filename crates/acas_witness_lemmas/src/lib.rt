@@ -1,0 +1,2 @@
+//! That an area which is not clear is endangered, with no search run.
+#![tactic(auto)]
