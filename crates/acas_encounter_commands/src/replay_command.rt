@@ -8,9 +8,9 @@ ghost use Rattle.acas_command.specs.ModelFile.{IsModelFile};
 ghost use Rattle.acas_encounter_commands.specs.Calls.{CallsForReplay};
 
 use acas_command::{Cause, FileRole, ModelFile, read_model_file, read_text_file};
-use acas_replay::read_encounter;
 use acas_means::LayerMeans;
 use acas_outside::{Folder, PrintFault, Sink};
+use acas_replay::read_encounter;
 use acas_table_file::read_table_file;
 use std::alloc::Global;
 

@@ -11,8 +11,8 @@ ghost use Rattle.acas_intruder.specs.Courses.{PrintsTurn};
 
 use acas_base::Model;
 use acas_frac::Frac;
-use acas_meetings::{Manoeuvre, Meeting};
 use acas_meeting_search::{Flown, Turn};
+use acas_meetings::{Manoeuvre, Meeting};
 use acas_rulings::{AuditBox, Segment};
 use acas_witness::flight_of;
 use acas_witness_response::{of_box, open_part, open_witness, segments_of};

@@ -5,12 +5,12 @@ ghost use Rattle.acas_replay.specs.Encounter.{IsEncounterOf, seconds};
 ghost use Rattle.acas_replay.specs.Contact.{HasContact};
 ghost use Rattle.acas_replay.specs.Seconds.{IsSecond};
 
+use crate::Encounter;
 use crate::contact::has_contact;
 use crate::issue::issued_advice;
 use crate::second::Second;
 use crate::state::EncounterState;
 use acas_base::{Advices, Model};
-use crate::Encounter;
 
 /// An encounter, and the model and the advices of a table under which it is replayed.
 #[derive(Clone, Copy)]

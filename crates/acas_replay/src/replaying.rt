@@ -8,10 +8,10 @@ ghost use Rattle.acas_outside.specs.Printing.{Prints};
 ghost use Rattle.acas_replay.specs.Flown.{HasContacts, IsCourseOf, IsFlown, IsReplayable, line_in, lines_in, text_in};
 ghost use Rattle.acas_replay.specs.Replay.{Course, IsReplay};
 
+use crate::Encounter;
 use crate::lines::{write_counts, write_line};
 use crate::progress::{Progress, Replayed};
 use acas_base::{Advices, Model};
-use crate::Encounter;
 use acas_outside::{Failed, Pen, PrintFault, Sink};
 use std::alloc::Global;
 

@@ -1,7 +1,7 @@
 //! What is audited.
 
-use acas_base::{Advices, Model};
 use crate::Which;
+use acas_base::{Advices, Model};
 
 /// A model, what a table advises for it, and which lines are written.
 #[derive(Clone, Copy)]

@@ -11,9 +11,9 @@ ghost use Rattle.acas_report_lines.specs.Plans.{name_plan, place_cell, plan_of};
 
 use crate::audit::{Audit, Place};
 use crate::rulings::Rulings;
+use crate::{Pen, leaves_out, write_cell_line};
 use acas_cells::CellName;
 use acas_outside::{Failed, Sink};
-use crate::{Pen, leaves_out, write_cell_line};
 use acas_units::Counter;
 
 /// Writes all cells.

@@ -9,8 +9,8 @@ ghost use Rattle.acas_report_lines.specs.CellReport.{IsReport, IsReportBegun};
 use crate::audit::Audit;
 use crate::cells::write_cells;
 use crate::rulings::Rulings;
-use acas_outside::{Failed, PrintFault, Sink};
 use crate::{Counts, Pen, write_counts};
+use acas_outside::{Failed, PrintFault, Sink};
 use acas_units::Counter;
 use std::alloc::Global;
 

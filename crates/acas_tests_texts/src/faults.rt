@@ -2,9 +2,9 @@
 use acas_base::Model;
 use acas_boxes::read_boxes;
 use acas_doc::{DocFault, DocKind};
-use acas_replay::read_encounter;
 use acas_input::InputFault;
 use acas_model::{ModelFault, read_model};
+use acas_replay::read_encounter;
 use acas_tests_data::model_of;
 use std::alloc::Global;
 

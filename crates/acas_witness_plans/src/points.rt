@@ -7,8 +7,8 @@ ghost use Rattle.acas_areas.specs.Limits.{IsEnd, IsHold, IsPull, IsRate, IsTime}
 ghost use Rattle.acas_region_curves.specs.Parts.{AreParts};
 ghost use Rattle.acas_witness_plans.specs.Plans.{time_toward};
 
-use acas_frac::Frac;
 use acas_areas::{PULL_STEPS, RATE_STEPS, TIME_STEPS};
+use acas_frac::Frac;
 use acas_units::{GREATEST_CLOSING, GREATEST_DELAY, GREATEST_LIMIT, GREATEST_RATE, WINDOW_SECONDS};
 
 /// A number over a denominator.

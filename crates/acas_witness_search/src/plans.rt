@@ -9,8 +9,8 @@ ghost use Rattle.acas_witness_plans.specs.Plans.{CanBeFlown, IsPlanOf, IsWholePl
 ghost use Rattle.acas_witness_search.specs.Surveys.{IsHighPlan, IsPointOf, asked_in, search_of};
 
 use crate::survey::Survey;
-use acas_frac::Frac;
 use acas_areas::{PULL_STEPS, RATE_STEPS, TIME_STEPS};
+use acas_frac::Frac;
 use acas_units::{GREATEST_DELAY, GREATEST_LIMIT, GREATEST_RATE};
 use acas_witness_plans::{Plan, hold_at, place, pull_at, rate_at, rate_steps, time_place};
 

@@ -1,10 +1,18 @@
 use Rattle.std.proofs.Common.{◌-◌, rules, w64, get_or, arith}
+use Rattle.std.proofs.lemmas.Grind.{common_steps}
 use Rattle.std.proofs.lemmas.Int.{to_z-of_z}
 use Rattle.acas_bounds.specs.Leasts.{AreLowered}
 use Rattle.acas_bounds.specs.Planes.{no_plane_choice}
 use Rattle.acas_bounds.proofs.LeastValues.{leasts_next}
 use Rattle.acas_bounds.proofs.leasts.fill_leasts.Goals as goal
 use mir.Val.{SFits}
+
+pub loop-place-init : goal.loop-place-init
+loop-place-init c = grind (arith, common_steps)
+
+pub means_under-requires-in-loop-place-clause-first :
+    goal.means_under-requires-in-loop-place-clause-first
+means_under-requires-in-loop-place-clause-first c = grind (arith, common_steps)
 
 pub loop-place-preserved : goal.loop-place-preserved
 loop-place-preserved c =

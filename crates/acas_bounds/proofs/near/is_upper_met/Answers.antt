@@ -1,7 +1,11 @@
-use Rattle.std.proofs.Common.{refl}
+use Rattle.std.proofs.Common.{refl, arith}
 use Rattle.std.proofs.lemmas.Bool.{false≢true}
+use Rattle.std.proofs.lemmas.Grind.{common_steps}
 use Rattle.acas_bounds.proofs.NoFault.{not_allowed}
 use Rattle.acas_bounds.proofs.near.is_upper_met.Goals as goal
+
+pub is_above-requires-clause-choice : goal.is_above-requires-clause-choice
+is_above-requires-clause-choice c = grind (arith, common_steps)
 
 pub returns-in-None : goal.returns-in-None
 returns-in-None c = (

@@ -1,4 +1,5 @@
 use Rattle.std.proofs.Common.{◌≡◌, ◌++◌, ◌∷◌, [], false, ◌<◌, length, map, arith}
+use Rattle.std.proofs.lemmas.Grind.{common_steps}
 use Rattle.std.proofs.lemmas.List.{length-map, map_push}
 use Rattle.std.proofs.lemmas.Result.{err_from_is_err_and}
 use Rattle.toml.specs.Data.{boolean}
@@ -29,3 +30,6 @@ loop-place-preserved c =
 
 pub returns-clause-value : goal.returns-clause-value
 returns-clause-value c = is_done _ _ _ _ _ c.loop-place.invariant.goes (omega (arith, length-map c.args.items.now view))
+
+pub returns-clause-count : goal.returns-clause-count
+returns-clause-count c = grind (arith, common_steps)

@@ -1,5 +1,6 @@
 use Rattle.std.proofs.Common.{◌≡◌, ◌∙◌, ap₂, ℕ, ℤ, ◌*ℤ◌, int_lt, [], ◌∷◌, ◌*◌, ◌≤◌, refl, pos, unsigned_abs, to_z, of_z, arith, mul-le-mul}
 use Rattle.std.specs.Int.{w128}
+use Rattle.std.proofs.lemmas.Grind.{common_steps}
 use Rattle.std.proofs.lemmas.Int.{ints}
 use Rattle.acas_units.specs.declared.limits.TheConstants.{GREATEST_CLOSING, GREATEST_LIMIT}
 use Rattle.acas_frac.proofs.IntRing.{at, ◌⊗◌, ring}
@@ -7,6 +8,9 @@ use Rattle.acas_race.proofs.apart.is_over.Goals as goal
 
 band : (h d b a : ℕ) → (pos h *ℤ pos (d * d * b)) *ℤ pos a ≡ pos (h * (d * d * b * a))
 band h d b a = ring (pos h ∷ pos d ∷ pos b ∷ pos a ∷ []) ((at 0 ⊗ ((at 1 ⊗ at 1) ⊗ at 2)) ⊗ at 3) (at 0 ⊗ (((at 1 ⊗ at 1) ⊗ at 2) ⊗ at 3)) refl
+
+pub times-band-requires-clause-by : goal.times-band-requires-clause-by
+times-band-requires-clause-by c = grind (arith, common_steps)
 
 pub times-requires-clause-number : goal.times-requires-clause-number
 times-requires-clause-number c =

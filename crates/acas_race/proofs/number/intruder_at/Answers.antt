@@ -1,10 +1,14 @@
 use Rattle.std.proofs.Common.{◌≡◌, ◌∙◌, ap₂, ◌*◌, ◌≤◌, ℤ, pos, ◌+ℤ◌, ◌*ℤ◌, unsigned_abs, to_z, of_z, arith, mul-le-mul}
 use Rattle.std.specs.Int.{w64, w128}
+use Rattle.std.proofs.lemmas.Grind.{common_steps}
 use Rattle.std.proofs.lemmas.Int.{ints}
 use Rattle.acas_flight.proofs.Holding.{held-none}
 use Rattle.acas_areas.specs.Sizes.{altitude_size}
 use Rattle.acas_units.specs.declared.limits.TheConstants.{GREATEST_CLOSING, GREATEST_LIMIT}
 use Rattle.acas_race.proofs.number.intruder_at.Goals as goal
+
+pub times-height-requires-clause-by : goal.times-height-requires-clause-by
+times-height-requires-clause-by c = grind (arith, common_steps)
 
 pub overflow_add-result : goal.overflow_add-result
 overflow_add-result c =

@@ -1,4 +1,4 @@
-use Rattle.std.proofs.Common.{◌≡◌, ◌*◌, arith, pos, ◌+ℤ◌, ◌<ℤ◌, to_z, of_z}
+use Rattle.std.proofs.Common.{◌≡◌, ◌*◌, arith, pos, ◌+ℤ◌, ◌<ℤ◌, to_z, of_z, rules}
 use Rattle.std.specs.Int.{w64}
 use Rattle.std.proofs.lemmas.Int.{ints}
 use Rattle.acas_meetings.specs.Turns.{turning, ahead}
@@ -15,3 +15,6 @@ returns-then-reach-lt0-clause-looked c =
     let under : c.reach-reach.result <ℤ pos 0 = omega (arith, ints, c.if-reach-lt0.true, back) in
     let l : (c.args.contest.now.chase.rate +ℤ pos (c.args.contest.now.chase.hold * c.args.contest.now.chase.pull)) <ℤ c.args.contest.now.chase.start = omega (arith, ints, under, value) in
     turning (instant_at c.args.from.now) c.requires.rising (ahead c.requires.early c.requires.gains l)
+
+pub clipped-requires-clause-num : goal.clipped-requires-clause-num
+clipped-requires-clause-num c = search rules

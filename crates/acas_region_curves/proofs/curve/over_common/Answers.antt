@@ -1,5 +1,6 @@
-use Rattle.std.proofs.Common.{ℕ, ◌≡◌, ◌∙◌, arith, ◌*◌, ℤ, pos, ◌*ℤ◌, to_z, of_z}
+use Rattle.std.proofs.Common.{ℕ, ◌≡◌, ◌∙◌, arith, ◌*◌, ℤ, pos, ◌*ℤ◌, to_z, of_z, rules}
 use Rattle.std.specs.Int.{w64}
+use Rattle.std.proofs.lemmas.Grind.{common_steps}
 use Rattle.std.proofs.lemmas.Int.{ints}
 use Rattle.acas_frac.specs.Fraction.{Fraction}
 use Rattle.acas_areas.specs.Limits.{IsHeldCurve}
@@ -13,6 +14,18 @@ from_parts : (v k b g t : Fraction) (vn kn : ℤ) (vd kd bn bd gn gd tn td : ℕ
     IsScaling v k b g t s a (bn * (vd * kd)) (gn * td) (tn * gd) den
 from_parts v k b g t vn kn vd kd bn bd gn gd tn td s a den w evn evd ekn ekd eb ebd eg egd et etd es ea eden =
     rw (es, ea, eden, ← evn, ← evd, ← ekn, ← ekd, ← ebd, ← egd, ← etd) (scaling v k b g t bn gn tn w eb eg et)
+
+pub start_of-requires-2-clause-shared : goal.start_of-requires-2-clause-shared
+start_of-requires-2-clause-shared c = search rules
+
+pub den_of-requires-clause-rates : goal.den_of-requires-clause-rates
+den_of-requires-clause-rates c = grind (arith, common_steps)
+
+pub den_of-requires-clause-times : goal.den_of-requires-clause-times
+den_of-requires-clause-times c = grind (arith, common_steps)
+
+pub den_of-requires-clause-pull : goal.den_of-requires-clause-pull
+den_of-requires-clause-pull c = grind (arith, common_steps)
 
 pub returns : goal.returns
 returns c =

@@ -1,5 +1,6 @@
 use Rattle.std.proofs.Common.{◌^◌, ℕ, ◌≡◌, ◌∙◌, ap₂, refl, arith, [], ◌∷◌, ◌*◌, ◌≤◌, ℤ, pos, ◌*ℤ◌, unsigned_abs, to_z, of_z, mul-le-mul}
 use Rattle.std.specs.Int.{w128}
+use Rattle.std.proofs.lemmas.Grind.{common_steps}
 use Rattle.std.proofs.lemmas.Int.{ints, unsigned_abs-mul}
 use Rattle.acas_frac.proofs.IntRing.{at, num, ◌⊗◌, ring}
 use Rattle.acas_region_curves.proofs.curve.straight.Goals as goal
@@ -16,6 +17,9 @@ fits z h = omega (arith, ints)
 
 same : (a : ℤ) (p t : ℕ) → (pos 2 *ℤ a) *ℤ pos (p * t) ≡ ((pos 2 *ℤ a) *ℤ pos t) *ℤ pos p
 same a p t = ring (a ∷ pos p ∷ pos t ∷ []) ((num (pos 2) ⊗ at 0) ⊗ (at 1 ⊗ at 2)) (((num (pos 2) ⊗ at 0) ⊗ at 2) ⊗ at 1) refl
+
+pub overflow_mul-result : goal.overflow_mul-result
+overflow_mul-result c = grind (arith, common_steps)
 
 pub returns-clause-value : goal.returns-clause-value
 returns-clause-value c =

@@ -7,6 +7,9 @@ use Rattle.acas_replay.specs.Issue.{IsNearestVertex}
 use Rattle.acas_replay.proofs.Nearest.{nearest_places-nearest}
 use Rattle.acas_replay.proofs.issue.nearest_vertex.Goals as goal
 
+pub nearest_place-requires-3 : goal.nearest_place-requires-3
+nearest_place-requires-3 c = search rules
+
 pub returns : goal.returns
 returns c =
     let h : SFits w64 c.args.point.h = search rules in

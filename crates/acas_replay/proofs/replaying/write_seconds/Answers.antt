@@ -1,4 +1,5 @@
 use Rattle.std.proofs.Common.{◌<◌, ◌++◌, arith}
+use Rattle.std.proofs.lemmas.Grind.{common_steps}
 use Rattle.acas_replay.specs.Encounter.{seconds}
 use Rattle.acas_outside.specs.Bytes.{AppendsPart}
 use Rattle.acas_outside.proofs.Appended.{on_err_always}
@@ -6,6 +7,9 @@ use Rattle.acas_outside.specs.Printing.{below}
 use Rattle.acas_outside.proofs.PrintedPieces.{part_of_below, prints_below}
 use Rattle.acas_replay.specs.Replay.{Course, IsCourse, second_line}
 use Rattle.acas_replay.proofs.replaying.write_seconds.Goals as goal
+
+pub loop-second-init : goal.loop-second-init
+loop-second-init g c = grind (arith, common_steps)
 
 pub returns-in_err-at-clause-err : goal.returns-in_err-at-clause-err
 returns-in_err-at-clause-err g c =

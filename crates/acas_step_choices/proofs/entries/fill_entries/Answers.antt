@@ -1,5 +1,6 @@
 use Rattle.std.proofs.Common.{◌≡◌, ℕ, ◌<◌, List, [], length, subst, arith}
 use Rattle.std.proofs.Math.Nat.{mul-le-mul_left}
+use Rattle.std.proofs.lemmas.Grind.{common_steps}
 use Rattle.std.proofs.lemmas.List.Sums.{sum_by_more, sum_by_more_le}
 use Rattle.acas_units.specs.declared.pair.Entry.{Entry}
 use Rattle.acas_step_choices.specs.Best.{AreColumnBest}
@@ -37,3 +38,6 @@ returns-clause-entries g c =
     let all : c.loop-present.present ≡ m.grid.advisories = omega (arith, c.loop-present-test.false, c.loop-present.auto.present-end, c.advisory_count-present-end.ensures.value) in
     column_entries_over m c.args.below.now c.args.column means lists c.grid.ensures.valid c.fill_column.ensures.means
     (subst (λ (count : ℕ). AreColumnBest m means count lists) all c.loop-present.invariant.best)
+
+pub returns-clause-count : goal.returns-clause-count
+returns-clause-count g c = grind (arith, common_steps)

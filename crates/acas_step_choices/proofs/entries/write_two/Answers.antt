@@ -1,4 +1,5 @@
 use Rattle.std.proofs.Common.{◌≡◌, ◌+◌, List, length, rules, subst, sym, arith}
+use Rattle.std.proofs.lemmas.Grind.{common_steps}
 use Rattle.acas_spec.specs.Model.{choices_at}
 use Rattle.acas_units.specs.declared.pair.Entry.{Entry}
 use Rattle.acas_step_choices.specs.Best.{IsBest}
@@ -24,3 +25,6 @@ returns-clause-best c =
     best_under_two m means p place lists c.put_entry.new.entries c.put_entry-2.new.entries (omega (arith, long, c.requires.inside, c.grid.ensures.valid)) c.requires.so_far
     (subst (λ (e : Entry). IsBest m (pairs_at means place) p (choices_at m p) e) (sym c.put_entry.ensures.written) two.ensures.first)
     (subst (λ (e : Entry). IsBest m (pairs_at means (place + 1)) p (choices_at m p) e) (sym c.put_entry-2.ensures.written) two.ensures.second)
+
+pub returns-clause-others : goal.returns-clause-others
+returns-clause-others c = grind (arith, common_steps)

@@ -1,4 +1,5 @@
 use Rattle.std.proofs.Common.{refl, arith}
+use Rattle.std.proofs.lemmas.Grind.{common_steps}
 use Rattle.acas_means.proofs.ChoiceLists.{choices-few}
 use Rattle.acas_step_choices.proofs.priced.priced_list.Goals as goal
 
@@ -9,3 +10,6 @@ loop-place-init c = record {
   advisory = λ k here. absurd (omega arith);
   choice = λ k here. absurd (omega arith);
 }
+
+pub loop-place-preserved : goal.loop-place-preserved
+loop-place-preserved c = grind (arith, common_steps)

@@ -1,4 +1,5 @@
 use Rattle.std.proofs.Common.{ℕ, ◌<◌, List, length, subst, arith}
+use Rattle.std.proofs.lemmas.Grind.{common_steps}
 use Rattle.acas_spec.specs.Model.{choices_at}
 use Rattle.acas_units.specs.declared.pair.Pair.{Pair}
 use Rattle.acas_means.specs.Choices.{listed_choice}
@@ -25,3 +26,9 @@ loop-place-preserved c =
       next = least_next m c.args.next_means.now p (choices_at m p) place c.loop-place.next_least c.valued_choice-next_pair.result c.least_of-next_least.result so_far.some within so_far.next
           (valued c.args.next_means.now c.valued_choice-next_pair.result c.valued_choice-next_pair.ensures) next_lesser;
     }
+
+pub returns-clause-first : goal.returns-clause-first
+returns-clause-first c = grind (arith, common_steps)
+
+pub returns-clause-second : goal.returns-clause-second
+returns-clause-second c = grind (arith, common_steps)

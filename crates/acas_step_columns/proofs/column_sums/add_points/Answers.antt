@@ -1,4 +1,5 @@
 use Rattle.std.proofs.Common.{◌≡◌, ℕ, ◌+◌, ◌*◌, ◌<◌, length, ap, ◌∙◌, arith}
+use Rattle.std.proofs.lemmas.Grind.{common_steps}
 use Rattle.std.proofs.lemmas.List.{length-set}
 use Rattle.acas_spec.specs.Model.{GridData}
 use Rattle.acas_grid.specs.States.{vertex_at}
@@ -11,12 +12,18 @@ use Rattle.acas_step_narrow.proofs.RaisedMeans.{raised_fits, sums_more, within_m
 use Rattle.acas_step_narrow.proofs.RaisedWritten.{both_written, other_written}
 use Rattle.acas_step_columns.proofs.column_sums.add_points.Goals as goal
 
+pub point_in_column-requires-clause-stencil : goal.point_in_column-requires-clause-stencil
+point_in_column-requires-clause-stencil c = grind (arith, common_steps)
+
 pub point_in_column-requires-clause-rates : goal.point_in_column-requires-clause-rates
 point_in_column-requires-clause-rates c =
     let m = c.args.over.now.model.now in
     let g : GridData = m.grid in
     let here : c.loop-i.i < length g.h = omega (arith, c.loop-i-test.true, c.len-i-end.ensures.value, ap (λ (d : GridData). length d.h) (c.grid.view_is ∙ c.grid-grid.ensures.value)) in
     rates_in_column m c.args.over.now.stencils.now.units c.args.rates.now c.args.key.column c.loop-i.i c.args.key.advisory c.args.key.sigma c.requires.stencil.column here c.requires.rates
+
+pub point_in_column-requires-clause-within : goal.point_in_column-requires-clause-within
+point_in_column-requires-clause-within c = grind (arith, common_steps)
 
 pub with_point-next-requires-clause-upper : goal.with_point-next-requires-clause-upper
 with_point-next-requires-clause-upper c =
@@ -37,6 +44,9 @@ with_point-next-requires-clause-lower c =
     let fits = raised_fits m c.args.over.now.reach.size c.args.key.sigma c.narrow_weight-weight.result old.lower c.in-Some.point.lower c.requires.stencil.sigma c.narrow_weight-weight.ensures
     (c.requires.sums.each c.loop-i.i here).lower c.in-Some.ensures.within.lower c.requires.weights in
     omega (arith, fits, ap (λ (p : Raised). p.lower) same)
+
+pub returns-in-None-clause-within : goal.returns-in-None-clause-within
+returns-in-None-clause-within c = grind (arith, common_steps)
 
 pub loop-i-preserved : goal.loop-i-preserved
 loop-i-preserved c =

@@ -1,4 +1,5 @@
 use Rattle.std.proofs.Common.{◌≡◌, ℕ, ◌+◌, ◌*◌, ◌<◌, ◌≤◌, mul-le-mul_right, ap, subst, ◌∙◌, arith}
+use Rattle.std.proofs.lemmas.Grind.{common_steps}
 use Rattle.acas_spec.specs.Model.{GridData, vertices}
 use Rattle.acas_grid.specs.States.{vertex_at}
 use Rattle.acas_process.specs.Step.{moved}
@@ -10,6 +11,24 @@ use Rattle.acas_step_stencils.proofs.ColumnCells.{unit_cell-HoldsRates}
 use Rattle.acas_step_stencils.proofs.ColumnVertices.{vertex_in-lowest}
 use Rattle.acas_step_narrow.proofs.RaisedSums.{has_room}
 use Rattle.acas_step_columns.proofs.column_sums.fill_sums.Goals as goal
+
+pub loop-sigma-init : goal.loop-sigma-init
+loop-sigma-init c = grind (arith, common_steps)
+
+pub unit_cell-corner-requires-clause-stencil : goal.unit_cell-corner-requires-clause-stencil
+unit_cell-corner-requires-clause-stencil c = grind (arith, common_steps)
+
+pub fill_blends-requires-clause-fits : goal.fill_blends-requires-clause-fits
+fill_blends-requires-clause-fits c = grind (arith, common_steps)
+
+pub fill_blends-requires-clause-first : goal.fill_blends-requires-clause-first
+fill_blends-requires-clause-first c = grind (arith, common_steps)
+
+pub fill_blends-requires-clause-upper : goal.fill_blends-requires-clause-upper
+fill_blends-requires-clause-upper c = grind (arith, common_steps)
+
+pub fill_blends-requires-clause-lower : goal.fill_blends-requires-clause-lower
+fill_blends-requires-clause-lower c = grind (arith, common_steps)
 
 pub fill_blends-requires-clause-room : goal.fill_blends-requires-clause-room
 fill_blends-requires-clause-room c =
@@ -26,6 +45,9 @@ add_points-requires-clause-rates c =
     subst (λ (v : ℕ). HoldsRates m.grid c.args.over.now.stencils.now.units (moved m (vertex_at m.grid v) c.args.advisory c.loop-sigma.sigma) c.unit_cell-corner.result.cell) (vertex_in-lowest m.grid c.args.column)
     (unit_cell-HoldsRates m.grid c.args.over.now.stencils.now.units (moved m (vertex_at m.grid (vertex_in m.grid c.args.column 0)) c.args.advisory c.loop-sigma.sigma) c.unit_cell-corner.result c.unit_cell-corner.ensures)
 
+pub add_points-requires-clause-within : goal.add_points-requires-clause-within
+add_points-requires-clause-within c = grind (arith, common_steps)
+
 pub add_points-requires-clause-sums : goal.add_points-requires-clause-sums
 add_points-requires-clause-sums c = record { each = λ i here. (c.loop-sigma.invariant.each i here).within }
 
@@ -37,3 +59,6 @@ loop-sigma-preserved c =
     let blends = subst (λ (d : GridData). AreBlends d t c.first_state-first.result c.args.over.now.reach.size c.args.over.now.below.now c.fill_blends.new.uppers c.fill_blends.new.lowers) c.grid-grid.ensures.value c.fill_blends.ensures.blends in
     c.add_points.ensures.sums c.args.over.now.below.now c.requires.column.below c.requires.column.reach.upper c.requires.column.reach.lower
     (subst (λ (n : ℕ). AreBlends m.grid t n c.args.over.now.reach.size c.args.over.now.below.now c.fill_blends.new.uppers c.fill_blends.new.lowers) first blends) c.loop-sigma.invariant c.if-not-add_points.false
+
+pub returns : goal.returns
+returns c = grind (arith, common_steps)

@@ -1,4 +1,5 @@
 use Rattle.std.proofs.Common.{◌+◌, ◌<◌, ◌≤◌, length, refl, inl, inr, arith}
+use Rattle.std.proofs.lemmas.Grind.{common_steps}
 use Rattle.acas_spec.specs.declared.place.Point.{Point}
 use Rattle.acas_frac.specs.Rounding.{down, up}
 use Rattle.acas_grid.specs.States.{vertex_at}
@@ -10,6 +11,12 @@ use Rattle.acas_means.specs.declared.layer.Side.TheVariants.{Upper, Lower}
 use Rattle.acas_step_narrow.proofs.ColumnSizes.{column-HaveRoom, column_point-le, column_sum-le, column_sum-room}
 use Rattle.acas_step_columns.proofs.ColumnPoints.{column_point}
 use Rattle.acas_step_columns.proofs.column_sums.point_in_column.Goals as goal
+
+pub cell_at_rates-at-requires-clause-stencil : goal.cell_at_rates-at-requires-clause-stencil
+cell_at_rates-at-requires-clause-stencil c = grind (arith, common_steps)
+
+pub along_h-sums-requires-clause-place : goal.along_h-sums-requires-clause-place
+along_h-sums-requires-clause-place c = grind (arith, common_steps)
 
 pub along_h-sums-requires-clause-near : goal.along_h-sums-requires-clause-near
 along_h-sums-requires-clause-near c =

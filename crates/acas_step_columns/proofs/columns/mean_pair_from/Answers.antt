@@ -1,4 +1,5 @@
 use Rattle.std.proofs.Common.{ℕ, subst, sym, arith}
+use Rattle.std.proofs.lemmas.Grind.{common_steps}
 use Rattle.acas_grid.specs.States.{vertex_at}
 use Rattle.acas_units.specs.declared.pair.Pair.{Pair}
 use Rattle.acas_means.specs.Columns.{vertex_in}
@@ -12,6 +13,9 @@ use Rattle.acas_means.proofs.TableMeans.{means_bounded}
 use Rattle.acas_step_narrow.proofs.RaisedMeans.{means_of_all}
 use Rattle.acas_step_columns.proofs.SourceMeans.{means_of_twin}
 use Rattle.acas_step_columns.proofs.columns.mean_pair_from.Goals as goal
+
+pub means_of_sums-requires-clause-within : goal.means_of_sums-requires-clause-within
+means_of_sums-requires-clause-within c = grind (arith, common_steps)
 
 pub returns-in-Twin-clause-means : goal.returns-in-Twin-clause-means
 returns-in-Twin-clause-means c =
@@ -55,3 +59,6 @@ returns-in-Wide-clause-bounded c = λ most side within.
     let m = c.args.over.now.model.now in
     means_bounded m c.args.over.now.below.now (vertex_at m.grid (vertex_in m.grid c.args.column c.args.i)) c.args.advisory c.wide_means.result most side
     c.grid-grid.ensures.valid c.requires.column.advisory c.requires.column.below c.wide_means.ensures within
+
+pub returns-in-Layer-clause-bounded : goal.returns-in-Layer-clause-bounded
+returns-in-Layer-clause-bounded c = grind (arith, common_steps)

@@ -1,4 +1,5 @@
 use Rattle.std.proofs.Common.{◌≡◌, ℕ, ◌*◌, ◌≤◌, length, pos, w64, to_z, of_z, FitsSigned, ap, sym, ◌∙◌, arith}
+use Rattle.std.proofs.lemmas.Grind.{common_steps}
 use Rattle.std.proofs.lemmas.Int.{fits_signed_from_abs, ints, to_z-of_z}
 use Rattle.acas_spec.specs.Model.{ModelData, total_weight}
 use Rattle.acas_frac.specs.Rounding.{down, up}
@@ -22,6 +23,9 @@ lowered-requires-clause-within c =
     let sum = c.wide_sums-sums.result.upper in
     let are = c.requires.column.usable.stencils in
     omega (arith, c.up_wide.ensures, quotient-most sum total (2 * by) are.total.some (sum_most c.args.over.now.model.now by total sum are.by c.wide_sums-sums.ensures.within.upper))
+
+pub down_wide-requires-clause-room : goal.down_wide-requires-clause-room
+down_wide-requires-clause-room c = grind (arith, common_steps)
 
 pub lowered-requires-2-clause-within : goal.lowered-requires-2-clause-within
 lowered-requires-2-clause-within c =

@@ -1,4 +1,5 @@
 use Rattle.std.proofs.Common.{◌≡◌, ℕ, ◌+◌, ◌*◌, ◌<◌, ◌≤◌, pos, ◌+ℤ◌, List, length, refl, inl, inr, ap, ◌∙◌, arith}
+use Rattle.std.proofs.lemmas.Grind.{common_steps}
 use Rattle.acas_spec.specs.Model.{GridData, states, vertices}
 use Rattle.acas_spec.specs.declared.place.Point.{Point}
 use Rattle.acas_grid.specs.Grid.{vertex_number}
@@ -28,6 +29,12 @@ corners g h at first count row plane known all room wide high same =
     let inside = corners_inside g at.cell first count (first + at.base) known.fits (ap (λ (n : ℕ). first + n) known.base) fits in
     omega (arith, inside, wide, high, ap (λ (d : GridData). length d.v1) same, ap (λ (d : GridData). columns d) same)
 
+pub first_state-first-requires : goal.first_state-first-requires
+first_state-first-requires c = grind (arith, common_steps)
+
+pub overflow_add-place : goal.overflow_add-place
+overflow_add-place c = grind (arith, common_steps)
+
 pub corner_sums-sums-requires-clause-place : goal.corner_sums-sums-requires-clause-place
 corner_sums-sums-requires-clause-place c =
     corners c.args.over.now.model.now.grid _ c.unit_cell-at.result c.first_state-first.result _ c.len-row.result c.column_count-plane.result c.unit_cell-at.ensures.known c.requires.column.below c.first_state-first.ensures.room
@@ -38,6 +45,9 @@ most : (g : GridData) (at : UnitCell) (first row plane by sum : ℕ) (side : Sid
     sum ≡ along_h at.cell row plane (raised_at by side below) (first + at.base) → sum ≤ 2 * by * at.divisor.by
 most g at first row plane by sum side below known here within is =
     omega (arith, is, corners-le at.cell row plane (first + at.base) by side below within here, ap (λ (n : ℕ). 2 * by * n) known.by)
+
+pub corner_sums-sums-requires-clause-upper : goal.corner_sums-sums-requires-clause-upper
+corner_sums-sums-requires-clause-upper c = grind (arith, common_steps)
 
 pub up_wide-requires-clause-by : goal.up_wide-requires-clause-by
 up_wide-requires-clause-by c =

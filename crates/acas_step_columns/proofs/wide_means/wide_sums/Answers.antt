@@ -1,10 +1,14 @@
 use Rattle.std.proofs.Common.{◌<◌, length, arith}
+use Rattle.std.proofs.lemmas.Grind.{common_steps}
 use Rattle.acas_grid.specs.States.{vertex_at}
 use Rattle.acas_means.specs.Columns.{vertex_in}
 use Rattle.acas_step_narrow.specs.WideSums.{as_raised}
 use Rattle.acas_step_narrow.proofs.RaisedMeans.{sums_more}
 use Rattle.acas_step_narrow.proofs.CornerSums.{sum-room}
 use Rattle.acas_step_columns.proofs.wide_means.wide_sums.Goals as goal
+
+pub with_point-sums-requires-clause-weight : goal.with_point-sums-requires-clause-weight
+with_point-sums-requires-clause-weight c = grind (arith, common_steps)
 
 pub with_point-sums-requires-clause-upper : goal.with_point-sums-requires-clause-upper
 with_point-sums-requires-clause-upper c =

@@ -1,4 +1,5 @@
 use Rattle.std.proofs.Common.{◌≡◌, ℕ, ◌+◌, ◌*◌, ◌<◌, ◌≤◌, length, ap, ◌∙◌, arith}
+use Rattle.std.proofs.lemmas.Grind.{common_steps}
 use Rattle.std.proofs.lemmas.List.{length-set}
 use Rattle.acas_spec.specs.Model.{GridData}
 use Rattle.acas_means.specs.Columns.{columns, vertex_in}
@@ -48,3 +49,9 @@ loop-i-preserved c =
       within_upper = each_written (λ (k n : ℕ). n ≤ 2 * by * width t.v1 * width t.v0) c.loop-i.uppers i blend.result.upper 0 short_upper so_far.within_upper (omega (arith, blend.ensures.within.upper, weights.most));
       within_lower = each_written (λ (k n : ℕ). n ≤ 2 * by * width t.v1 * width t.v0) c.loop-i.lowers i blend.result.lower 0 short_lower so_far.within_lower (omega (arith, blend.ensures.within.lower, weights.most));
     }
+
+pub returns-clause-blends : goal.returns-clause-blends
+returns-clause-blends c = grind (arith, common_steps)
+
+pub returns-clause-within : goal.returns-clause-within
+returns-clause-within c = grind (arith, common_steps)

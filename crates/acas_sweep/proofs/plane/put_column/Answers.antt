@@ -1,4 +1,5 @@
 use Rattle.std.proofs.Common.{◌≡◌, ℕ, ◌+◌, ◌*◌, ◌<◌, length, ap, subst, sym, ◌∙◌, arith}
+use Rattle.std.proofs.lemmas.Grind.{common_steps}
 use Rattle.acas_spec.specs.Model.{GridData}
 use Rattle.acas_grid.specs.States.{vertex_at}
 use Rattle.acas_step_choices.specs.Best.{AreVertexEntries, entries_in}
@@ -9,6 +10,9 @@ use Rattle.acas_sweep.specs.Turns.{turn}
 use Rattle.acas_sweep.proofs.Over.{over_next}
 use Rattle.acas_sweep.proofs.Turns.{turn-vertex_in}
 use Rattle.acas_sweep.proofs.plane.put_column.Goals as goal
+
+pub loop-i-init : goal.loop-i-init
+loop-i-init c = grind (arith, common_steps)
 
 pub put_vertex-requires-clause-filled : goal.put_vertex-requires-clause-filled
 put_vertex-requires-clause-filled c =
@@ -34,3 +38,9 @@ loop-i-preserved c =
       filled = subst (λ (t : ℕ). IsFilledTo m.grid t 0 c.put_vertex.new.block) (ap (λ (t : ℕ). t + 1) turn_is ∙ next) c.put_vertex.ensures.filled;
       finished = c.put_vertex.ensures.finished ∙ so_far.finished;
     }
+
+pub returns-clause-over : goal.returns-clause-over
+returns-clause-over c = grind (arith, common_steps)
+
+pub returns-clause-filled : goal.returns-clause-filled
+returns-clause-filled c = grind (arith, common_steps)

@@ -1,5 +1,6 @@
 use Rattle.std.proofs.Common.{◌≡◌, ℕ, ◌+◌, ◌*◌, ◌≤◌, List, length, refl, ap, subst, sym, ◌∙◌, arith}
 use Rattle.std.proofs.Math.Nat.{mul-le-mul_right}
+use Rattle.std.proofs.lemmas.Grind.{common_steps}
 use Rattle.acas_spec.specs.Model.{GridData, vertices}
 use Rattle.acas_units.specs.declared.pair.Pair.{Pair}
 use Rattle.acas_means.specs.Choices.{choice_count}
@@ -20,6 +21,12 @@ loop-column-init g c =
       counted = omega arith;
     }
 
+pub fill_entries-requires-clause-column : goal.fill_entries-requires-clause-column
+fill_entries-requires-clause-column g c = grind (arith, common_steps)
+
+pub fill_entries-requires-clause-below : goal.fill_entries-requires-clause-below
+fill_entries-requires-clause-below g c = grind (arith, common_steps)
+
 pub fill_entries-requires-clause-small : goal.fill_entries-requires-clause-small
 fill_entries-requires-clause-small g c =
     let below : c.finished-in-loop-column.result.now ≡ c.args.block.now.finished = c.finished-in-loop-column.ensures ∙ c.loop-column.invariant.finished in
@@ -32,6 +39,9 @@ fill_entries-requires-clause-count g c =
     let turns : (c.loop-column.column + 1) * length m.grid.h ≤ vertices m.grid = omega (arith, all_columns m.grid, mul-le-mul_right (length m.grid.h) here) in
     omega (arith, c.loop-column.invariant.counted, c.requires.count, mul-le-mul_right (choice_count m) turns)
 
+pub put_column-requires-clause-column : goal.put_column-requires-clause-column
+put_column-requires-clause-column g c = grind (arith, common_steps)
+
 pub loop-column-preserved : goal.loop-column-preserved
 loop-column-preserved g c =
     let m = c.args.model.now in
@@ -42,3 +52,12 @@ loop-column-preserved g c =
       finished = c.put_column.ensures.finished ∙ so_far.finished;
       counted = omega (arith, so_far.counted, c.fill_entries.ensures.count);
     }
+
+pub returns-clause-over : goal.returns-clause-over
+returns-clause-over g c = grind (arith, common_steps)
+
+pub returns-clause-filled : goal.returns-clause-filled
+returns-clause-filled g c = grind (arith, common_steps)
+
+pub returns-clause-count : goal.returns-clause-count
+returns-clause-count g c = grind (arith, common_steps)

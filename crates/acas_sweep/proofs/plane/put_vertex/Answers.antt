@@ -1,4 +1,5 @@
 use Rattle.std.proofs.Common.{◌≡◌, ℕ, ◌<◌, length, set, ap, ◌∙◌, arith}
+use Rattle.std.proofs.lemmas.Grind.{common_steps}
 use Rattle.acas_spec.specs.Model.{GridData, states}
 use Rattle.acas_grid.specs.Grid.{state_number}
 use Rattle.acas_units.specs.declared.pair.Entry.{Entry}
@@ -18,6 +19,9 @@ put-requires-clause-free c =
     let state : c.state_among-state.result ≡ state_number m.grid c.loop-present.present c.args.vertex = c.state_among-state.ensures.value ∙ ap (λ (g : GridData). state_number g c.loop-present.present c.args.vertex) c.grid-grid.ensures.value in
     let end : c.grid.inside.advisories ≡ m.grid.advisories = ap (λ (g : GridData). g.advisories) (c.grid.view_is ∙ c.grid-grid.ensures.value) in
     rw state (next_free m.grid c.args.vertex c.loop-present.present c.loop-present.block c.requires.vertex (omega (arith, end)) c.loop-present.invariant.filled)
+
+pub bounds-advice-state : goal.bounds-advice-state
+bounds-advice-state c = grind (arith, common_steps)
 
 pub loop-present-preserved : goal.loop-present-preserved
 loop-present-preserved c =
@@ -40,3 +44,9 @@ loop-present-preserved c =
       filled = rw (put, state) (filled_next m.grid v present c.loop-present.block e.pair c.requires.vertex (omega (arith, end)) so_far.filled);
       finished = ap (λ (b : Plane). b.finished) c.put.ensures ∙ so_far.finished;
     }
+
+pub returns-clause-written : goal.returns-clause-written
+returns-clause-written c = grind (arith, common_steps)
+
+pub returns-clause-filled : goal.returns-clause-filled
+returns-clause-filled c = grind (arith, common_steps)

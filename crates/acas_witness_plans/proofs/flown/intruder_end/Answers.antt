@@ -1,5 +1,6 @@
-use Rattle.std.proofs.Common.{◌≡◌, ℕ, ◌*◌, ◌^◌, ◌≤◌, ◌∙◌, ap₂, sym, ℤ, pos, ◌+ℤ◌, ◌*ℤ◌, unsigned_abs, to_z, of_z, arith, mul-le-mul}
+use Rattle.std.proofs.Common.{◌≡◌, ℕ, ◌*◌, ◌^◌, ◌≤◌, ◌∙◌, ap₂, sym, ℤ, pos, ◌+ℤ◌, ◌*ℤ◌, unsigned_abs, to_z, of_z, arith, mul-le-mul, rules}
 use Rattle.std.specs.Int.{w64, w128}
+use Rattle.std.proofs.lemmas.Grind.{common_steps}
 use Rattle.std.proofs.lemmas.Int.{ints}
 use Rattle.acas_frac.specs.Fraction.{Fraction}
 use Rattle.acas_areas.specs.Sizes.{shared_parts}
@@ -9,6 +10,18 @@ use Rattle.acas_witness_plans.proofs.flown.intruder_end.Goals as goal
 line_from : (h : ℤ) (x t y : Fraction) (xn : ℤ) (xd tn td : ℕ) (o f : ℤ) → x.num ≡ xn → x.den ≡ xd → t.num ≡ pos tn → t.den ≡ td → o ≡ h *ℤ pos (xd * td) → f ≡ (pos 2 *ℤ xn) *ℤ pos tn →
     y.num ≡ o +ℤ f → y.den ≡ xd * td → IsIntruderEnd h x t y
 line_from h x t y xn xd tn td o f ex dx et dt eo ef num den = record { over = rw (ex, dx, et, dt, ← eo, ← ef) (ap₂ (λ (i : ℤ) (n : ℕ). i *ℤ pos n) num (sym den)) }
+
+pub overflow_add-over : goal.overflow_add-over
+overflow_add-over c = search rules
+
+pub new-requires-clause-some : goal.new-requires-clause-some
+new-requires-clause-some c = grind (arith, common_steps)
+
+pub new-requires-clause-num_small : goal.new-requires-clause-num_small
+new-requires-clause-num_small c = grind (arith, common_steps)
+
+pub new-requires-clause-den_small : goal.new-requires-clause-den_small
+new-requires-clause-den_small c = grind (arith, common_steps)
 
 pub returns-clause-end : goal.returns-clause-end
 returns-clause-end c =

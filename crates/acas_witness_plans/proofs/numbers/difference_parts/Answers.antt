@@ -1,8 +1,11 @@
-use Rattle.std.proofs.Common.{◌∙◌, ap₂, pos, ◌-ℤ◌, ◌*ℤ◌, arith, mul-pos}
+use Rattle.std.proofs.Common.{◌∙◌, ap₂, pos, ◌-ℤ◌, ◌*ℤ◌, arith, mul-pos, rules}
 use Rattle.std.proofs.lemmas.Int.{ints}
 use Rattle.acas_frac.proofs.Bounds.{product_size}
 use Rattle.acas_witness_plans.proofs.Casts.{difference128, whole128, num_fits, den_fits}
 use Rattle.acas_witness_plans.proofs.numbers.difference_parts.Goals as goal
+
+pub overflow_sub-result : goal.overflow_sub-result
+overflow_sub-result c = search rules
 
 pub returns-clause-num : goal.returns-clause-num
 returns-clause-num c =

@@ -1,4 +1,5 @@
-use Rattle.std.proofs.Common.{◌≡◌, ℕ, ◌*◌, sym, ◌∙◌, pos, unsigned_abs}
+use Rattle.std.proofs.Common.{◌≡◌, ℕ, ◌*◌, sym, ◌∙◌, pos, unsigned_abs, arith}
+use Rattle.std.proofs.lemmas.Grind.{common_steps}
 use Rattle.acas_frac.specs.Fraction.{Fraction}
 use Rattle.acas_flight.specs.Values.{IsOver}
 use Rattle.acas_areas.specs.Passes.{toward}
@@ -11,9 +12,15 @@ with_parts : (f g r : Fraction) (a b c d n : ℕ) → f.num ≡ pos a → f.den 
     IsOver (2048 * (f.den * g.den)) (pos (toward (unsigned_abs f.num * (2048 * g.den)) (unsigned_abs g.num * (2048 * f.den)) (n * (8 * (f.den * g.den))))) r
 with_parts f g r a b c d n ef df eg dg h = rw (ef, df, eg, dg) h
 
+pub overflow_add-first : goal.overflow_add-first
+overflow_add-first c = grind (arith, common_steps)
+
 pub time_at-requires-clause-most : goal.time_at-requires-clause-most
 time_at-requires-clause-most c = later_most c.end_parts-a.result.0 c.end_parts-a.result.1 c.end_parts-c.result.0 c.end_parts-c.result.1 c.from-then-first-moved.result
     (rw (c.from.ensures ∙ sym c.from-then-first-moved.ensures) at c.if-first-moved.true) c.end_parts-c.ensures.most
+
+pub overflow_add-last : goal.overflow_add-last
+overflow_add-last c = grind (arith, common_steps)
 
 pub overflow_sub-a : goal.overflow_sub-a
 overflow_sub-a c = sooner_room c.end_parts-a.result.0 c.end_parts-a.result.1 c.end_parts-c.result.0 c.end_parts-c.result.1 c.from-then-last-moved.result c.end_parts-c.ensures.some

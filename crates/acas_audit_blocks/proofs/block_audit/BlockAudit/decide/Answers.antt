@@ -1,4 +1,5 @@
 use Rattle.std.proofs.Common.{◌≡◌, ℕ, ◌+◌, ◌*◌, ◌≤◌, sym, ◌∙◌, ap, subst, arith, mul-le-mul_right}
+use Rattle.std.proofs.lemmas.Grind.{common_steps}
 use Rattle.acas_spec.specs.Model.{GridData}
 use Rattle.acas_flight.specs.Contact.{IsEndangeredCell}
 use Rattle.acas_audit_blocks.specs.Audits.{IsRuledIn, Waits}
@@ -80,3 +81,6 @@ returns-clause-counted c =
     let ends : c.loop-advice.advice ≡ m.grid.advisories = omega (arith, c.loop-advice-test.false, c.loop-advice.auto.advice-end, c.grid.ensures.valid.grid.some_advisories) in
     let number = c.loop-advice.invariant.counted in
     (number.0, subst (λ (x : ℕ). IsSumBelow (AreDecisionsUnder m c.args.advices.now c.args.n c.args.present) x number.0) ends number.1, number.2)
+
+pub returns-clause-most : goal.returns-clause-most
+returns-clause-most c = grind (arith, common_steps)

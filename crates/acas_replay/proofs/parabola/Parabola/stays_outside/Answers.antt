@@ -1,4 +1,4 @@
-use Rattle.std.proofs.Common.{◌≡◌, ◌∙◌, ap, ap₂, subst, inr, ℕ, ◌+◌, ◌≤◌, pos, ◌-ℤ◌, ℤ, unsigned_abs, to_z, of_z, arith}
+use Rattle.std.proofs.Common.{◌≡◌, ◌∙◌, ap, ap₂, subst, inr, ℕ, ◌+◌, ◌≤◌, pos, ◌-ℤ◌, ℤ, unsigned_abs, to_z, of_z, arith, rules}
 use Rattle.std.specs.Int.{w64}
 use Rattle.std.proofs.lemmas.Int.{ints}
 use Rattle.acas_replay.specs.Parabola.{ComesDown, IsSmall, StaysAbove, lowered, turned}
@@ -29,6 +29,9 @@ pub stays_above-requires : goal.stays_above-requires
 stays_above-requires c =
     let top = c.lowered.ensures ∙ ap (lowered c.args.self.now) (half_is _ c.args.half c.requires.room) in
     record { small = rw top (lowered-small _ c.args.half c.requires.small c.requires.room); during = c.requires.during }
+
+pub returns-then-stays_above-clause-apart : goal.returns-then-stays_above-clause-apart
+returns-then-stays_above-clause-apart c = search rules
 
 pub lowered-requires-2 : goal.lowered-requires-2
 lowered-requires-2 c = record { level = rw (c.turned.ensures, half_is _ c.args.half c.requires.room, opposite) c.requires.room }

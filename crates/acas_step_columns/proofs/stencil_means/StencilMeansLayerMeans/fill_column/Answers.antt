@@ -1,4 +1,5 @@
 use Rattle.std.proofs.Common.{◌<◌, length, arith}
+use Rattle.std.proofs.lemmas.Grind.{common_steps}
 use Rattle.acas_means.proofs.ColumnLaws.{vertex_in-below}
 use Rattle.acas_step_columns.proofs.stencil_means.StencilMeansLayerMeans.fill_column.Goals as goal
 
@@ -7,6 +8,9 @@ own_rate_at-requires c =
     let g = c.args.model.now.grid in
     let some : 0 < length g.h = omega (arith, c.grid.ensures.valid.grid.altitudes.at_least) in
     omega (arith, vertex_in-below g c.args.column 0 c.requires.column some)
+
+pub loop-advisory-init : goal.loop-advisory-init
+loop-advisory-init c = grind (arith, common_steps)
 
 pub returns-clause-means : goal.returns-clause-means
 returns-clause-means c = record {
