@@ -20,6 +20,6 @@ pub use laws::choices_have_their_values;
 pub use layer::{Side, first_state};
 pub use layer_means::LayerMeans;
 pub use likes::Likes;
-pub use means::{ColumnMeans, VertexMeans, advisory_count};
+pub use means::{ColumnMeans, VertexMeans, advisory_count, blank_means};
 pub use reach::{Reach, reach_of};
 pub use state_means::fill_means_with;

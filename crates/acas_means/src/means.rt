@@ -10,6 +10,12 @@ pub type VertexMeans = [Pair; GREATEST_ADVISORIES as usize];
 /// Those at the vertices of a column, by the place of the altitude.
 pub type ColumnMeans = [VertexMeans; GREATEST_VERTICES as usize];
 
+/// Room for the means of a column, of which none is written yet.
+pub fn blank_means() -> ColumnMeans {
+    let none = Pair { upper: 0, lower: 0 };
+    [[none; GREATEST_ADVISORIES as usize]; GREATEST_VERTICES as usize]
+}
+
 /// How many advisories the model has.
 pub fn advisory_count(model: &Model) -> u8
     ensures value { result ≡ model.now.grid.advisories }

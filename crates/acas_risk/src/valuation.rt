@@ -9,8 +9,8 @@ use crate::counted::{Counted, second_costs};
 use crate::layer::{Step, put_endings, put_over};
 use crate::plan::Plan;
 use acas_base::Model;
-use acas_means::{ColumnMeans, LayerMeans};
-use acas_units::{GREATEST_ADVISORIES, GREATEST_VERTICES, Pair};
+use acas_means::{LayerMeans, blank_means};
+use acas_units::Pair;
 use std::alloc::{AllocError, Global};
 use std::mem::swap;
 
@@ -35,7 +35,7 @@ pub(crate) fn plan_values<M: LayerMeans>(
     let states = model.grid().states() as usize;
     let mut below = vec![in alloc; none; states]?;
     let mut above = vec![in alloc; none; states]?;
-    let mut means: ColumnMeans = [[none; GREATEST_ADVISORIES as usize]; GREATEST_VERTICES as usize];
+    let mut means = blank_means();
     let costs = second_costs(model, counted);
     put_endings(model, counted, &mut below);
     for n in 0..model.grid().horizon {

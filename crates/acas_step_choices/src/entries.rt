@@ -23,6 +23,15 @@ pub type VertexEntries = [Entry; GREATEST_ADVISORIES as usize];
 /// Those at the vertices of a column, by the place of the altitude.
 pub type ColumnEntries = [VertexEntries; GREATEST_VERTICES as usize];
 
+/// Room for the entries of a column, of which none is written yet.
+pub fn blank_entries() -> ColumnEntries {
+    let none = Entry {
+        pair: Pair { upper: 0, lower: 0 },
+        advice: 0,
+    };
+    [[none; GREATEST_ADVISORIES as usize]; GREATEST_VERTICES as usize]
+}
+
 // Writes the entry under one present advisory at a vertex, and leaves those under the others.
 fn put_entry(present: u8, entry: Entry, entries: &mut VertexEntries)
     requires known { present < 16 }

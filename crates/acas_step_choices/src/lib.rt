@@ -9,5 +9,5 @@ mod two;
 mod vertex;
 
 pub use backups::{Backups, MeanSource, value_over};
-pub use entries::{ColumnEntries, VertexEntries, fill_entries};
+pub use entries::{ColumnEntries, VertexEntries, blank_entries, fill_entries};
 pub use vertex::{VertexMeansSource, entries_over};

@@ -11,10 +11,9 @@ ghost use Rattle.acas_sweep.specs.Sweeping.{HandsTable, RaisesCounts};
 use crate::plane::{put_first, put_over};
 use crate::sink::{LayerFailed, LayerSink};
 use acas_base::Model;
-use acas_means::{ColumnMeans, LayerMeans};
+use acas_means::{LayerMeans, blank_means};
 use acas_plane::{PlaneBlock, Turned};
-use acas_step_choices::{Backups, ColumnEntries};
-use acas_units::{Entry, GREATEST_ADVISORIES, GREATEST_VERTICES, Pair};
+use acas_step_choices::{Backups, blank_entries};
 
 /// Why a sweep ended before its last layer.
 #[derive(Clone, Copy)]
@@ -74,14 +73,8 @@ pub fn sweep<M: LayerMeans, S: LayerSink>(
     ensures hands { HandsTable S.LayerSink model.now rows.old rows.new result }
     ensures counts { RaisesCounts model.now count.old count.new turned.old turned.new result }
 {
-    let none = Pair { upper: 0, lower: 0 };
-    let no_entry = Entry {
-        pair: none,
-        advice: 0,
-    };
-    let mut means: ColumnMeans = [[none; GREATEST_ADVISORIES as usize]; GREATEST_VERTICES as usize];
-    let mut entries: ColumnEntries =
-        [[no_entry; GREATEST_ADVISORIES as usize]; GREATEST_VERTICES as usize];
+    let mut means = blank_means();
+    let mut entries = blank_entries();
     put_first(model, block, advice);
     match hand_on(0, block, advice, rows, turned) {
         Ok(()) => {}

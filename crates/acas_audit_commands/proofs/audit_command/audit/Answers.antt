@@ -1,4 +1,5 @@
-use Rattle.std.proofs.Common.{Option, refl, subst, sym, arith, []}
+use Rattle.std.proofs.Common.{Option, refl, subst, sym, arith, [], rules}
+use Rattle.std.proofs.lemmas.Grind.{common_steps}
 use Rattle.std.specs.FinMap.{get}
 use Rattle.std.proofs.lemmas.Result.{err_from_is_err_and}
 use Rattle.acas_outside.specs.Outside.{Outside, outside}
@@ -55,3 +56,9 @@ returns-clause-work g c =
     let held = sym c.read_model_file.ensures.frame.holds in
     let given = subst (λ (h : Option Files). Given h model (λ file. IsModelFile file found.digest found.model)) held c.in_ok-found.ensures.ok in
     subst (λ (h : Option Files). CountsAudit model c.args.table.now h (report_ended c.rule_on_cells.result) c.args.count.now c.rule_on_cells.new.count) (sym held) (c.rule_on_cells.ensures.work model given)
+
+pub returns-clause-folder : goal.returns-clause-folder
+returns-clause-folder g c = search rules
+
+pub returns-in_err-found-clause-folder : goal.returns-in_err-found-clause-folder
+returns-in_err-found-clause-folder g c = grind (arith, common_steps)

@@ -1,4 +1,5 @@
-use Rattle.std.proofs.Common.{refl, inr, subst, []}
+use Rattle.std.proofs.Common.{refl, inr, subst, [], arith}
+use Rattle.std.proofs.lemmas.Grind.{common_steps}
 use Rattle.std.specs.FinMap.{get}
 use Rattle.std.proofs.lemmas.Result.{err_from_is_err_and}
 use Rattle.acas_base.specs.Advices.{AreAdvices}
@@ -63,3 +64,6 @@ returns-in-Ok-clause-work g c model told may =
     told-map holds _ _ (λ files is. record { m = m; advices = advices; advised = is; number = counted.0; decided = counted.1; raised = counted.2 })
     (table-of model c.args.table.now c.args.found.now.digest m advices holds _ refl told c.in_ok-advices.ensures.ok
     c.in_ok-advices.ensures.advices (subst AreAdvices c.advices.view_is c.advices.invariant))
+
+pub returns-in_err-advices-clause-folder : goal.returns-in_err-advices-clause-folder
+returns-in_err-advices-clause-folder g c = grind (arith, common_steps)

@@ -25,3 +25,6 @@ loop-place-preserved c =
           leasts_next c.args.model.now c.args.means.now under.result.now c.args.plane.now (c.loop-place.place - 1) c.loop-place.place c.loop-place.leasts c.lower_values.new.leasts c.requires.plane (omega (arith, c.loop-place-test.true)) c.loop-place.invariant.inside
           (record { count = under.ensures.count; values = under.ensures.values }) c.lower_values.ensures.count lowered c.loop-place.invariant.leasts;
     }
+
+pub overflow_sub-place : goal.overflow_sub-place
+overflow_sub-place c = grind (arith, common_steps)

@@ -1,4 +1,5 @@
 use Rattle.std.proofs.Common.{ℕ, List, refl, Option, inr, subst, sym, arith, []}
+use Rattle.std.proofs.lemmas.Grind.{common_steps}
 use Rattle.std.specs.FinMap.{get}
 use Rattle.std.proofs.lemmas.Result.{err_from_is_err_and}
 use Rattle.acas_outside.specs.Files.{Files, Given}
@@ -92,3 +93,9 @@ returns-in-Ok-clause-answers g c model told =
 
 pub write_meetings-requires-clause-rates : goal.write_meetings-requires-clause-rates
 write_meetings-requires-clause-rates g c = c.in_ok-said.ensures.rates.each
+
+pub write_meetings-requires-clause-fits : goal.write_meetings-requires-clause-fits
+write_meetings-requires-clause-fits g c = grind (arith, common_steps)
+
+pub returns-in-Ok-clause-folder : goal.returns-in-Ok-clause-folder
+returns-in-Ok-clause-folder g c = grind (arith, common_steps)

@@ -1,4 +1,5 @@
 use Rattle.std.proofs.Common.{ℕ, List, refl, Option, inr, subst, sym, arith, []}
+use Rattle.std.proofs.lemmas.Grind.{common_steps}
 use Rattle.std.specs.FinMap.{get}
 use Rattle.std.proofs.lemmas.Result.{err_from_is_err_and}
 use Rattle.acas_outside.specs.Files.{Files, Given}
@@ -85,3 +86,12 @@ returns-in-Ok-clause-answers g c model told =
       is = refl;
     })) told read) refl
     (told-kept before.holds after.holds c.read_text_file.ensures.frame.holds) r.2
+
+pub write_regions-requires : goal.write_regions-requires
+write_regions-requires g c = grind (arith, common_steps)
+
+pub returns-in_err-said-clause-folder : goal.returns-in_err-said-clause-folder
+returns-in_err-said-clause-folder g c = grind (arith, common_steps)
+
+pub returns-in_err-text-clause-folder : goal.returns-in_err-text-clause-folder
+returns-in_err-text-clause-folder g c = grind (arith, common_steps)

@@ -7,3 +7,6 @@ feet_to_ticks-requires-2-clause-least c = grind (arith, common_steps)
 
 pub returns-clause-small : goal.returns-clause-small
 returns-clause-small c = grind (arith, common_steps)
+
+pub new-requires : goal.new-requires
+new-requires c = grind (arith, common_steps)

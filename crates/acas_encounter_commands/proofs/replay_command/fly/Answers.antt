@@ -1,4 +1,5 @@
 use Rattle.std.proofs.Common.{ℕ, List, refl, ◌∙◌, Option, inr, subst, sym, arith, rules, []}
+use Rattle.std.proofs.lemmas.Grind.{common_steps}
 use Rattle.std.specs.Prelude.{IfSome}
 use Rattle.std.specs.FinMap.{get}
 use Rattle.std.proofs.lemmas.Result.{err_from_is_err_and}
@@ -163,3 +164,24 @@ returns-in-Err-Sink-clause-answers g c model told =
       part = r.3;
     }) replayed)
     (told-kept before.holds after.holds (c.read_text_file.ensures.frame.holds ∙ second.holds)) rose
+
+pub returns-in-Err-Sink-clause-folder : goal.returns-in-Err-Sink-clause-folder
+returns-in-Err-Sink-clause-folder g c = search rules
+
+pub returns-in_err-flown-clause-folder : goal.returns-in_err-flown-clause-folder
+returns-in_err-flown-clause-folder g c = grind (arith, common_steps)
+
+pub returns-in-Err-Sink-clause-output : goal.returns-in-Err-Sink-clause-output
+returns-in-Err-Sink-clause-output g c = grind (arith, common_steps)
+
+pub returns-in-Ok-clause-folder : goal.returns-in-Ok-clause-folder
+returns-in-Ok-clause-folder g c = search rules
+
+pub returns-in_err-advices-clause-folder : goal.returns-in_err-advices-clause-folder
+returns-in_err-advices-clause-folder g c = grind (arith, common_steps)
+
+pub returns-in_err-text-clause-folder : goal.returns-in_err-text-clause-folder
+returns-in_err-text-clause-folder g c = grind (arith, common_steps)
+
+pub returns-in-Ok-clause-output : goal.returns-in-Ok-clause-output
+returns-in-Ok-clause-output g c = grind (arith, common_steps)

@@ -1,3 +1,4 @@
+use Rattle.std.proofs.Common.{rules}
 use Rattle.acas_flight.specs.Response.{demand_of}
 use Rattle.acas_areas.specs.View.{area_of, times_of}
 use Rattle.acas_meetings.specs.View.{may_of}
@@ -24,3 +25,6 @@ returns-clause-during c =
     let m = c.args.on.now.model.now in
     during m.half (demand_of m c.args.on.now.advisory) (may_of c.args.on.now.may.now) (area_of c.args.on.now.area.now) (times_of c.args.on.now.window.now) c.meet.result (returns-clause-course c)
     c.meet.ensures.flown.flown.limits.curve.time
+
+pub returns-clause-turned : goal.returns-clause-turned
+returns-clause-turned c = search rules

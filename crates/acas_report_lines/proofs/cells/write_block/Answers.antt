@@ -1,4 +1,5 @@
 use Rattle.std.proofs.Common.{◌∷◌, [], ◌-◌, length, ◌≡◌, ◌<◌, ◌∙◌, ap, arith}
+use Rattle.std.proofs.lemmas.Grind.{common_steps}
 use Rattle.acas_spec.specs.Model.{GridData}
 use Rattle.acas_outside.proofs.Appended.{on_err_always}
 use Rattle.acas_cells.specs.Cells.{cell_at, plane_cells, row_cells}
@@ -68,3 +69,9 @@ returns-in_err-write_cell-clause-err g c =
     let row = broke_more plan (λ k. cell_at c.args.n c.args.present c.loop-i.i c.loop-j.j k ∷ []) (length m.grid.v1 - 1) c.loop-k.k _ _ _ k_within c.loop-k.invariant.wrote c.in_err-write_cell.ensures.err in
     let plane = broke_more plan (λ j. row_cells m c.args.n c.args.present c.loop-i.i j) (length m.grid.v0 - 1) c.loop-j.j _ _ _ j_within c.loop-j.invariant.wrote row in
     on_err_always _ (broke_more plan (λ i. plane_cells m c.args.n c.args.present i) (length m.grid.h - 1) c.loop-i.i _ _ _ i_within c.loop-i.invariant.wrote plane)
+
+pub returns-in_err-write_cell-clause-frame : goal.returns-in_err-write_cell-clause-frame
+returns-in_err-write_cell-clause-frame g c = grind (arith, common_steps)
+
+pub write_cell-requires-clause-cell : goal.write_cell-requires-clause-cell
+write_cell-requires-clause-cell g c = grind (arith, common_steps)

@@ -1,4 +1,5 @@
 use Rattle.std.proofs.Common.{ℕ, subst, ◌≡◌, ◌+◌, ◌*◌, ◌<◌, ◌≤◌, ◌∙◌, ap, arith, mul-le-mul_right}
+use Rattle.std.proofs.lemmas.Grind.{common_steps}
 use Rattle.acas_spec.specs.Model.{GridData}
 use Rattle.acas_outside.proofs.Appended.{on_err_always}
 use Rattle.acas_cells.specs.Cells.{block_cells, layer_cells}
@@ -92,3 +93,18 @@ returns-clause-counted g c =
       subst (λ (x : ℕ). IsSumBelow (λ n layer. IsLayerPrepared g.R.Rulings.takes m c.args.audit.now.advices.now n layer) x number.0) ends number.1,
       number.2,
     )
+
+pub prepare-requires-clause-present : goal.prepare-requires-clause-present
+prepare-requires-clause-present g c = grind (arith, common_steps)
+
+pub prepare-requires-clause-n : goal.prepare-requires-clause-n
+prepare-requires-clause-n g c = grind (arith, common_steps)
+
+pub write_block-requires-clause-present : goal.write_block-requires-clause-present
+write_block-requires-clause-present g c = grind (arith, common_steps)
+
+pub write_block-requires-clause-n : goal.write_block-requires-clause-n
+write_block-requires-clause-n g c = grind (arith, common_steps)
+
+pub returns-in_err-write_block-clause-frame : goal.returns-in_err-write_block-clause-frame
+returns-in_err-write_block-clause-frame g c = grind (arith, common_steps)

@@ -1,4 +1,5 @@
-use Rattle.std.proofs.Common.{subst}
+use Rattle.std.proofs.Common.{subst, arith}
+use Rattle.std.proofs.lemmas.Grind.{common_steps}
 use Rattle.acas_outside.specs.Bytes.{Appends, AppendsPart}
 use Rattle.acas_risk.specs.Plans.{advised}
 use Rattle.acas_risk.proofs.Bounds.{rows_are_risks}
@@ -18,3 +19,12 @@ pub returns-clause-part : goal.returns-clause-part
 returns-clause-part g c = λ failed.
     let m = c.args.model.now in
     subst (AppendsPart _ _) (text_same m (advised m c.args.advices.now) c.in-Ok-risk_values.values c.in-Ok-risk_values.ensures.values) c.in-Err.ensures.err
+
+pub returns-in-Ok-print_risks-clause-states : goal.returns-in-Ok-print_risks-clause-states
+returns-in-Ok-print_risks-clause-states g c = grind (arith, common_steps)
+
+pub returns-in-Ok-print_risks-clause-frame : goal.returns-in-Ok-print_risks-clause-frame
+returns-in-Ok-print_risks-clause-frame g c = grind (arith, common_steps)
+
+pub returns-clause-frame : goal.returns-clause-frame
+returns-clause-frame g c = grind (arith, common_steps)

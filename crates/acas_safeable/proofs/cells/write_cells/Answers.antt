@@ -1,4 +1,5 @@
 use Rattle.std.proofs.Common.{◌≡◌, ◌<◌, ◌++◌, List, ℕ, ◌∙◌, ap, subst, arith}
+use Rattle.std.proofs.lemmas.Grind.{common_steps}
 use Rattle.std.specs.List.{flat_map}
 use Rattle.acas_cells.specs.Cells.{Cell, cells_of}
 use Rattle.acas_outside.specs.Bytes.{AppendsPart}
@@ -67,3 +68,6 @@ returns-clause-ok g c =
     subst (λ (l : List ℕ). Prints (g.S.Sink.written c.args.sink.now) (g.S.Sink.written c.loop-number.sink) c.args.pen.now.buffer c.loop-number.pen.buffer l)
     (ap (λ (n : ℕ). below n (λ k. cell_text m a found (numbered_cell m k))) ends ∙ numbered_lines m (cell_text m a found))
     (c.loop-number.invariant.printed found are)
+
+pub loop-number-init : goal.loop-number-init
+loop-number-init g c = grind (arith, common_steps)

@@ -1,4 +1,5 @@
 use Rattle.std.proofs.Common.{◌≡◌, ◌∙◌, ◌≤◌, ℤ, ◌≤ℤ◌, arith, of_z, to_z, unsigned_abs}
+use Rattle.std.proofs.lemmas.Grind.{common_steps}
 use Rattle.std.specs.Int.{w128, w64}
 use Rattle.std.proofs.lemmas.Int.{ints}
 use Rattle.acas_flight.specs.Parts.{CanBeMet}
@@ -23,3 +24,15 @@ new-requires c =
     let least : to_z w128 (of_z w128 c.least_altitude.result) ≡ c.least_altitude.result = omega (arith, ints, c.least_altitude.type_inv) in
     let greatest : to_z w128 (of_z w128 c.greatest_altitude.result) ≡ c.greatest_altitude.result = omega (arith, ints, c.greatest_altitude.type_inv) in
     in_order _ _ _ _ (c.in_ok-least.ensures.value ∙ least ∙ c.least_altitude.ensures) (c.in_ok-greatest.ensures.value ∙ greatest ∙ c.greatest_altitude.ensures) order c.in_ok-least.ensures.size c.in_ok-greatest.ensures.size
+
+pub returns-in_err-least : goal.returns-in_err-least
+returns-in_err-least c = grind (arith, common_steps)
+
+pub returns-in_err-greatest : goal.returns-in_err-greatest
+returns-in_err-greatest c = grind (arith, common_steps)
+
+pub invariant_of-result : goal.invariant_of-result
+invariant_of-result c = grind (arith, common_steps)
+
+pub returns : goal.returns
+returns c = grind (arith, common_steps)

@@ -1,4 +1,5 @@
-use Rattle.std.proofs.Common.{refl, inr, subst, []}
+use Rattle.std.proofs.Common.{refl, inr, subst, [], arith}
+use Rattle.std.proofs.lemmas.Grind.{common_steps}
 use Rattle.std.specs.FinMap.{get}
 use Rattle.std.proofs.lemmas.Result.{err_from_is_err_and}
 use Rattle.acas_base.specs.Advices.{AreAdvices}
@@ -47,3 +48,12 @@ returns-in-Ok-clause-answers g c model told =
     (table-of model table digest m advices before.holds _ refl told c.in_ok-advices.ensures.ok
     c.in_ok-advices.ensures.advices (subst AreAdvices c.advices.view_is c.advices.invariant))) refl
     (told-kept before.holds after.holds c.read_table_file.ensures.frame.holds) r.2
+
+pub returns-in-Ok-clause-folder : goal.returns-in-Ok-clause-folder
+returns-in-Ok-clause-folder g c = grind (arith, common_steps)
+
+pub returns-in_err-advices-clause-folder : goal.returns-in_err-advices-clause-folder
+returns-in_err-advices-clause-folder g c = grind (arith, common_steps)
+
+pub write_safeable-requires : goal.write_safeable-requires
+write_safeable-requires g c = grind (arith, common_steps)

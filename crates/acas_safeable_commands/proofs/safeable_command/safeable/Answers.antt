@@ -1,4 +1,4 @@
-use Rattle.std.proofs.Common.{Option, refl, subst, sym, arith, []}
+use Rattle.std.proofs.Common.{Option, refl, subst, sym, arith, [], rules}
 use Rattle.std.specs.FinMap.{get}
 use Rattle.std.proofs.lemmas.Result.{err_from_is_err_and}
 use Rattle.acas_outside.specs.Outside.{Outside, outside}
@@ -40,3 +40,6 @@ returns-clause-answers g c =
     answers-from-report (safeable_looks_at model table) (IsSafeableText model table) (IsSafeableTextBegun model table) (report_ended c.print_safeable.result) before mid after
     (record { holds = frame.holds; written = refl; misses = frame.misses; taken = frame.taken; faults = frame.faults; output_faults = omega arith })
     (c.print_safeable.ensures.answers model given)
+
+pub returns-clause-folder : goal.returns-clause-folder
+returns-clause-folder g c = search rules

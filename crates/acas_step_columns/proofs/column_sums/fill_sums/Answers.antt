@@ -62,3 +62,6 @@ loop-sigma-preserved c =
 
 pub returns : goal.returns
 returns c = grind (arith, common_steps)
+
+pub add_points-requires-clause-stencil : goal.add_points-requires-clause-stencil
+add_points-requires-clause-stencil c = grind (arith, common_steps)

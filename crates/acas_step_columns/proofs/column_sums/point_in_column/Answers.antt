@@ -90,3 +90,9 @@ returns-clause-point c = λ below count upper lower are.
           at.ensures.v0 at.ensures.v1 c.requires.stencil.advisory count lower (are.lower t.h.cell here) (are.lower (t.h.cell + 1) above) sums.ensures.lower c.quotient_down.ensures.value;
       within = returns-clause-within c;
     }
+
+pub quotient_down-requires-clause-divisor : goal.quotient_down-requires-clause-divisor
+quotient_down-requires-clause-divisor c = grind (arith, common_steps)
+
+pub quotient_up-requires-clause-divisor : goal.quotient_up-requires-clause-divisor
+quotient_up-requires-clause-divisor c = grind (arith, common_steps)

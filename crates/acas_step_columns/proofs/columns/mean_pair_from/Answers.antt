@@ -62,3 +62,6 @@ returns-in-Wide-clause-bounded c = λ most side within.
 
 pub returns-in-Layer-clause-bounded : goal.returns-in-Layer-clause-bounded
 returns-in-Layer-clause-bounded c = grind (arith, common_steps)
+
+pub bounds-earlier-from : goal.bounds-earlier-from
+bounds-earlier-from c = grind (arith, common_steps)

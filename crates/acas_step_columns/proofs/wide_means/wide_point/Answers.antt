@@ -126,3 +126,12 @@ returns c =
         lower = omega (arith, c.down_wide.ensures, quotient_down-most sums.result.lower at.divisor.by (2 * by) is.known.divisor.some (within Lower c.requires.column.reach.lower sums.result.lower sums.ensures.lower));
       };
     }
+
+pub corner_sums-sums-requires-clause-lower : goal.corner_sums-sums-requires-clause-lower
+corner_sums-sums-requires-clause-lower c = grind (arith, common_steps)
+
+pub up_wide-requires-clause-divisor : goal.up_wide-requires-clause-divisor
+up_wide-requires-clause-divisor c = grind (arith, common_steps)
+
+pub down_wide-requires-clause-divisor : goal.down_wide-requires-clause-divisor
+down_wide-requires-clause-divisor c = grind (arith, common_steps)

@@ -55,3 +55,6 @@ returns-clause-blends c = grind (arith, common_steps)
 
 pub returns-clause-within : goal.returns-clause-within
 returns-clause-within c = grind (arith, common_steps)
+
+pub overflow_add-at-in-loop-i : goal.overflow_add-at-in-loop-i
+overflow_add-at-in-loop-i c = grind (arith, common_steps)

@@ -1,3 +1,5 @@
+use Rattle.std.proofs.Common.{arith, rules}
+use Rattle.std.proofs.lemmas.Grind.{common_steps}
 use Rattle.acas_means.specs.declared.layer.Side.TheVariants.{Upper, Lower}
 use Rattle.acas_step_narrow.specs.Raised.{raised_at}
 use Rattle.acas_step_narrow.proofs.CornerSums.{altitude_chain}
@@ -18,3 +20,9 @@ returns-clause-lower c =
     c.args.sums.lower c.with_pair-one.result.lower c.with_pair-two.result.lower c.with_pair-three.result.lower c.with_pair.result.lower
     c.product.ensures.value c.product-2.ensures.value c.product-3.ensures.value c.product-4.ensures.value
     c.with_pair-one.ensures.lower c.with_pair-two.ensures.lower c.with_pair-three.ensures.lower c.with_pair.ensures.lower
+
+pub returns-clause-lower_room : goal.returns-clause-lower_room
+returns-clause-lower_room c = grind (arith, common_steps)
+
+pub returns-clause-upper_room : goal.returns-clause-upper_room
+returns-clause-upper_room c = search rules

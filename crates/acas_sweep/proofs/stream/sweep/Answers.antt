@@ -1,4 +1,5 @@
 use Rattle.std.proofs.Common.{◌≡◌, ℕ, ◌+◌, ◌<◌, ◌≤◌, None, List, length, replicate, refl, ap, sym, subst, ◌∙◌, arith}
+use Rattle.std.proofs.lemmas.Grind.{common_steps}
 use Rattle.std.proofs.Math.Nat.{mul-le-mul_right}
 use Rattle.acas_spec.specs.Model.{GridData, states}
 use Rattle.acas_units.specs.declared.pair.Pair.{Pair}
@@ -115,3 +116,21 @@ loop-n-preserved g c =
       counted = omega (arith, so_far.counted, c.put_over.ensures.count);
       turned = omega (arith, so_far.turned, c.hand_on-in-loop-n.ensures.turned, filled.state_count);
     }
+
+pub hand_on-requires-in-loop-n-clause-left : goal.hand_on-requires-in-loop-n-clause-left
+hand_on-requires-in-loop-n-clause-left g c = grind (arith, common_steps)
+
+pub put_over-requires-clause-horizon : goal.put_over-requires-clause-horizon
+put_over-requires-clause-horizon g c = grind (arith, common_steps)
+
+pub hand_on-requires-in-loop-n-clause-advice : goal.hand_on-requires-in-loop-n-clause-advice
+hand_on-requires-in-loop-n-clause-advice g c = grind (arith, common_steps)
+
+pub put_over-requires-clause-advice : goal.put_over-requires-clause-advice
+put_over-requires-clause-advice g c = grind (arith, common_steps)
+
+pub returns-in-Err-hand_on-clause-counts : goal.returns-in-Err-hand_on-clause-counts
+returns-in-Err-hand_on-clause-counts g c = grind (arith, common_steps)
+
+pub overflow_add-n : goal.overflow_add-n
+overflow_add-n g c = grind (arith, common_steps)

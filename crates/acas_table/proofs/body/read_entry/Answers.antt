@@ -1,5 +1,6 @@
 use Rattle.std.specs.Prelude.{⊤}
-use Rattle.std.proofs.Common.{◌≡◌, ◌∙◌, ap, sym}
+use Rattle.std.proofs.Common.{◌≡◌, ◌∙◌, ap, sym, arith}
+use Rattle.std.proofs.lemmas.Grind.{common_steps}
 use Rattle.acas_table_text.specs.Text.{entry_at}
 use Rattle.acas_table.proofs.Looks.{alone_given, moved_given, passed_given, stopped_given}
 use Rattle.acas_table.proofs.Answered.{answered}
@@ -26,3 +27,12 @@ returns-clause-given g c =
           (moved_given (λ entry bytes. entry ≡ entry_at s bytes c.args.index) (g.F.Folder.holds c.args.folder.now) (g.F.Folder.holds c.match-ended.folder) c.args.name.now c.args.format s c.args.index
           c.args.source.now c.match-ended.source c.read_bytes.new.source c.read_bytes.result (ap (λ (folder : g.row.F.Denot). g.F.Folder.holds folder) w.folder-is) w.source-is c.read_bytes.ensures.given)
     ]
+
+pub returns-in_err-check_digest-clause-reads : goal.returns-in_err-check_digest-clause-reads
+returns-in_err-check_digest-clause-reads g c = grind (arith, common_steps)
+
+pub returns-clause-reads : goal.returns-clause-reads
+returns-clause-reads g c = grind (arith, common_steps)
+
+pub returns-clause-mark : goal.returns-clause-mark
+returns-clause-mark g c = grind (arith, common_steps)

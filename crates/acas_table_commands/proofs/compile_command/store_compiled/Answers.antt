@@ -1,4 +1,5 @@
-use Rattle.std.proofs.Common.{refl}
+use Rattle.std.proofs.Common.{refl, arith}
+use Rattle.std.proofs.lemmas.Grind.{common_steps}
 use Rattle.std.specs.FinMap.{get}
 use Rattle.acas_outside.specs.Outside.{Outside, outside}
 use Rattle.acas_command.specs.Outcome.{stores}
@@ -56,3 +57,15 @@ returns-in_err-writer-clause-answers g c model told =
 
 pub print_stored_line-requires-clause-bytes : goal.print_stored_line-requires-clause-bytes
 print_stored_line-requires-clause-bytes g c = rw c.grid.ensures.value c.in-Ok.ensures.length
+
+pub returns-in-Ok-print_stored_line-clause-turns : goal.returns-in-Ok-print_stored_line-clause-turns
+returns-in-Ok-print_stored_line-clause-turns g c = grind (arith, common_steps)
+
+pub returns-in-Ok-print_stored_line-clause-counted : goal.returns-in-Ok-print_stored_line-clause-counted
+returns-in-Ok-print_stored_line-clause-counted g c = grind (arith, common_steps)
+
+pub returns-clause-turns : goal.returns-clause-turns
+returns-clause-turns g c = grind (arith, common_steps)
+
+pub returns-clause-counted : goal.returns-clause-counted
+returns-clause-counted g c = grind (arith, common_steps)

@@ -1,4 +1,5 @@
-use Rattle.std.proofs.Common.{refl}
+use Rattle.std.proofs.Common.{refl, arith}
+use Rattle.std.proofs.lemmas.Grind.{common_steps}
 use Rattle.std.specs.FinMap.{get}
 use Rattle.acas_outside.specs.Outside.{Outside}
 use Rattle.acas_command.specs.Outcome.{prints}
@@ -37,3 +38,6 @@ pub returns-in_err-sweep-clause-answers : goal.returns-in_err-sweep-clause-answe
 returns-in_err-sweep-clause-answers g c model folder told =
     rw (answered c.from_residual-in_err-sweep.result c.from_residual-in_err-sweep.ensures.1)
     (record { has_cause = tt; quiet = refl {a = g.O.Sink.written c.args.out.now}; told = told-kept folder.holds folder.holds refl })
+
+pub returns-in_err-sweep-clause-counted : goal.returns-in_err-sweep-clause-counted
+returns-in_err-sweep-clause-counted g c = grind (arith, common_steps)

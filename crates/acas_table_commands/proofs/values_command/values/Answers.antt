@@ -1,4 +1,4 @@
-use Rattle.std.proofs.Common.{Option, refl, subst, sym, arith}
+use Rattle.std.proofs.Common.{Option, refl, subst, sym, arith, rules}
 use Rattle.std.specs.FinMap.{get}
 use Rattle.acas_outside.specs.Files.{Files, Given}
 use Rattle.acas_outside.specs.Outside.{Outside, outside}
@@ -34,3 +34,6 @@ returns-in_err-found-clause-work g c =
 
 pub returns-clause-work : goal.returns-clause-work
 returns-clause-work g c done = counts_sweep _ _ c.in_ok-found.found.digest c.in_ok-found.found.model _ _ _ _ _ c.in_ok-found.ensures.ok (c.print_compiled.ensures.counted done) (c.print_compiled.ensures.turns done) done
+
+pub returns-clause-folder : goal.returns-clause-folder
+returns-clause-folder g c = search rules

@@ -1,4 +1,5 @@
 use Rattle.std.proofs.Common.{◌≡◌, ◌≤◌, [], ℕ, List, Ok, refl, inr, arith}
+use Rattle.std.proofs.lemmas.Grind.{common_steps}
 use Rattle.std.specs.Prelude.{Result, ⊤}
 use Rattle.std.proofs.lemmas.Result.{on_ok_weaker, on_err_weaker}
 use Rattle.acas_units.specs.declared.pair.Entry.{Entry}
@@ -79,3 +80,21 @@ returns-clause-err g c =
     on_err_weaker c.finish.result
     (λ part. inr (part_of_last c.args.found.now.digest s layer _ _ _ c.args.name.now (writer_state c.loop-n.begun) c.loop-n.n c.loop-n.invariant.writing.state (grind arith) c.loop-n.invariant.stored part))
     (c.finish.ensures.err _ c.loop-n.invariant.writing.written)
+
+pub layer-requires-clause-advice : goal.layer-requires-clause-advice
+layer-requires-clause-advice g c = grind (arith, common_steps)
+
+pub layer-requires-clause-pairs : goal.layer-requires-clause-pairs
+layer-requires-clause-pairs g c = grind (arith, common_steps)
+
+pub pairs-requires : goal.pairs-requires
+pairs-requires g c = grind (arith, common_steps)
+
+pub finish-requires-clause-all : goal.finish-requires-clause-all
+finish-requires-clause-all g c = grind (arith, common_steps)
+
+pub layer-requires-clause-more : goal.layer-requires-clause-more
+layer-requires-clause-more g c = grind (arith, common_steps)
+
+pub advice-requires : goal.advice-requires
+advice-requires g c = grind (arith, common_steps)

@@ -1,4 +1,5 @@
-use Rattle.std.proofs.Common.{◌+◌, rules}
+use Rattle.std.proofs.Common.{◌+◌, rules, arith}
+use Rattle.std.proofs.lemmas.Grind.{common_steps}
 use Rattle.acas_sweep.specs.Handed.{compiled_layer}
 use Rattle.acas_table_rows.proofs.SweptTable.{frame_added, frame_cut, stored_added, stored_cut, writing_added}
 use Rattle.acas_table_rows.proofs.swept_table.append_swept.Goals as goal
@@ -22,3 +23,9 @@ returns-in-Ok-clause-writing g c =
 pub returns-in-Ok-clause-frame : goal.returns-in-Ok-clause-frame
 returns-in-Ok-clause-frame g c =
     frame_added g.F.Folder (compiled_layer c.args.found.now.model) _ (c.args.found.now.model.grid.horizon + 1) c.sweep_to.new.rows _ c.in-Ok.ensures.hands.ok (search rules) (λ failed. cc failed)
+
+pub returns-in-Ok-clause-counted : goal.returns-in-Ok-clause-counted
+returns-in-Ok-clause-counted g c = grind (arith, common_steps)
+
+pub returns-in-Ok-clause-rising : goal.returns-in-Ok-clause-rising
+returns-in-Ok-clause-rising g c = grind (arith, common_steps)

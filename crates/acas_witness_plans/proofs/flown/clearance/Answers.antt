@@ -1,4 +1,5 @@
 use Rattle.std.proofs.Common.{ℕ, ◌≡◌, ◌≤◌, ◌∙◌, ap₂, arith, ℤ, pos, ◌-ℤ◌, ◌*ℤ◌, unsigned_abs, to_z, of_z}
+use Rattle.std.proofs.lemmas.Grind.{common_steps}
 use Rattle.std.specs.Int.{w128}
 use Rattle.std.proofs.lemmas.Int.{ints}
 use Rattle.acas_witness_plans.proofs.Casts.{difference_wide, whole128}
@@ -17,3 +18,6 @@ returns-clause-num c =
 
 pub returns-clause-num_size : goal.returns-clause-num_size
 returns-clause-num_size c = rw (difference_wide c.climb_over-climb.result c.end_over-end.result c.climb_over-climb.ensures.size c.end_over-end.ensures.size) (omega (arith, ints, c.climb_over-climb.ensures.size, c.end_over-end.ensures.size))
+
+pub returns-clause-den_size : goal.returns-clause-den_size
+returns-clause-den_size c = grind (arith, common_steps)

@@ -22,3 +22,6 @@ returns-clause-bend c =
 
 pub ratio-requires : goal.ratio-requires
 ratio-requires c = grind (arith, common_steps)
+
+pub overflow_cast-way_of : goal.overflow_cast-way_of
+overflow_cast-way_of c = grind (arith, common_steps)

@@ -1,4 +1,5 @@
 use Rattle.std.proofs.Common.{◌≡◌, ℕ, ◌≤◌, ℤ, pos, ◌-ℤ◌, ◌*ℤ◌, unsigned_abs, to_z, of_z, arith}
+use Rattle.std.proofs.lemmas.Grind.{common_steps}
 use Rattle.std.specs.Int.{w64}
 use Rattle.std.proofs.lemmas.Int.{ints}
 use Rattle.acas_frac.proofs.Bounds.{product_size}
@@ -32,3 +33,9 @@ returns-clause-size c =
     let d : to_z w64 (of_z w64 ((c.args.aim *ℤ pos c.args.rate_den) -ℤ (c.args.rate *ℤ pos c.args.aim_den))) ≡ (c.args.aim *ℤ pos c.args.rate_den) -ℤ (c.args.rate *ℤ pos c.args.aim_den) = omega (arith, ints, a.1, b.1) in
     let e = rw (a.0, b.0, d) at c.unsigned_abs.ensures.value in
     rw e (omega (arith, ints, a.1, b.1))
+
+pub overflow_mul-rate : goal.overflow_mul-rate
+overflow_mul-rate c = grind (arith, common_steps)
+
+pub overflow_mul-aim : goal.overflow_mul-aim
+overflow_mul-aim c = grind (arith, common_steps)

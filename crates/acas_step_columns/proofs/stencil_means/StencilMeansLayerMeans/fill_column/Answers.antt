@@ -1,4 +1,4 @@
-use Rattle.std.proofs.Common.{◌<◌, length, arith}
+use Rattle.std.proofs.Common.{◌<◌, length, arith, rules}
 use Rattle.std.proofs.lemmas.Grind.{common_steps}
 use Rattle.acas_means.proofs.ColumnLaws.{vertex_in-below}
 use Rattle.acas_step_columns.proofs.stencil_means.StencilMeansLayerMeans.fill_column.Goals as goal
@@ -22,3 +22,9 @@ loop-advisory-preserved c = record {
   means = c.fill_advisory.ensures.means;
   bounded = λ most side within before. c.fill_advisory.ensures.bounded most side within (c.loop-advisory.invariant.bounded most side within before);
 }
+
+pub source_of-source-requires : goal.source_of-source-requires
+source_of-source-requires c = search rules
+
+pub returns-clause-bounded : goal.returns-clause-bounded
+returns-clause-bounded c = grind (arith, common_steps)
