@@ -5,13 +5,11 @@
 mod divisor;
 mod frac;
 mod laws;
-mod print;
 mod products;
 mod rounding;
 
 pub use divisor::Divisor;
 pub use frac::Frac;
 pub use laws::{lowest_terms_are_one, quotients_are_rounded};
-pub use print::print_frac;
 pub use products::gcd;
 pub use rounding::{Down, Rounding, Up};

@@ -1,7 +1,7 @@
 //! The best entries over a layer: those at a vertex under each present advisory, by the means of the layer there.
-ghost use Rattle.std.specs.Prelude.{◌≡◌, ◌+◌, ◌*◌, ◌<◌, ◌≤◌, ◌^◌, length};
+ghost use Rattle.std.specs.Prelude.{◌≡◌, ◌+◌, ◌*◌, ◌<◌, ◌≤◌, ◌^◌, length, replicate};
 ghost use Rattle.acas_spec.specs.Model.{choices_at, states};
-ghost use Rattle.acas_step_choices.specs.Best.{AreBest, AreBestUnder, AreColumnEntries, ColumnLeavesRoom, IsBest, LeaveColumnOthers, LeaveOthers, LeaveRoom, entry_at};
+ghost use Rattle.acas_step_choices.specs.Best.{AreBest, AreBestUnder, AreColumnEntries, ColumnLeavesRoom, IsBest, LeaveColumnOthers, LeaveOthers, LeaveRoom, entry_at, no_entry};
 ghost use Rattle.acas_step_choices.specs.Priced.{IsPricedAt, IsPricedIn};
 ghost use Rattle.acas_means.specs.Choices.{choice_count};
 ghost use Rattle.acas_means.specs.Columns.{columns};
@@ -16,6 +16,7 @@ use crate::two::best_of_two;
 use acas_base::Model;
 use acas_means::{ColumnMeans, LayerMeans, Reach, VertexMeans, advisory_count};
 use acas_units::{Entry, GREATEST_ADVISORIES, GREATEST_VERTICES, Pair};
+use std::array;
 
 /// An entry for each present advisory by its number.
 pub type VertexEntries = [Entry; GREATEST_ADVISORIES as usize];
@@ -23,13 +24,27 @@ pub type VertexEntries = [Entry; GREATEST_ADVISORIES as usize];
 /// Those at the vertices of a column, by the place of the altitude.
 pub type ColumnEntries = [VertexEntries; GREATEST_VERTICES as usize];
 
-/// Room for the entries of a column, of which none is written yet.
-pub fn blank_entries() -> ColumnEntries {
+// Room for the entries at a vertex.
+fn blank_vertex() -> VertexEntries
+    ensures { result ≡ replicate GREATEST_ADVISORIES no_entry }
+{
     let none = Entry {
         pair: Pair { upper: 0, lower: 0 },
         advice: 0,
     };
-    [[none; GREATEST_ADVISORIES as usize]; GREATEST_VERTICES as usize]
+    [none; GREATEST_ADVISORIES as usize]
+}
+
+/// Room for the entries of a column: an entry of noughts at each place. It is made vertex by vertex, since the compiler makes a store of
+/// its own for each field of a literal.
+pub fn blank_entries() -> ColumnEntries
+    ensures blank { result ≡ replicate GREATEST_VERTICES (replicate GREATEST_ADVISORIES no_entry) }
+{
+    array::from_fn(
+        |_|
+            ensures { result ≡ replicate GREATEST_ADVISORIES no_entry }
+        { blank_vertex() },
+    )
 }
 
 // Writes the entry under one present advisory at a vertex, and leaves those under the others.

@@ -2,7 +2,8 @@
 ghost use Rattle.std.specs.Prelude.{◌^◌, ◌<◌, ◌≤◌, IsTrue, unsigned_abs};
 ghost use Rattle.acas_frac.specs.Fraction.{Fraction};
 
-use acas_frac::{Down, Frac, Rounding, Up, print_frac};
+use acas_frac::{Down, Frac, Rounding, Up};
+use acas_number_texts::print_frac;
 use std::alloc::Global;
 use std::cmp::Ordering;
 

@@ -1,7 +1,8 @@
 //! Numbers as texts, and units.
 ghost use Rattle.std.specs.Prelude.{◌≤◌, ◌^◌, unsigned_abs};
 
-use acas_units::{Line, Span, feet_to_ticks, print_millionths};
+use acas_number_texts::print_millionths;
+use acas_units::{Line, Span, feet_to_ticks};
 use std::alloc::Global;
 
 // 10^30.

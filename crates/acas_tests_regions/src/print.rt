@@ -1,7 +1,8 @@
 //! What is told of an area in a window, line by line.
 use acas_areas::{BoxState, Extreme, Window};
 use acas_base::Model;
-use acas_frac::{Frac, print_frac};
+use acas_frac::Frac;
+use acas_number_texts::print_frac;
 use acas_region::{high_extreme, is_clear, low_extreme};
 use acas_rulings::{Segment, Witness};
 

@@ -3,8 +3,8 @@ ghost use Rattle.std.specs.Prelude.{◌≡◌, ◌+◌, ◌/◌, ◌^◌, ◌<�
 ghost use Rattle.std.specs.Fmt.{decimal, signed_decimal};
 ghost use Rattle.acas_units.specs.Printed.{millionths_text};
 
+use crate::digits::last_six;
 use crate::limits::LINE_BYTES;
-use crate::printed::last_six;
 use itoa::{Buffer, write_digits};
 use std::marker::Model;
 

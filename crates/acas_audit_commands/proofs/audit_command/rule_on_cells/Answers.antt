@@ -67,3 +67,9 @@ returns-in-Ok-clause-work g c model told may =
 
 pub returns-in_err-advices-clause-folder : goal.returns-in_err-advices-clause-folder
 returns-in_err-advices-clause-folder g c = grind (arith, common_steps)
+
+pub returns-in-Err-Sink : goal.returns-in-Err-Sink
+returns-in-Err-Sink g c = grind (arith, common_steps)
+
+pub returns : goal.returns
+returns g c = grind (arith, common_steps)

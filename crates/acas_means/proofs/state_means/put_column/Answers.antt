@@ -1,3 +1,4 @@
+use Rattle.std.proofs.lemmas.Grind.{common_steps}
 use Rattle.std.proofs.Common.{◌≡◌, ℕ, ◌<◌, length, ap, subst, ◌∙◌, arith}
 use Rattle.acas_spec.specs.Model.{GridData}
 use Rattle.acas_grid.specs.Grid.{state_number}
@@ -23,3 +24,9 @@ loop-i-preserved c =
           (λ s other. c.put_means.ensures.others s (λ same. other (same ∙ at)));
       others = λ s other. c.put_means.ensures.others s (λ same. other_vertex g column i s inside other (same ∙ at)) ∙ so_far.others s other;
     }
+
+pub loop-i-init : goal.loop-i-init
+loop-i-init c = grind (arith, common_steps)
+
+pub returns : goal.returns
+returns c = grind (arith, common_steps)

@@ -4,3 +4,6 @@ use Rattle.acas_region_curves.proofs.curve.lost.Goals as goal
 
 pub overflow_add-result : goal.overflow_add-result
 overflow_add-result c = grind (arith, common_steps)
+
+pub returns : goal.returns
+returns c = grind (arith, common_steps)

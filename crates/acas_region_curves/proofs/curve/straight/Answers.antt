@@ -29,8 +29,4 @@ returns-clause-value c =
     e ∙ fits ((pos 2 *ℤ c.args.aim) *ℤ pos (c.args.pull * c.args.time)) (bound c.args.aim (c.args.pull * c.args.time) c.requires.aim c.requires.flown) ∙ same c.args.aim c.args.pull c.args.time
 
 pub returns-clause-size : goal.returns-clause-size
-returns-clause-size c =
-    let a : to_z w128 (of_z w128 c.from.result) ≡ pos 2 *ℤ c.args.aim = omega (arith, ints, c.from.ensures, c.requires.aim) in
-    let b : to_z w128 (of_z w128 c.from-2.result) ≡ pos (c.args.pull * c.args.time) = omega (arith, ints, c.from-2.ensures, c.requires.flown) in
-    let s = bound c.args.aim (c.args.pull * c.args.time) c.requires.aim c.requires.flown in
-    rw (a, b, fits ((pos 2 *ℤ c.args.aim) *ℤ pos (c.args.pull * c.args.time)) s) (omega (arith, s))
+returns-clause-size c = grind (arith, common_steps)

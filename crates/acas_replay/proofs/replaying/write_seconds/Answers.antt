@@ -32,3 +32,6 @@ loop-second-preserved g c =
           (second_line m e d) c.loop-second.second (c.loop-second.invariant.printed d is) (c.in_ok-at.ensures.ok d is);
       frame = grind arith;
     }
+
+pub returns : goal.returns
+returns g c = grind (arith, common_steps)

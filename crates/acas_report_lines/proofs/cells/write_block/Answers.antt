@@ -75,3 +75,6 @@ returns-in_err-write_cell-clause-frame g c = grind (arith, common_steps)
 
 pub write_cell-requires-clause-cell : goal.write_cell-requires-clause-cell
 write_cell-requires-clause-cell g c = grind (arith, common_steps)
+
+pub returns : goal.returns
+returns g c = grind (arith, common_steps)

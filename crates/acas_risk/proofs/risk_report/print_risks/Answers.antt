@@ -1,3 +1,4 @@
+use Rattle.std.proofs.lemmas.Grind.{common_steps}
 use Rattle.std.proofs.Common.{◌≡◌, ◌<◌, ◌++◌, List, ℕ, Option, ◌∙◌, ap, subst, arith, rules}
 use Rattle.acas_spec.specs.Model.{GridData, states}
 use Rattle.acas_outside.specs.Bytes.{AppendsPart}
@@ -6,7 +7,7 @@ use Rattle.acas_outside.specs.Printing.{Prints, below}
 use Rattle.acas_outside.proofs.PrintedPieces.{part_of_below, prints_below}
 use Rattle.acas_risk.specs.RiskText.{risk_line}
 use Rattle.acas_risk.specs.Rows.{row_at}
-use Rattle.acas_risk.proofs.Texts.{part_at_last, part_before_last, states_line, whole_text}
+use Rattle.acas_risk.proofs.Texts.{part_at_last, part_before_last, states_line}
 use Rattle.acas_risk.proofs.risk_report.print_risks.Goals as goal
 
 -- the same line, printed or cut
@@ -44,9 +45,4 @@ returns-in_err-end-clause-err g c =
     (part_at_last c.args.model.now (row_at c.args.values.now) _ _ _ c.args.pen.now.buffer c.loop-state.pen.buffer _ c.requires.empty last lines c.in_err-end.ensures.err)
 
 pub returns-clause-ok : goal.returns-clause-ok
-returns-clause-ok g c =
-    let m = c.args.model.now in
-    let last : c.write_states_line.new.line ≡ states_line c.args.model.now = search rules in
-    let all : c.loop-state.state ≡ states c.args.model.now.grid = omega (arith, c.states-states.ensures.value, ap (λ (h : GridData). states h) c.grid.ensures.value) in
-    let lines = subst (λ (n : ℕ). Prints (g.S.Sink.written c.args.sink.now) (g.S.Sink.written c.loop-state.sink) c.args.pen.now.buffer c.loop-state.pen.buffer (below n (λ s. risk_line m s (row_at c.args.values.now s)))) all c.loop-state.invariant.printed in
-    whole_text c.args.model.now (row_at c.args.values.now) _ _ _ c.args.pen.now.buffer c.loop-state.pen.buffer _ c.requires.empty last lines c.in_ok-end.ensures.ok
+returns-clause-ok g c = grind (arith, common_steps)

@@ -28,3 +28,9 @@ returns-in-Ok-print_risks-clause-frame g c = grind (arith, common_steps)
 
 pub returns-clause-frame : goal.returns-clause-frame
 returns-clause-frame g c = grind (arith, common_steps)
+
+pub returns-in_default : goal.returns-in_default
+returns-in_default g c = grind (arith, common_steps)
+
+pub returns-in_default-risk_values : goal.returns-in_default-risk_values
+returns-in_default-risk_values g c = grind (arith, common_steps)

@@ -1,4 +1,5 @@
-use Rattle.std.proofs.Common.{refl, rules}
+use Rattle.std.proofs.lemmas.Grind.{common_steps}
+use Rattle.std.proofs.Common.{refl, rules, arith}
 use Rattle.std.specs.FinMap.{get}
 use Rattle.std.proofs.lemmas.Result.{err_from_is_err_and}
 use Rattle.acas_outside.specs.Bytes.{Appends, AppendsPart}
@@ -59,3 +60,6 @@ returns-in-Err-Sink-clause-answers g c model told =
     answers-output (λ files. risk_of (get files model) (get files table)) o before after
     (called-risk before.holds model table digest m advices told accepted) tt
     (told-kept before.holds after.holds c.read_table_file.ensures.frame.holds) part rose
+
+pub returns : goal.returns
+returns g c = grind (arith, common_steps)

@@ -13,15 +13,7 @@ use mir.Syntax.{w128}
 use mir.Val.{SFits}
 
 pub div-requires : goal.div-requires
-div-requires g c =
-    let weights = c.requires.weights in
-    let t : SFits w128 c.args.set.now.total = omega (arith, ints, weights.light, weights.positive) in
-    let s : SFits w128 c.weighted_sum-sum.result = search rules in
-    simp to_z-of_z (record {
-      some = omega (arith, ints, weights.positive);
-      small_num = omega (arith, ints, c.weighted_sum-sum.ensures.high, c.weighted_sum-sum.ensures.low, weights.sum, weights.light, weights.positive);
-      small_den = omega (arith, ints, weights.light, weights.positive);
-    })
+div-requires g c = grind (arith, common_steps)
 
 pub overflow_cast-result : goal.overflow_cast-result
 overflow_cast-result g c =

@@ -58,3 +58,6 @@ returns-clause-within c = grind (arith, common_steps)
 
 pub overflow_add-at-in-loop-i : goal.overflow_add-at-in-loop-i
 overflow_add-at-in-loop-i c = grind (arith, common_steps)
+
+pub loop-i-init : goal.loop-i-init
+loop-i-init c = grind (arith, common_steps)

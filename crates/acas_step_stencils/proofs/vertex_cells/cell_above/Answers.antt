@@ -1,10 +1,8 @@
-use Rattle.std.proofs.Common.{refl, sym, subst, ◌∙◌, arith, rules}
+use Rattle.std.proofs.lemmas.Grind.{common_steps}
+use Rattle.std.proofs.Common.{sym, subst, arith, rules}
 use Rattle.acas_spec.specs.Model.{GridData}
-use Rattle.acas_spec.specs.declared.place.Vertex.{Vertex}
 use Rattle.acas_step.specs.Sizes.{altitude_gap, rate_gap}
 use Rattle.acas_step_stencils.specs.Units.{AreGapsWithin}
-use Rattle.acas_step_stencils.specs.Cells.{IsVertexCell}
-use Rattle.acas_step_stencils.specs.declared.vertex_cells.VertexCell.{VertexCell}
 use Rattle.acas_step_stencils.proofs.UnitLaws.{altitude_gaps, intruder_gaps, own_gaps}
 use Rattle.acas_step_stencils.proofs.vertex_cells.cell_above.Goals as goal
 
@@ -27,21 +25,7 @@ pub overflow_cast-result-6 : goal.overflow_cast-result-6
 overflow_cast-result-6 c = omega (arith, product-requires c)
 
 pub returns : goal.returns
-returns c =
-    let y : Vertex = c.vertex_at-vertex.result in
-    let cell : VertexCell = record { i = y.i; j = y.j; k = y.k; h = c.gap_in-h.result; v0 = c.gap_in-v0.result; v1 = c.gap_in-v1.result; divisor = c.new.result } in
-    subst (λ (x : Vertex). IsVertexCell c.args.grid.now c.args.units x cell) c.vertex_at-vertex.ensures.value
-    (subst (λ (g : GridData). IsVertexCell g c.args.units y cell) c.grid.view_is
-    (record {
-      i = refl;
-      j = refl;
-      k = refl;
-      h = c.gap_in-h.ensures.gap;
-      v0 = c.gap_in-v0.ensures.gap;
-      v1 = c.gap_in-v1.ensures.gap;
-      divisor = c.new.ensures.divisor;
-      by = c.new.ensures.by ∙ c.product.ensures.value;
-    }))
+returns c = grind (arith, common_steps)
 
 pub new-requires : goal.new-requires
 new-requires c = search rules

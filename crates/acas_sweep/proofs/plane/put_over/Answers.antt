@@ -1,4 +1,4 @@
-use Rattle.std.proofs.Common.{◌≡◌, ℕ, ◌+◌, ◌*◌, ◌≤◌, List, length, refl, ap, subst, sym, ◌∙◌, arith}
+use Rattle.std.proofs.Common.{◌≡◌, ◌+◌, ◌*◌, ◌≤◌, List, length, ap, subst, sym, ◌∙◌, arith}
 use Rattle.std.proofs.Math.Nat.{mul-le-mul_right}
 use Rattle.std.proofs.lemmas.Grind.{common_steps}
 use Rattle.acas_spec.specs.Model.{GridData, vertices}
@@ -6,20 +6,12 @@ use Rattle.acas_units.specs.declared.pair.Pair.{Pair}
 use Rattle.acas_means.specs.Choices.{choice_count}
 use Rattle.acas_means.specs.Columns.{columns}
 use Rattle.acas_means.proofs.ColumnLaws.{all_columns}
-use Rattle.acas_sweep.specs.Entries.{AreOver, AreSmall}
-use Rattle.acas_sweep.specs.Filled.{IsFilledTo, pairs_in}
+use Rattle.acas_sweep.specs.Entries.{AreSmall}
 use Rattle.acas_sweep.proofs.Over.{small_within}
 use Rattle.acas_sweep.proofs.plane.put_over.Goals as goal
 
 pub loop-column-init : goal.loop-column-init
-loop-column-init g c =
-    let start : 0 ≡ 0 * length c.args.model.now.grid.h = omega arith in
-    record {
-      over = record { entry = λ s inside before. absurd (omega (arith, before)) };
-      filled = subst (λ (t : ℕ). IsFilledTo c.args.model.now.grid t 0 c.args.block.now) start c.requires.filled;
-      finished = refl;
-      counted = omega arith;
-    }
+loop-column-init g c = grind (arith, common_steps)
 
 pub fill_entries-requires-clause-column : goal.fill_entries-requires-clause-column
 fill_entries-requires-clause-column g c = grind (arith, common_steps)
@@ -43,15 +35,7 @@ pub put_column-requires-clause-column : goal.put_column-requires-clause-column
 put_column-requires-clause-column g c = grind (arith, common_steps)
 
 pub loop-column-preserved : goal.loop-column-preserved
-loop-column-preserved g c =
-    let m = c.args.model.now in
-    let so_far = c.loop-column.invariant in
-    record {
-      over = subst (λ (l : List Pair). AreOver m l ((c.loop-column.column + 1) * length m.grid.h) (pairs_in c.put_column.new.block.work) c.put_column.new.advice) so_far.finished c.put_column.ensures.over;
-      filled = c.put_column.ensures.filled;
-      finished = c.put_column.ensures.finished ∙ so_far.finished;
-      counted = omega (arith, so_far.counted, c.fill_entries.ensures.count);
-    }
+loop-column-preserved g c = grind (arith, common_steps)
 
 pub returns-clause-over : goal.returns-clause-over
 returns-clause-over g c = grind (arith, common_steps)

@@ -134,3 +134,6 @@ returns-in-Err-hand_on-clause-counts g c = grind (arith, common_steps)
 
 pub overflow_add-n : goal.overflow_add-n
 overflow_add-n g c = grind (arith, common_steps)
+
+pub returns : goal.returns
+returns g c = grind (arith, common_steps)

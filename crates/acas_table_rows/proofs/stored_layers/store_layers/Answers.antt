@@ -1,7 +1,7 @@
-use Rattle.std.proofs.Common.{◌≡◌, ◌≤◌, [], ℕ, List, Ok, refl, inr, arith}
+use Rattle.std.proofs.Common.{◌≡◌, ◌≤◌, ℕ, List, Ok, refl, inr, arith}
 use Rattle.std.proofs.lemmas.Grind.{common_steps}
 use Rattle.std.specs.Prelude.{Result, ⊤}
-use Rattle.std.proofs.lemmas.Result.{on_ok_weaker, on_err_weaker}
+use Rattle.std.proofs.lemmas.Result.{on_ok_weaker}
 use Rattle.acas_units.specs.declared.pair.Entry.{Entry}
 use Rattle.acas_outside.proofs.Appended.{on_err_always}
 use Rattle.acas_outside.proofs.Grown.{held_stored}
@@ -10,7 +10,7 @@ use Rattle.acas_table_text.specs.Text.{layer_of}
 use Rattle.acas_table_text.specs.declared.shape.TableShape.{TableShape}
 use Rattle.acas_table_writer.specs.Writer.{writer_state}
 use Rattle.acas_table_rows.specs.TableFile.{entries_of}
-use Rattle.acas_table_rows.proofs.StoredLayers.{part_of_last, part_of_next, start_is, started_is, stored_all, stored_first, stored_next, writing_next}
+use Rattle.acas_table_rows.proofs.StoredLayers.{part_of_next, start_is, stored_all, stored_next, writing_next}
 use Rattle.acas_table_rows.proofs.stored_layers.store_layers.Goals as goal
 
 pub returns-in_err-start-clause-err : goal.returns-in_err-start-clause-err
@@ -20,17 +20,7 @@ returns-in_err-start-clause-err g c =
     on_err_always _ (start_is c.args.found.now.digest s layer _ _ c.args.name.now (writer_state c.args.writer) c.requires.state c.in_err-start.ensures.err)
 
 pub loop-n-init : goal.loop-n-init
-loop-n-init g c =
-    let s : TableShape = shape_of c.args.found.now.model.grid in
-    let layer : ℕ → List Entry = entries_of c.args.layers.now in
-    record {
-      stored = stored_first c.args.found.now.digest s layer _ _ c.args.name.now (writer_state c.args.writer) c.requires.state c.in_ok-start.ensures.ok;
-      writing = record {
-        state = started_is c.args.found.now.digest s layer (writer_state c.args.writer) _ c.in_ok-start.ensures.state c.requires.state;
-        written = c.in_ok-start.ensures.written [] c.requires.written;
-      };
-      frame = grind arith;
-    }
+loop-n-init g c = grind (arith, common_steps)
 
 pub layer-requires-clause-held : goal.layer-requires-clause-held
 layer-requires-clause-held g c = held_stored _ _ _ _ c.loop-n.invariant.stored
@@ -74,12 +64,7 @@ returns-clause-ok g c =
     (c.finish.ensures.ok _ c.loop-n.invariant.writing.written)
 
 pub returns-clause-err : goal.returns-clause-err
-returns-clause-err g c =
-    let s : TableShape = shape_of c.args.found.now.model.grid in
-    let layer : ℕ → List Entry = entries_of c.args.layers.now in
-    on_err_weaker c.finish.result
-    (λ part. inr (part_of_last c.args.found.now.digest s layer _ _ _ c.args.name.now (writer_state c.loop-n.begun) c.loop-n.n c.loop-n.invariant.writing.state (grind arith) c.loop-n.invariant.stored part))
-    (c.finish.ensures.err _ c.loop-n.invariant.writing.written)
+returns-clause-err g c = grind (arith, common_steps)
 
 pub layer-requires-clause-advice : goal.layer-requires-clause-advice
 layer-requires-clause-advice g c = grind (arith, common_steps)

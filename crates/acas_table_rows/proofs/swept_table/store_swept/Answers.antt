@@ -1,13 +1,13 @@
-use Rattle.std.proofs.Common.{◌+◌, [], List, ℕ, refl, inr}
-use Rattle.std.proofs.lemmas.Grind.{merely}
-use Rattle.std.proofs.lemmas.Result.{on_ok_weaker, on_err_weaker}
+use Rattle.std.proofs.Common.{◌+◌, [], List, ℕ, refl, inr, arith}
+use Rattle.std.proofs.lemmas.Grind.{merely, common_steps}
+use Rattle.std.proofs.lemmas.Result.{on_ok_weaker}
 use Rattle.acas_spec.specs.Model.{ModelData}
 use Rattle.acas_table_text.specs.Shape.{shape_of}
 use Rattle.acas_table_writer.specs.Writer.{writer_state}
 use Rattle.acas_outside.proofs.Appended.{on_err_always}
 use Rattle.acas_outside.proofs.Grown.{held_stored}
 use Rattle.acas_table_rows.specs.TableFile.{compiled_entries}
-use Rattle.acas_table_rows.proofs.StoredLayers.{part_of_last, start_is, started_is, stored_all, stored_first}
+use Rattle.acas_table_rows.proofs.StoredLayers.{start_is, stored_all, stored_first}
 use Rattle.acas_table_rows.proofs.swept_table.store_swept.Goals as goal
 
 pub returns-in_err-start-clause-err : goal.returns-in_err-start-clause-err
@@ -23,12 +23,7 @@ pub append_swept-requires-clause-held : goal.append_swept-requires-clause-held
 append_swept-requires-clause-held g c = held_stored _ _ _ _ c.in_ok-start.ensures.ok
 
 pub append_swept-requires-clause-writing : goal.append_swept-requires-clause-writing
-append_swept-requires-clause-writing g c =
-    let m : ModelData = c.args.found.now.model in
-    record {
-      state = started_is c.args.found.now.digest (shape_of m.grid) (compiled_entries m) (writer_state c.args.writer) _ c.in_ok-start.ensures.state c.requires.state;
-      written = c.in_ok-start.ensures.written [] c.requires.written;
-    }
+append_swept-requires-clause-writing g c = grind (arith, common_steps)
 
 pub returns-in_err-append_swept-clause-err : goal.returns-in_err-append_swept-clause-err
 returns-in_err-append_swept-clause-err g c =
@@ -53,12 +48,4 @@ returns-clause-ok g c =
     (c.finish.ensures.ok _ c.in_ok-append_swept.ensures.writing.written)
 
 pub returns-clause-err : goal.returns-clause-err
-returns-clause-err g c =
-    let m : ModelData = c.args.found.now.model in
-    let digest : List ℕ = c.args.found.now.digest in
-    let stored = stored_first digest (shape_of m.grid) (compiled_entries m) _ _ c.args.name.now (writer_state c.args.writer) c.requires.state c.in_ok-start.ensures.ok in
-    on_err_weaker c.finish.result
-    (λ part. inr
-    (part_of_last digest (shape_of m.grid) (compiled_entries m) _ _ _ c.args.name.now (writer_state c.append_swept.new.begun.writer) (m.grid.horizon + 1) c.in_ok-append_swept.ensures.writing.state refl
-    (c.in_ok-append_swept.ensures.ok _ stored) part))
-    (c.finish.ensures.err _ c.in_ok-append_swept.ensures.writing.written)
+returns-clause-err g c = grind (arith, common_steps)

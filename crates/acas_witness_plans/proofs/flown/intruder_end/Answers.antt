@@ -1,9 +1,8 @@
-use Rattle.std.proofs.Common.{◌≡◌, ℕ, ◌*◌, ◌^◌, ◌≤◌, ◌∙◌, ap₂, sym, ℤ, pos, ◌+ℤ◌, ◌*ℤ◌, unsigned_abs, to_z, of_z, arith, mul-le-mul, rules}
+use Rattle.std.proofs.Common.{◌≡◌, ℕ, ◌*◌, ◌∙◌, ap₂, sym, ℤ, pos, ◌+ℤ◌, ◌*ℤ◌, to_z, of_z, arith, rules}
 use Rattle.std.specs.Int.{w64, w128}
 use Rattle.std.proofs.lemmas.Grind.{common_steps}
 use Rattle.std.proofs.lemmas.Int.{ints}
 use Rattle.acas_frac.specs.Fraction.{Fraction}
-use Rattle.acas_areas.specs.Sizes.{shared_parts}
 use Rattle.acas_witness_plans.specs.Plans.{IsIntruderEnd}
 use Rattle.acas_witness_plans.proofs.flown.intruder_end.Goals as goal
 
@@ -33,8 +32,4 @@ returns-clause-end c =
     (rw h at c.over.ensures.value) (rw r at c.flown.ensures.value) (c.new.ensures.num ∙ s) c.new.ensures.den
 
 pub returns-clause-short : goal.returns-clause-short
-returns-clause-short c =
-    let s : to_z w128 (of_z w128 c.from.result) ≡ c.over.result +ℤ c.flown.result = omega (arith, ints, c.from.ensures, c.over.ensures.size, c.flown.ensures.size) in
-    let shared : c.rate_parts-rate.result.1 * c.time_parts-num.result.1 ≤ shared_parts = mul-le-mul c.rate_parts-rate.ensures.den_size c.time_parts-num.ensures.den_size in
-    let size : unsigned_abs (c.over.result +ℤ c.flown.result) ≤ 10 ^ 15 = omega (arith, ints, c.over.ensures.size, c.flown.ensures.size) in
-    record { den_small = omega (arith, c.new.ensures.den, shared); num_small = rw (c.new.ensures.num ∙ s) size }
+returns-clause-short c = grind (arith, common_steps)

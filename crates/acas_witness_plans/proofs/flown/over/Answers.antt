@@ -4,3 +4,6 @@ use Rattle.acas_witness_plans.proofs.flown.over.Goals as goal
 
 pub overflow_mul-result : goal.overflow_mul-result
 overflow_mul-result c = grind (arith, common_steps)
+
+pub returns : goal.returns
+returns c = grind (arith, common_steps)

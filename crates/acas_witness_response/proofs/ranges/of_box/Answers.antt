@@ -1,8 +1,8 @@
-use Rattle.std.proofs.Common.{◌≡◌, pos, unsigned_abs, arith, rules}
+use Rattle.std.proofs.Common.{◌≡◌, pos, arith, rules}
 use Rattle.std.proofs.lemmas.Int.{ints}
 use Rattle.std.proofs.lemmas.Grind.{common_steps}
 use Rattle.acas_areas.specs.Limits.{interval_of}
-use Rattle.acas_witness_response.proofs.BoxRanges.{during_renamed, pair_renamed}
+use Rattle.acas_witness_response.proofs.BoxRanges.{pair_renamed}
 use Rattle.acas_witness_response.proofs.ranges.of_box.Goals as goal
 
 pub natural-requires-3 : goal.natural-requires-3
@@ -15,14 +15,7 @@ pub natural-requires-5 : goal.natural-requires-5
 natural-requires-5 c = omega (arith, ints, c.requires.spans.slow, c.args.closing.ordered)
 
 pub pair_of-found-requires-clause-during : goal.pair_of-found-requires-clause-during
-pair_of-found-requires-clause-during c =
-    let v = c.grid.ensures.valid in
-    let e : c.natural.result ≡ c.args.model.now.radius = omega (arith, ints, c.natural.ensures, c.radius.ensures, v.radius) in
-    let e1 : c.args.range.least ≡ pos c.natural-2.result = omega (arith, ints, c.natural-2.ensures) in
-    let e2 : c.args.range.greatest ≡ pos c.natural-3.result = omega (arith, ints, c.natural-3.ensures) in
-    let e3 : c.args.closing.least ≡ pos c.natural-4.result = omega (arith, ints, c.natural-4.ensures) in
-    let e4 : c.args.closing.greatest ≡ pos c.natural-5.result = omega (arith, ints, c.natural-5.ensures) in
-    during_renamed c.natural.result c.args.model.now.radius c.natural-2.result c.natural-3.result c.natural-4.result c.natural-5.result c.args.flight.time.den (unsigned_abs c.args.flight.time.num) (interval_of c.args.range) (interval_of c.args.closing) e e1 e2 e3 e4 c.requires.during
+pair_of-found-requires-clause-during c = grind (arith, common_steps)
 
 pub returns : goal.returns
 returns c =

@@ -1,3 +1,4 @@
+use Rattle.std.proofs.lemmas.Grind.{common_steps}
 use Rattle.std.proofs.Common.{◌≡◌, ◌∙◌, refl, ℕ, ◌*◌, ◌<◌, ◌≤◌, ℤ, pos, ◌-ℤ◌, ◌*ℤ◌, ◌≤ℤ◌, unsigned_abs, to_z, of_z, arith}
 use Rattle.std.specs.Int.{w128}
 use Rattle.std.proofs.lemmas.Int.{ints}
@@ -44,10 +45,4 @@ new-requires-clause-within c =
     (reduces ((f.num *ℤ pos g.den) -ℤ (g.num *ℤ pos f.den)) (f.den * g.den) n.some c.requires.dens (small f g c.requires.dens c.requires.order c.requires.least c.requires.most))
 
 pub returns-clause-difference : goal.returns-clause-difference
-returns-clause-difference c =
-    let f = c.args.time.now in
-    let g = c.args.other.now in
-    let n = c.difference_parts-num.ensures in
-    let up : to_z w128 (of_z w128 c.difference_parts-num.result.0) ≡ (f.num *ℤ pos g.den) -ℤ (g.num *ℤ pos f.den) = whole128 _ (omega (arith, n.size)) ∙ n.num in
-    let down : to_z w128 (of_z w128 c.difference_parts-num.result.1) ≡ pos (f.den * g.den) = whole128 _ (omega (arith, n.den_size)) ∙ n.den in
-    record { over = rw (up, down) at c.new.ensures.value }
+returns-clause-difference c = grind (arith, common_steps)

@@ -1,3 +1,4 @@
+use Rattle.std.proofs.lemmas.Grind.{common_steps}
 use Rattle.std.proofs.Common.{◌≡◌, ◌∙◌, sym, ◌-◌, ◌≤◌, pos, ◌*ℤ◌, int_le, min, false, arith, mul-pos, mul-le-mul, mul-le-mul_left}
 use Rattle.std.proofs.lemmas.Int.{ints}
 use Rattle.acas_frac.specs.Fraction.{Fraction}
@@ -15,11 +16,7 @@ returns-then-num-eq0-clause-parts c = λ n t g p ot og.
     hold_none n (min t g) (omega arith)
 
 pub returns-then-num-eq0-clause-rest : goal.returns-then-num-eq0-clause-rest
-returns-then-num-eq0-clause-rest c = λ n t g p ot og.
-    let z : c.num.result ≡ pos 0 = omega (arith, ints) in
-    let e = none_of n g c.args.hold.now c.requires.hold.some og (sym c.num.ensures.value ∙ z) in
-    let s : t - g ≡ t = omega arith in
-    rw (s, c.known.ensures.same) ot
+returns-then-num-eq0-clause-rest c = grind (arith, common_steps)
 
 pub returns-then-num-eq0-clause-least : goal.returns-then-num-eq0-clause-least
 returns-then-num-eq0-clause-least c = rw c.known.ensures.same c.requires.time.least
@@ -40,11 +37,7 @@ returns-then-num-eq0-2-clause-parts c = λ n t g p ot og.
     hold_none n (min t g) (omega arith)
 
 pub returns-then-num-eq0-2-clause-rest : goal.returns-then-num-eq0-2-clause-rest
-returns-then-num-eq0-2-clause-rest c = λ n t g p ot og.
-    let z : c.num-2.result ≡ pos 0 = omega (arith, ints) in
-    let e = none_of n t c.args.time.now c.requires.time.some ot (sym c.num-2.ensures.value ∙ z) in
-    let s : t - g ≡ t = omega arith in
-    rw (s, c.known-then-num-eq0-2.ensures.same) ot
+returns-then-num-eq0-2-clause-rest c = grind (arith, common_steps)
 
 pub returns-then-num-eq0-2-clause-least : goal.returns-then-num-eq0-2-clause-least
 returns-then-num-eq0-2-clause-least c = rw c.known-then-num-eq0-2.ensures.same c.requires.time.least

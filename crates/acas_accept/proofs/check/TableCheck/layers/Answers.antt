@@ -1,19 +1,17 @@
-use Rattle.std.proofs.Common.{◌≡◌, ◌+◌, ◌*◌, ℕ, List, length, refl, ◌∙◌, ap, subst, sym, arith}
+use Rattle.std.proofs.lemmas.Grind.{common_steps}
+use Rattle.std.proofs.Common.{◌≡◌, ◌+◌, ◌*◌, ℕ, List, ap, subst, sym, arith}
 use Rattle.std.proofs.lemmas.Result.{err_from_is_err_and}
 use Rattle.acas_units.specs.declared.pair.Pair.{Pair}
 use Rattle.acas_spec.specs.Model.{GridData, entries, states}
 use Rattle.acas_accept.specs.Checking.{HasAccepted, IsAnswer, IsBeforeLayer, IsCheckOf, IsInLayer}
-use Rattle.acas_accept.specs.Keeping.{AreRead, MayBeChosen}
-use Rattle.acas_accept.proofs.Frames.{reads_on, stays}
+use Rattle.acas_accept.specs.Keeping.{AreRead}
+use Rattle.acas_accept.proofs.Frames.{reads_on}
 use Rattle.acas_accept.proofs.Steps.{accepted_at, before_next_layer, check_next_layer}
-use Rattle.acas_table.proofs.Told.{told_all, told_at, told_both, told_map}
+use Rattle.acas_table.proofs.Told.{told_at, told_both, told_map}
 use Rattle.acas_accept.proofs.check.TableCheck.layers.Goals as goal
 
 pub loop-n-init : goal.loop-n-init
-loop-n-init g c =
-    let before : (digest bytes : List ℕ) → HasAccepted c.args.model.now digest c.args.self.now 0 bytes → IsBeforeLayer c.args.model.now digest c.args.self.now 0 bytes =
-    λ digest bytes accepted. record { accepted = accepted_at c.args.model.now digest c.args.self.now 0 (0 * states c.args.model.now.grid) bytes (omega arith) accepted; values = tt } in
-    record { check = c.requires.check; kept = c.requires.kept; given = λ digest. told_all _ c.args.name.now _ (λ bytes accepted. (before digest bytes accepted, c.requires.of bytes)); reads = stays g.F.Folder _ _ _ _ refl refl refl }
+loop-n-init g c = grind (arith, common_steps)
 
 pub returns-in_err-layer : goal.returns-in_err-layer
 returns-in_err-layer g c =
@@ -31,13 +29,7 @@ returns-in_err-layer g c =
     })
 
 pub keep-requires : goal.keep-requires
-keep-requires g c = record {
-  n = omega (arith, ap (λ (g : GridData). g.horizon) c.grid.ensures.value, ap (λ (g : GridData). g.horizon) c.behind-model.view_is);
-  pairs = ap length c.deref.ensures.value ∙ c.in_ok-layer.ensures.check.pairs;
-  advice = ap length c.deref-in-loop-n.ensures.value ∙ c.in_ok-layer.ensures.check.advice;
-  allowed = subst (MayBeChosen c.args.model.now c.loop-n.n (states c.args.model.now.grid)) (sym c.deref-in-loop-n.ensures.value) c.in_ok-layer.ensures.check.allowed;
-  given = c.loop-n.invariant.kept;
-}
+keep-requires g c = grind (arith, common_steps)
 
 pub loop-n-preserved : goal.loop-n-preserved
 loop-n-preserved g c = record {

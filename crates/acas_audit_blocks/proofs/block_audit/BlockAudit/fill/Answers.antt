@@ -1,6 +1,7 @@
+use Rattle.std.proofs.lemmas.Grind.{common_steps}
 use Rattle.std.proofs.Common.{◌≡◌, ℕ, ◌==◌, ◌&&◌, not, ◌∙◌, ap, arith}
 use Rattle.acas_audit_blocks.specs.Audits.{BlockAuditData, IsPlace, place_of}
-use Rattle.acas_audit_blocks.proofs.Filled.{filled_next, filled_to, filled_whole, plane_end, row_end, whole_end}
+use Rattle.acas_audit_blocks.proofs.Filled.{filled_next, filled_to, filled_whole, plane_end, whole_end}
 use Rattle.acas_audit_blocks.proofs.Ruled.{place_within}
 use Rattle.acas_audit_blocks.proofs.block_audit.BlockAudit.fill.Goals as goal
 
@@ -37,16 +38,7 @@ loop-k-preserved c =
     }
 
 pub loop-j-preserved : goal.loop-j-preserved
-loop-j-preserved c =
-    let s = c.loop-k.self in
-    let ends : c.loop-k.k ≡ s.intruder_rates =
-    omega (arith, c.loop-k-test.false, c.loop-k.auto.k-end, c.loop-k.invariant.same.intruder_rates, c.loop-j.invariant.same.intruder_rates, ap (λ (a : BlockAuditData). a.intruder_rates) c.self-in-loop-j.view_is)
-    in
-    record {
-      same = c.loop-k.invariant.same;
-      filled = filled_to c.args.model.now c.args.advices.now c.args.n c.args.present _ _ s
-          (ap (λ (x : ℕ). place_of s c.loop-i.i c.loop-j.j x) ends ∙ row_end s c.loop-i.i c.loop-j.j) c.loop-k.invariant.filled;
-    }
+loop-j-preserved c = grind (arith, common_steps)
 
 pub loop-i-preserved : goal.loop-i-preserved
 loop-i-preserved c =

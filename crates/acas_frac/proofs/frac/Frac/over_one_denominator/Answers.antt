@@ -11,5 +11,5 @@ times-requires-2 c = grind (arith, common_steps)
 pub times-requires-3 : goal.times-requires-3
 times-requires-3 c = grind (arith, common_steps)
 
-pub returns-clause-some : goal.returns-clause-some
-returns-clause-some c = grind (arith, common_steps)
+pub returns : goal.returns
+returns c = grind (arith, common_steps)

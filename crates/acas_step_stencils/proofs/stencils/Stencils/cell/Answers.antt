@@ -25,12 +25,7 @@ stencil-stencil-requires c =
     }
 
 pub cell_of_stencil-requires-clause-stencil : goal.cell_of_stencil-requires-clause-stencil
-cell_of_stencil-requires-clause-stencil c =
-    let m = c.args.model.now in
-    let v : ℕ = c.args.vertex in
-    let w : ℕ = c.column_count-columns.result in
-    let s = moved m (vertex_at m.grid (vertex_in m.grid (v % w) (v / w))) c.args.advisory c.args.sigma in
-    (s, subst (λ (g : GridData). IsStencil g c.args.self.now.units s c.stencil-stencil.result) (sym c.grid-grid.ensures.value) c.stencil-stencil.ensures)
+cell_of_stencil-requires-clause-stencil c = grind (arith, common_steps)
 
 pub returns-clause-round : goal.returns-clause-round
 returns-clause-round c =

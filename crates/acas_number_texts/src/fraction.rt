@@ -4,7 +4,7 @@ ghost use Rattle.std.specs.Fmt.{signed_decimal};
 ghost use Rattle.std.specs.Io.{StartsWith};
 ghost use Rattle.acas_frac.specs.Fraction.{fraction_text};
 
-use crate::frac::Frac;
+use acas_frac::Frac;
 use itoa::Buffer;
 use std::alloc::AllocError;
 

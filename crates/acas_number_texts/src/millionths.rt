@@ -1,9 +1,10 @@
 //! The text of a number of millionths.
-ghost use Rattle.std.specs.Prelude.{◌≡◌, ◌≤◌, ◌^◌, ◌+◌, ◌-◌, ◌%◌, ◌++◌, ◌∷◌, unsigned_abs, OnOk, OnErr};
+ghost use Rattle.std.specs.Prelude.{◌≡◌, ◌≤◌, ◌^◌, ◌++◌, ◌∷◌, unsigned_abs, OnOk, OnErr};
 ghost use Rattle.std.specs.Io.{StartsWith};
 ghost use Rattle.std.specs.Fmt.{decimal};
 ghost use Rattle.acas_units.specs.Printed.{millionths_text, sign_text, six_digits};
 
+use acas_units::last_six;
 use itoa::Buffer;
 use std::alloc::AllocError;
 
@@ -59,26 +60,4 @@ fn append_places(out: &mut Vec<u8>, magnitude: u128) -> Result<(), AllocError>
     out.push(b'.')?;
     out.extend_from_slice(&last_six(magnitude))?;
     Ok(())
-}
-
-/// The last six decimal digits of a number, leading zeros included.
-#[tactic(auto, unfolding(crate::specs::Printed::six_digits))]
-pub(crate) fn last_six(n: u128) -> [u8; 6]
-    ensures { result ≡ six_digits n }
-{
-    let places = (n % 1_000_000) as u32;
-    [
-        last_digit(places / 100_000),
-        last_digit(places / 10_000),
-        last_digit(places / 1_000),
-        last_digit(places / 100),
-        last_digit(places / 10),
-        last_digit(places),
-    ]
-}
-
-fn last_digit(n: u32) -> u8
-    ensures { result ≡ 48 + n % 10 }
-{
-    b'0' + (n % 10) as u8
 }
