@@ -3,7 +3,7 @@ use Rattle.std.proofs.Common.{◌≡◌, ℕ, List, [], None, refl, sym}
 use Rattle.std.specs.FinMap.{get}
 use Rattle.acas_spec.specs.Model.{ModelData}
 use Rattle.acas_outside.specs.Files.{Files}
-use Rattle.acas_meetings.specs.Intruder.{Manoeuvre}
+use Rattle.acas_rulings.specs.Intruder.{Manoeuvre}
 use Rattle.acas_boxes.specs.Rates.{fitting_boxes_of}
 use Rattle.acas_command.specs.Called.{calls_for}
 use Rattle.acas_command.specs.Calls.{with_input_file}

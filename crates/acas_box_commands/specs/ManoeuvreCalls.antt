@@ -3,7 +3,7 @@ use Rattle.std.specs.Prelude.{◌≡◌, ℕ, List, [], Option}
 use Rattle.std.specs.FinMap.{get}
 use Rattle.acas_spec.specs.Model.{ModelData}
 use Rattle.acas_outside.specs.Files.{Files}
-use Rattle.acas_meetings.specs.Intruder.{Manoeuvre}
+use Rattle.acas_rulings.specs.Intruder.{Manoeuvre}
 use Rattle.acas_rulings.specs.Boxes.{AreBoxesOf, AuditedBox}
 use Rattle.acas_boxes.specs.Rates.{AllRatesFit, fitting_boxes_of}
 use Rattle.acas_report_lines.specs.Meetings.{IsMeetingsBegun, IsMeetingsReport}

@@ -7,12 +7,12 @@ use Rattle.acas_outside.specs.Files.{Files}
 use Rattle.acas_outside.specs.Outside.{Outside}
 use Rattle.acas_input.specs.declared.fault.InputFault.{InputFault}
 use Rattle.acas_input.specs.declared.fault.InputFault.TheVariants.{Rate}
-use Rattle.acas_meetings.specs.Intruder.{Manoeuvre}
-use Rattle.acas_meetings.specs.Meeting.{IsEndangeredBy}
+use Rattle.acas_rulings.specs.Intruder.{Manoeuvre}
+use Rattle.acas_rulings.specs.Meeting.{IsEndangeredBy}
 use Rattle.acas_rulings.specs.Boxes.{AuditedBox, box_at}
-use Rattle.acas_meetings.specs.Verdicts.{ShowsMeeting}
-use Rattle.acas_meetings.specs.declared.verdict.MeetVerdict.{MeetVerdict}
-use Rattle.acas_meetings.specs.declared.verdict.MeetVerdict.TheVariants.{Certified, Reported}
+use Rattle.acas_rulings.specs.Verdicts.{ShowsMeeting}
+use Rattle.acas_rulings.specs.declared.verdict.MeetVerdict.{MeetVerdict}
+use Rattle.acas_rulings.specs.declared.verdict.MeetVerdict.TheVariants.{Certified, Reported}
 use Rattle.acas_boxes.specs.Rates.{AllRatesFit, IsFirstUnfit}
 use Rattle.acas_boxes.specs.Text.{IsBoxesText}
 use Rattle.acas_report_lines.specs.Meetings.{as_counts, is_safe, meetings_text}

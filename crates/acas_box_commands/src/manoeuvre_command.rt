@@ -3,7 +3,7 @@ ghost use Rattle.std.specs.Prelude.{◌≤◌, ℕ, List, IsErrOf, IsTrue};
 ghost use Rattle.acas_outside.specs.Files.{Given};
 ghost use Rattle.acas_outside.specs.Frame.{ReadsAndWrites};
 ghost use Rattle.acas_outside.specs.Outside.{outside};
-ghost use Rattle.acas_meetings.specs.View.{may_of};
+ghost use Rattle.acas_rulings.specs.MeetingView.{may_of};
 ghost use Rattle.acas_command.specs.Answers.{Answers, report_ended};
 ghost use Rattle.acas_command.specs.ModelFile.{IsModelFile};
 ghost use Rattle.acas_box_commands.specs.ManoeuvreCalls.{CallsForManoeuvre};
@@ -11,7 +11,7 @@ ghost use Rattle.acas_box_commands.specs.ManoeuvreCalls.{CallsForManoeuvre};
 use acas_boxes::read_fitting_boxes;
 use acas_command::{Cause, FileRole, ModelFile, read_model_file, read_text_file};
 use acas_intruder::write_meetings;
-use acas_meetings::Manoeuvre;
+use acas_rulings::Manoeuvre;
 use acas_outside::{Folder, PrintFault, Sink};
 use std::alloc::Global;
 

@@ -4,7 +4,7 @@ use Rattle.acas_spec.specs.Model.{ModelData}
 use Rattle.acas_spec.specs.Steps.{◌>>=◌, ◌>>◌}
 use Rattle.acas_flight.specs.State.{Interval}
 use Rattle.acas_rulings.specs.Boxes.{AuditedBox, box_at}
-use Rattle.acas_meetings.specs.Intruder.{Manoeuvre, RatesFit}
+use Rattle.acas_rulings.specs.Intruder.{Manoeuvre, RatesFit}
 use Rattle.acas_input.specs.declared.fault.InputFault.{InputFault}
 use Rattle.acas_input.specs.declared.fault.InputFault.TheVariants.{Rate}
 use Rattle.acas_boxes.specs.Whole.{boxes_of}

@@ -3,7 +3,7 @@ ghost use Rattle.std.specs.Prelude.{◌≡◌, ◌↔◌, ℕ, List, Ok};
 ghost use Rattle.acas_spec.specs.Model.{ModelData};
 ghost use Rattle.acas_spec.specs.Limits.{IsModel};
 ghost use Rattle.acas_rulings.specs.Boxes.{AuditedBox};
-ghost use Rattle.acas_meetings.specs.Intruder.{Manoeuvre};
+ghost use Rattle.acas_rulings.specs.Intruder.{Manoeuvre};
 ghost use Rattle.acas_boxes.specs.Rates.{AllRatesFit, fitting_boxes_of};
 ghost use Rattle.acas_boxes.specs.Whole.{boxes_of};
 ghost use Rattle.acas_boxes.specs.Text.{IsBoxesText};

@@ -1,6 +1,6 @@
 //! Whether the intruder's rates of boxes are within what it may do.
 ghost use Rattle.std.specs.Prelude.{◌≡◌, ◌↔◌, ℕ, Ok, Err, IfOk};
-ghost use Rattle.acas_meetings.specs.View.{may_of};
+ghost use Rattle.acas_rulings.specs.MeetingView.{may_of};
 ghost use Rattle.acas_areas.specs.Limits.{interval_of};
 ghost use Rattle.acas_rulings.specs.Boxes.{AreBoxesOf};
 ghost use Rattle.acas_input.specs.Answers.{Gives};
@@ -11,8 +11,7 @@ ghost use Rattle.acas_boxes.specs.Rates as rules;
 use crate::whole::read_boxes;
 use acas_base::Model;
 use acas_input::InputFault;
-use acas_meetings::Manoeuvre;
-use acas_rulings::Boxes;
+use acas_rulings::{Boxes, Manoeuvre};
 use acas_units::Span;
 use std::alloc::Global;
 

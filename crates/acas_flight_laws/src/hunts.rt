@@ -13,15 +13,15 @@ ghost use Rattle.acas_areas.specs.Search.{IsTimed, own_pass, time_pass, unit};
 ghost use Rattle.acas_areas.specs.Responses.{fine};
 ghost use Rattle.acas_rulings.specs.Boxes.{AuditedBox};
 ghost use Rattle.acas_rulings.specs.Ranges.{IsContactOfBox};
-ghost use Rattle.acas_meetings.specs.Intruder.{Manoeuvre};
-ghost use Rattle.acas_meetings.specs.Meeting.{IsEndangeredBy, IsEndangeredDuringBy, MeetsDuring};
-ghost use Rattle.acas_meetings.specs.Race.{high_race, low_race, turned};
-ghost use Rattle.acas_meetings.specs.Apart.{IsApart};
-ghost use Rattle.acas_meetings.specs.Least.{IsFirstLeastTime};
-ghost use Rattle.acas_meetings.specs.Hunt.{CanMeet, Course, Finds, Hunt, IsFlownBy, IsHunt, accel, bottom, high_course, low_course, passes, top, toward, value};
-ghost use Rattle.acas_meetings.specs.Printed.{PrintsCourse, meeting_fractions};
-ghost use Rattle.acas_meetings.specs.Verdicts.{IsMeetingInContact, IsMeetingOf, ShowsMeeting, hunt_between};
-ghost use Rattle.acas_meetings.specs.declared.meeting.Meeting.{Meeting};
+ghost use Rattle.acas_rulings.specs.Intruder.{Manoeuvre};
+ghost use Rattle.acas_rulings.specs.Meeting.{IsEndangeredBy, IsEndangeredDuringBy, MeetsDuring};
+ghost use Rattle.acas_rulings.specs.Race.{high_race, low_race, turned};
+ghost use Rattle.acas_rulings.specs.Apart.{IsApart};
+ghost use Rattle.acas_rulings.specs.Least.{IsFirstLeastTime};
+ghost use Rattle.acas_rulings.specs.Hunt.{CanMeet, Course, Finds, Hunt, IsFlownBy, IsHunt, accel, bottom, high_course, low_course, passes, top, toward, value};
+ghost use Rattle.acas_rulings.specs.PrintedMeetings.{PrintsCourse, meeting_fractions};
+ghost use Rattle.acas_rulings.specs.Verdicts.{IsMeetingInContact, IsMeetingOf, ShowsMeeting, hunt_between};
+ghost use Rattle.acas_rulings.specs.declared.meeting.Meeting.{Meeting};
 
 /// One step of each pass raises the value of the course by less than the thinnest puck is thick.
 pub fn hunts_are_gentle()

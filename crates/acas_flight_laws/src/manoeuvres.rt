@@ -8,12 +8,12 @@ ghost use Rattle.acas_flight.specs.Parts.{CanBeMet};
 ghost use Rattle.acas_flight.specs.Curves.{approach};
 ghost use Rattle.acas_flight.specs.Window.{IsWindowOfBox, Times};
 ghost use Rattle.acas_flight.specs.Clear.{Area, area_of_box};
-ghost use Rattle.acas_meetings.specs.Intruder.{IsFlown, Manoeuvre, RatesFit, pilot_of};
-ghost use Rattle.acas_meetings.specs.Meeting.{IsEndangeredBy, IsEndangeredDuringBy};
-ghost use Rattle.acas_meetings.specs.Race.{Race, turned};
-ghost use Rattle.acas_meetings.specs.Apart.{IsApart, StaysAbove, StaysBelow};
-ghost use Rattle.acas_meetings.specs.Least.{IsFirstLeastTime};
-ghost use Rattle.acas_meetings.specs.Turns.{Instant, IsFirstOf, IsLooked, IsSoonerOrSame, fraction_of, race_number, times_of};
+ghost use Rattle.acas_rulings.specs.Intruder.{IsFlown, Manoeuvre, RatesFit, pilot_of};
+ghost use Rattle.acas_rulings.specs.Meeting.{IsEndangeredBy, IsEndangeredDuringBy};
+ghost use Rattle.acas_rulings.specs.Race.{Race, turned};
+ghost use Rattle.acas_rulings.specs.Apart.{IsApart, StaysAbove, StaysBelow};
+ghost use Rattle.acas_rulings.specs.Least.{IsFirstLeastTime};
+ghost use Rattle.acas_rulings.specs.Turns.{Instant, IsFirstOf, IsLooked, IsSoonerOrSame, fraction_of, race_number, times_of};
 
 /// From a rate that it may have, an intruder may fly exactly what a pilot may who is asked for its rates and accelerations alone.
 pub fn intruders_fly_as_pilots()

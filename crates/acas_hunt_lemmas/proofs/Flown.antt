@@ -20,11 +20,11 @@ use Rattle.acas_areas.specs.Responses.{IsFlightFrom, scale, fine}
 use Rattle.acas_pass_lemmas.proofs.Neighbours.{size_over}
 use Rattle.acas_pass_lemmas.proofs.Touching as touching
 use Rattle.acas_pass_lemmas.proofs.Touching.{climb-response}
-use Rattle.acas_meetings.specs.Intruder.{Manoeuvre, over, IsFlown, pilot_of}
-use Rattle.acas_meetings.specs.Meeting.{IsClose, MeetsDuring}
+use Rattle.acas_rulings.specs.Intruder.{Manoeuvre, over, IsFlown, pilot_of}
+use Rattle.acas_rulings.specs.Meeting.{IsClose, MeetsDuring}
 use Rattle.acas_manoeuvre_lemmas.proofs.Flown.{meets-flown}
 use Rattle.acas_manoeuvre_lemmas.proofs.Windows.{flown-finer, over-finer}
-use Rattle.acas_meetings.specs.Hunt.{Course, value, of_intruder, IsFlownBy}
+use Rattle.acas_rulings.specs.Hunt.{Course, value, of_intruder, IsFlownBy}
 
 -- ---- a course of an area: its own flight is, and the intruder's goal is a rate that it may have
 

@@ -14,9 +14,9 @@ use Rattle.acas_pass_lemmas.proofs.Neighbours.{unit_some}
 use Rattle.acas_pass_lemmas.proofs.Within.{each_from, of_low, of_from, between_down}
 use Rattle.acas_pass_lemmas.proofs.Somes.{some_of}
 use Rattle.acas_pass_lemmas.proofs.Founds as founds
-use Rattle.acas_meetings.specs.Meeting.{MeetsDuring, IsEndangeredDuringBy}
+use Rattle.acas_rulings.specs.Meeting.{MeetsDuring, IsEndangeredDuringBy}
 use Rattle.acas_areas.specs.Passes.{IsLast, Each, below_at}
-use Rattle.acas_meetings.specs.Hunt.{Course, course, value, Hunt, IsHunt, CanMeet, Finds, accel, top, bottom, low_course, high_course, toward, goal_pass, passes, of_intruder, IsFlownBy}
+use Rattle.acas_rulings.specs.Hunt.{Course, course, value, Hunt, IsHunt, CanMeet, Finds, accel, top, bottom, low_course, high_course, toward, goal_pass, passes, of_intruder, IsFlownBy}
 use Rattle.acas_pass_lemmas.proofs.Ends.{StartsBelow, below_or_not, found_of, found}
 use Rattle.acas_hunt_lemmas.proofs.Joins.{joined, time-start, own-end, goals, intruder-start}
 use Rattle.acas_hunt_lemmas.proofs.Gentle.{each_gentle}

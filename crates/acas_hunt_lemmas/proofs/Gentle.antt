@@ -13,7 +13,7 @@ use Rattle.acas_areas.specs.Flights.{Flight, flight}
 use Rattle.acas_areas.specs.Search.{unit, time_step, rate_step, over_square, low_time, high_time, pull_at_low, hold_at_low, time_pass, altitude_pass, intruder_pass, aim_pass, pull_pass, hold_pass, own_pass, fastest}
 use Rattle.acas_pass_lemmas.proofs.Gentle as gentle
 use Rattle.acas_pass_lemmas.proofs.Neighbours.{toward_up, toward_down, falling_next, next, low_pull_within, size_over, unit_some, pull_some, pull_most, high_time_most, room_of_time, room_of_rate, slowest_size, least_size}
-use Rattle.acas_meetings.specs.Hunt.{course, value, Hunt, IsHunt, accel, top, bottom, toward, goal_pass, passes}
+use Rattle.acas_rulings.specs.Hunt.{course, value, Hunt, IsHunt, accel, top, bottom, toward, goal_pass, passes}
 use Rattle.acas_hunt_lemmas.proofs.Somes.{accel_some}
 use Rattle.acas_hunt_lemmas.proofs.Steps.{own_step, lower_goal, lower_start, later, sooner}
 

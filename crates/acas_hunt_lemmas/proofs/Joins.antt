@@ -7,7 +7,7 @@ use Rattle.acas_areas.specs.Flights.{Flight}
 use Rattle.acas_areas.specs.Search.{unit, rate_step, over_square, after_altitude, time_pass, altitude_pass, intruder_pass, own_pass}
 use Rattle.acas_pass_lemmas.proofs.Joins as joins
 use Rattle.acas_pass_lemmas.proofs.Joins.{falling-end, falling-start}
-use Rattle.acas_meetings.specs.Hunt.{course, Hunt, IsHunt, top, bottom, low_course, high_course, toward, goal_pass, passes}
+use Rattle.acas_rulings.specs.Hunt.{course, Hunt, IsHunt, top, bottom, low_course, high_course, toward, goal_pass, passes}
 
 -- the last point is the same with a goal and without
 pub IsLast-own : (m : ℤ) (p : Pass Flight) (last : ℕ) → IsLast (toward m p) last → IsLast p last

@@ -14,12 +14,12 @@ use Rattle.acas_pass_lemmas.proofs.Touching.{lasts}
 use Rattle.acas_rulings.specs.Printed.{AreParts, hold_part, some_part, segments_of}
 use Rattle.acas_areas.proofs.Finer.{IsOver-finer}
 use Rattle.acas_rulings.proofs.Parts.{AreParts-append, AreParts-finer}
-use Rattle.acas_meetings.specs.Intruder.{Manoeuvre}
-use Rattle.acas_meetings.specs.Apart.{IsApart}
-use Rattle.acas_meetings.specs.declared.meeting.Meeting.{Meeting}
-use Rattle.acas_meetings.specs.Hunt.{CanMeet, Course, Finds, Hunt, IsFlownBy, IsHunt, accel}
-use Rattle.acas_meetings.specs.Printed.{PrintsCourse, against_of}
-use Rattle.acas_meetings.specs.Verdicts.{IsMeetingInContact, IsMeetingOf, hunt_between}
+use Rattle.acas_rulings.specs.Intruder.{Manoeuvre}
+use Rattle.acas_rulings.specs.Apart.{IsApart}
+use Rattle.acas_rulings.specs.declared.meeting.Meeting.{Meeting}
+use Rattle.acas_rulings.specs.Hunt.{CanMeet, Course, Finds, Hunt, IsFlownBy, IsHunt, accel}
+use Rattle.acas_rulings.specs.PrintedMeetings.{PrintsCourse, against_of}
+use Rattle.acas_rulings.specs.Verdicts.{IsMeetingInContact, IsMeetingOf, hunt_between}
 use Rattle.acas_hunt_lemmas.proofs.Founds.{found_meets}
 use Rattle.acas_hunt_lemmas.proofs.Verdicts.{can-meet}
 

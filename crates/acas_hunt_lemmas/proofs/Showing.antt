@@ -15,12 +15,12 @@ use Rattle.acas_rulings.specs.Printed.{flight_fractions, segments_of}
 use Rattle.acas_rulings.specs.Ranges.{IsContactOfBox}
 use Rattle.acas_areas.proofs.Finer.{IsOver-finer, over_left, over_right}
 use Rattle.acas_rulings.proofs.Parts.{AreParts-finer}
-use Rattle.acas_meetings.specs.Intruder.{Manoeuvre}
-use Rattle.acas_meetings.specs.Meeting.{IsEndangeredBy}
+use Rattle.acas_rulings.specs.Intruder.{Manoeuvre}
+use Rattle.acas_rulings.specs.Meeting.{IsEndangeredBy}
 use Rattle.acas_manoeuvre_lemmas.proofs.Windows.{meets-finer}
-use Rattle.acas_meetings.specs.declared.meeting.Meeting.{Meeting}
-use Rattle.acas_meetings.specs.Printed.{against_of, meeting_fractions}
-use Rattle.acas_meetings.specs.Verdicts.{IsMeetingInContact, ShowsMeeting}
+use Rattle.acas_rulings.specs.declared.meeting.Meeting.{Meeting}
+use Rattle.acas_rulings.specs.PrintedMeetings.{against_of, meeting_fractions}
+use Rattle.acas_rulings.specs.Verdicts.{IsMeetingInContact, ShowsMeeting}
 
 -- what is printed after the range and the speed
 abbrev others : Meeting → List Fraction

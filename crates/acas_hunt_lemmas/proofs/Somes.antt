@@ -7,7 +7,7 @@ use Rattle.acas_areas.specs.Search.{unit, intruder_pass}
 use Rattle.acas_pass_lemmas.proofs.Ends.{AllSome}
 use Rattle.acas_pass_lemmas.proofs.Neighbours.{unit_some}
 use Rattle.acas_pass_lemmas.proofs.Somes as own
-use Rattle.acas_meetings.specs.Hunt.{Hunt, IsHunt, accel, goal_pass, high_course, low_course, passes, value}
+use Rattle.acas_rulings.specs.Hunt.{Hunt, IsHunt, accel, goal_pass, high_course, low_course, passes, value}
 
 module _ (h : Hunt) (is : IsHunt h) where
   -- some acceleration over the common denominator

@@ -13,7 +13,7 @@ use Rattle.acas_areas.specs.Flights.{Flight, flight}
 use Rattle.acas_areas.specs.Search.{fastest}
 use Rattle.acas_pass_lemmas.proofs.Gains.{gain, held_later, held_sooner, room_time}
 use Rattle.acas_pass_lemmas.proofs.Turns.{higher_aim, higher_above}
-use Rattle.acas_meetings.specs.Hunt.{course, value}
+use Rattle.acas_rulings.specs.Hunt.{course, value}
 use Rattle.acas_hunt_lemmas.proofs.Shifts.{shift, against}
 
 -- ---- a step of the own flight or of the altitude, at one time

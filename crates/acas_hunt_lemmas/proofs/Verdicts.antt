@@ -11,12 +11,12 @@ use Rattle.acas_areas.specs.Value.{thinnest}
 use Rattle.acas_areas.specs.declared.steps.TheConstants.{PULL_STEPS}
 use Rattle.acas_areas.specs.Search.{IsTimed, unit, low_time, high_time}
 use Rattle.acas_pass_lemmas.proofs.Neighbours.{unit_some}
-use Rattle.acas_meetings.specs.Race.{Race, low_race, high_race, turned, race_gap, race_tick}
-use Rattle.acas_meetings.specs.Apart.{IsApart, StaysAbove, StaysBelow}
-use Rattle.acas_meetings.specs.Least.{IsFirstLeastTime}
-use Rattle.acas_meetings.specs.Meeting.{IsEndangeredDuringBy}
+use Rattle.acas_rulings.specs.Race.{Race, low_race, high_race, turned, race_gap, race_tick}
+use Rattle.acas_rulings.specs.Apart.{IsApart, StaysAbove, StaysBelow}
+use Rattle.acas_rulings.specs.Least.{IsFirstLeastTime}
+use Rattle.acas_rulings.specs.Meeting.{IsEndangeredDuringBy}
 use Rattle.acas_manoeuvre_lemmas.proofs.Stays.{stays-over, race_gap-turned, below-turned}
-use Rattle.acas_meetings.specs.Hunt.{value, Hunt, IsHunt, CanMeet, accel, low_course, high_course}
+use Rattle.acas_rulings.specs.Hunt.{value, Hunt, IsHunt, CanMeet, accel, low_course, high_course}
 use Rattle.acas_hunt_lemmas.proofs.Founds.{endangers}
 
 module _ (h : Hunt) (is : IsHunt h) where

@@ -7,13 +7,13 @@ use Rattle.acas_flight.specs.Clear.{Area}
 use Rattle.acas_areas.specs.Limits.{IsTime}
 use Rattle.acas_areas.specs.Search.{IsTimed, unit}
 use Rattle.acas_pass_lemmas.proofs.Neighbours.{unit_some}
-use Rattle.acas_meetings.specs.Intruder.{Manoeuvre}
+use Rattle.acas_rulings.specs.Intruder.{Manoeuvre}
 use Rattle.acas_areas.specs.Value.{thinnest}
-use Rattle.acas_meetings.specs.Apart.{IsApart}
-use Rattle.acas_meetings.specs.Least.{IsRaceExtreme}
-use Rattle.acas_meetings.specs.Race.{high_race, low_race, turned}
-use Rattle.acas_meetings.specs.Hunt.{CanMeet, IsHunt}
-use Rattle.acas_meetings.specs.Verdicts.{hunt_between}
+use Rattle.acas_rulings.specs.Apart.{IsApart}
+use Rattle.acas_rulings.specs.Least.{IsRaceExtreme}
+use Rattle.acas_rulings.specs.Race.{high_race, low_race, turned}
+use Rattle.acas_rulings.specs.Hunt.{CanMeet, IsHunt}
+use Rattle.acas_rulings.specs.Verdicts.{hunt_between}
 use Rattle.acas_hunt_lemmas.proofs.Founds.{found_course}
 use Rattle.acas_hunt_lemmas.proofs.Verdicts.{can-meet}
 use Rattle.acas_witness_lemmas.proofs.Meetings.{renamed}

@@ -11,12 +11,12 @@ use Rattle.acas_areas.specs.Limits.{IsCurve}
 use Rattle.acas_areas.specs.Search.{unit}
 use Rattle.acas_rulings.specs.Boxes.{AuditedBox}
 use Rattle.acas_rulings.specs.Ranges.{IsBoxesRange, IsContactOfBox}
-use Rattle.acas_meetings.specs.Intruder.{Manoeuvre}
-use Rattle.acas_meetings.specs.declared.manoeuvre.Manoeuvre as declared
-use Rattle.acas_meetings.specs.Hunt.{Course, accel}
-use Rattle.acas_meetings.specs.Printed.{PrintsCourse, meeting_fractions}
-use Rattle.acas_meetings.specs.Verdicts.{IsMet, hunt_between}
-use Rattle.acas_meetings.specs.declared.meeting.Meeting.{Meeting}
+use Rattle.acas_rulings.specs.Intruder.{Manoeuvre}
+use Rattle.acas_rulings.specs.declared.manoeuvre.Manoeuvre as declared
+use Rattle.acas_rulings.specs.Hunt.{Course, accel}
+use Rattle.acas_rulings.specs.PrintedMeetings.{PrintsCourse, meeting_fractions}
+use Rattle.acas_rulings.specs.Verdicts.{IsMet, hunt_between}
+use Rattle.acas_rulings.specs.declared.meeting.Meeting.{Meeting}
 use Rattle.acas_hunt_lemmas.proofs.Prints.{printed-contact}
 use Rattle.acas_hunt_lemmas.proofs.Showing.{shown-endangers, shows-meeting}
 use Rattle.acas_witness_plans.specs.Plans.{IsPlanOf}

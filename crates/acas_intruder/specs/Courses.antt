@@ -6,12 +6,12 @@ use Rattle.acas_flight.specs.Window.{Times}
 use Rattle.acas_flight.specs.Clear.{Area}
 use Rattle.acas_areas.specs.Search.{unit}
 use Rattle.acas_areas.specs.Value.{thinnest}
-use Rattle.acas_meetings.specs.Intruder.{Manoeuvre}
-use Rattle.acas_meetings.specs.Least.{IsRaceExtreme}
-use Rattle.acas_meetings.specs.Race.{high_race, low_race, turned}
-use Rattle.acas_meetings.specs.Hunt.{CanMeet, Course, Finds, Hunt, IsHunt}
-use Rattle.acas_meetings.specs.Verdicts.{hunt_between}
-use Rattle.acas_meetings.specs.declared.meeting.Meeting.{Meeting}
+use Rattle.acas_rulings.specs.Intruder.{Manoeuvre}
+use Rattle.acas_rulings.specs.Least.{IsRaceExtreme}
+use Rattle.acas_rulings.specs.Race.{high_race, low_race, turned}
+use Rattle.acas_rulings.specs.Hunt.{CanMeet, Course, Finds, Hunt, IsHunt}
+use Rattle.acas_rulings.specs.Verdicts.{hunt_between}
+use Rattle.acas_rulings.specs.declared.meeting.Meeting.{Meeting}
 use Rattle.acas_witness_plans.specs.Plans.{IsPlanOf}
 use Rattle.acas_witness_response.specs.PrintedPlans.{AreSegmentsFor}
 use Rattle.acas_meeting_search.specs.Turns.{IsTurnOf}

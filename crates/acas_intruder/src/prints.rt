@@ -3,7 +3,7 @@ ghost use Rattle.std.specs.List.{All};
 ghost use Rattle.acas_frac.specs.Fraction.{IsReduced, whole_of};
 ghost use Rattle.acas_areas.specs.Limits.{IsFlownInTime, interval_of};
 ghost use Rattle.acas_rulings.specs.Ranges.{IsContactOf, IsRangeOf, IsTimeOfBox};
-ghost use Rattle.acas_meetings.specs.Printed.{meeting_fractions};
+ghost use Rattle.acas_rulings.specs.PrintedMeetings.{meeting_fractions};
 ghost use Rattle.acas_witness_plans.specs.Plans.{CanBeFlown};
 ghost use Rattle.acas_witness_response.specs.PrintedPlans.{AreSegmentsFor, PrintsPlan};
 ghost use Rattle.acas_meeting_search.specs.Turns.{CanBeFlownWith};
@@ -12,8 +12,7 @@ ghost use Rattle.acas_intruder.specs.Courses.{PrintsTurn};
 use acas_base::Model;
 use acas_frac::Frac;
 use acas_meeting_search::{Flown, Turn};
-use acas_meetings::{Manoeuvre, Meeting};
-use acas_rulings::{AuditBox, Segment};
+use acas_rulings::{AuditBox, Manoeuvre, Meeting, Segment};
 use acas_witness::flight_of;
 use acas_witness_response::{of_box, open_part, open_witness, segments_of};
 

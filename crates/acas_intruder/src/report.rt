@@ -2,18 +2,17 @@
 ghost use Rattle.std.specs.Prelude.{◌≡◌, ◌<◌, ℕ, IsErrOf, length};
 ghost use Rattle.acas_outside.specs.Frame.{Emits};
 ghost use Rattle.acas_rulings.specs.Boxes.{AreBoxesOf, IsBoxOf, box_at};
-ghost use Rattle.acas_meetings.specs.Intruder.{RatesFit};
-ghost use Rattle.acas_meetings.specs.View.{may_of};
-ghost use Rattle.acas_meetings.specs.Verdicts.{IsMeetVerdict};
+ghost use Rattle.acas_rulings.specs.Intruder.{RatesFit};
+ghost use Rattle.acas_rulings.specs.MeetingView.{may_of};
+ghost use Rattle.acas_rulings.specs.Verdicts.{IsMeetVerdict};
 ghost use Rattle.acas_report_lines.specs.Meetings.{IsMeetingsBegun, IsMeetingsReport};
 ghost use Rattle.acas_report_lines.specs.Report.{WroteReport};
 
 use crate::verdict::meet_verdict;
 use acas_base::Model;
-use acas_meetings::{Manoeuvre, MeetVerdict};
+use acas_rulings::{AuditBox, Boxes, Manoeuvre, MeetVerdict};
 use acas_outside::{PrintFault, Sink};
 use acas_report_lines::{BoxSource, MeetCounts, write_boxes_by};
-use acas_rulings::{AuditBox, Boxes};
 use std::alloc::Global;
 
 /// The source that gives each box a verdict of its own, against an intruder that may change its rate.

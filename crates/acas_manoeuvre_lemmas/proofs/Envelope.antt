@@ -9,7 +9,7 @@ use Rattle.acas_flight_lemmas.proofs.Mirror.{meets_under}
 use Rattle.acas_flight.specs.Response.{Segment, Demand, climb, lasting}
 use Rattle.acas_flight.specs.Parts.{CanBeMet}
 use Rattle.acas_flight.specs.Curves.{approach, held, lowest, highest}
-use Rattle.acas_meetings.specs.Intruder.{Manoeuvre, IsFlown, pilot_of}
+use Rattle.acas_rulings.specs.Intruder.{Manoeuvre, IsFlown, pilot_of}
 use Rattle.acas_manoeuvre_lemmas.proofs.Flown.{flown-meets}
 
 -- pulls and holds of that pilot do not depend on the rate

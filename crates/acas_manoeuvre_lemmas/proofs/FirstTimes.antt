@@ -7,9 +7,9 @@ use Rattle.acas_frac.proofs.SignedProducts.{lt-from_mul_ℤ, le-from_mul_ℤ}
 use Rattle.acas_frac.proofs.IntRing.{at, ◌⊕◌, ◌⊖◌, ◌⊗◌, ring}
 use Rattle.acas_frac.proofs.Orders.{by_above}
 use Rattle.acas_flight_lemmas.proofs.Scales.{pos_inj}
-use Rattle.acas_meetings.specs.Race.{Race, race_gap}
-use Rattle.acas_meetings.specs.Least.{IsFirstLeastTime}
-use Rattle.acas_meetings.specs.Turns.{Instant, fraction_of, times_of, IsFirstOf, at_from, at_turn, at_to, IsSoonerOrSame, IsLooked, falling, turning, turned_before, turns_after}
+use Rattle.acas_rulings.specs.Race.{Race, race_gap}
+use Rattle.acas_rulings.specs.Least.{IsFirstLeastTime}
+use Rattle.acas_rulings.specs.Turns.{Instant, fraction_of, times_of, IsFirstOf, at_from, at_turn, at_to, IsSoonerOrSame, IsLooked, falling, turning, turned_before, turns_after}
 use Rattle.acas_manoeuvre_lemmas.proofs.Valleys as valleys
 use Rattle.acas_manoeuvre_lemmas.proofs.Valleys.{FallsOn, IsFirstLeast, first_least}
 use Rattle.acas_manoeuvre_lemmas.proofs.Races.{falling_on, rising_on, less_over}

@@ -3,7 +3,7 @@ use Rattle.std.proofs.Common.{◌≤◌, ⊎_elim, inl, arith, List, [], ◌∷�
 use Rattle.std.proofs.lemmas.Int.{ints}
 use Rattle.acas_frac.proofs.Orders.{unsigned_abs-le, unsigned_abs-low, unsigned_abs-high}
 use Rattle.acas_flight.specs.Response.{Segment, rate_after, Follows, FollowsThroughout, Meets}
-use Rattle.acas_meetings.specs.Intruder.{Manoeuvre, MayFly, IsFlown, pilot_of}
+use Rattle.acas_rulings.specs.Intruder.{Manoeuvre, MayFly, IsFlown, pilot_of}
 
 may_fly-follows : (may : Manoeuvre) (v : ℤ) (s : Segment) → MayFly may v s → Follows (pilot_of may) v s
 may_fly-follows may v s f = record {

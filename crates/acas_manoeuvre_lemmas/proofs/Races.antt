@@ -7,8 +7,8 @@ use Rattle.acas_frac.proofs.SignedProducts.{lt-from_mul_ℤ, le-from_mul_ℤ, mu
 use Rattle.acas_frac.proofs.IntRing.{at, ◌⊕◌, ◌⊖◌, ◌⊗◌, ring}
 use Rattle.acas_flight.proofs.Holding.{held-none}
 use Rattle.acas_flight.specs.Curves.{approach}
-use Rattle.acas_meetings.specs.Race.{Race, own_climb, race_gap}
-use Rattle.acas_meetings.specs.Turns.{Instant, IsTurnTime, at_goal, on_the_way, too_slow, ahead}
+use Rattle.acas_rulings.specs.Race.{Race, own_climb, race_gap}
+use Rattle.acas_rulings.specs.Turns.{Instant, IsTurnTime, at_goal, on_the_way, too_slow, ahead}
 use Rattle.acas_manoeuvre_lemmas.proofs.Valleys.{FallsOn}
 use Rattle.acas_manoeuvre_lemmas.proofs.Paces.{left, step_below, step_above}
 use Rattle.acas_manoeuvre_lemmas.proofs.Crossings as crossings

@@ -9,10 +9,10 @@ use Rattle.acas_flight.specs.Parts.{CanBeMet}
 use Rattle.acas_flight.specs.Curves.{approach, held, lowest, highest, low_pull, low_hold, high_pull, high_hold}
 use Rattle.acas_flight.specs.Window.{Times}
 use Rattle.acas_flight.specs.Clear.{Area}
-use Rattle.acas_meetings.specs.Intruder.{Manoeuvre, over}
-use Rattle.acas_meetings.specs.Meeting.{MeetsDuring, IsEndangeredDuringBy}
-use Rattle.acas_meetings.specs.Race.{low_race, high_race, own_climb, race_gap, race_tick}
-use Rattle.acas_meetings.specs.Apart.{IsApart}
+use Rattle.acas_rulings.specs.Intruder.{Manoeuvre, over}
+use Rattle.acas_rulings.specs.Meeting.{MeetsDuring, IsEndangeredDuringBy}
+use Rattle.acas_rulings.specs.Race.{low_race, high_race, own_climb, race_gap, race_tick}
+use Rattle.acas_rulings.specs.Apart.{IsApart}
 use Rattle.acas_flight_lemmas.proofs.Rising.{scaled_le}
 use Rattle.acas_flight_lemmas.proofs.Models.{scaled_can_be_met}
 use Rattle.acas_flight_lemmas.proofs.Gaps.{low_pull-over, low_hold-over, high_pull-over, high_hold-over}

@@ -6,8 +6,8 @@ use Rattle.acas_flight_lemmas.proofs.Scales.{cancel_left, approach-scaled}
 use Rattle.acas_flight_lemmas.proofs.Held.{held-scaled}
 use Rattle.acas_flight.proofs.Holding.{held-none}
 use Rattle.acas_flight.specs.Curves.{approach, held}
-use Rattle.acas_meetings.specs.Race.{Race, own_climb, race_gap}
-use Rattle.acas_meetings.specs.Turns.{Instant, race_number, IsLower, IsAsLow}
+use Rattle.acas_rulings.specs.Race.{Race, own_climb, race_gap}
+use Rattle.acas_rulings.specs.Turns.{Instant, race_number, IsLower, IsAsLow}
 
 -- ---- in finer numbers
 

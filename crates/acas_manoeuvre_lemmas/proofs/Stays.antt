@@ -7,10 +7,10 @@ use Rattle.acas_frac.proofs.IntRing.{at, ◌⊗◌, ring}
 use Rattle.acas_frac.specs.Fraction.{Fraction}
 use Rattle.acas_flight.specs.Values.{IsOver}
 use Rattle.acas_flight.specs.Window.{Times, IsDuring}
-use Rattle.acas_meetings.specs.Race.{Race, turned, own_climb, race_gap, race_tick}
-use Rattle.acas_meetings.specs.Apart.{StaysAbove, StaysBelow}
-use Rattle.acas_meetings.specs.Least.{IsFirstLeastTime}
-use Rattle.acas_meetings.specs.Turns.{Instant, fraction_of, race_number}
+use Rattle.acas_rulings.specs.Race.{Race, turned, own_climb, race_gap, race_tick}
+use Rattle.acas_rulings.specs.Apart.{StaysAbove, StaysBelow}
+use Rattle.acas_rulings.specs.Least.{IsFirstLeastTime}
+use Rattle.acas_rulings.specs.Turns.{Instant, fraction_of, race_number}
 use Rattle.acas_flight.specs.Curves.{approach, held}
 use Rattle.acas_manoeuvre_lemmas.proofs.Scales.{race_gap-finer, race_gap-number}
 use Rattle.acas_flight_lemmas.proofs.Mirror.{turned_held, turned_approach}

@@ -9,8 +9,8 @@ use Rattle.acas_spec.specs.Model.{ModelData}
 use Rattle.acas_flight.specs.Response.{Segment, rate_after, climb, lasting}
 use Rattle.acas_flight.specs.State.{State, Interval, IsInside, Box, IsInBox}
 use Rattle.acas_flight.specs.Contact.{IsVerticalContact, EndsInContact, IsEndangeredBox}
-use Rattle.acas_meetings.specs.Intruder.{Manoeuvre, over, RatesFit, IsFlown}
-use Rattle.acas_meetings.specs.Meeting.{IsClose, IsMeeting, IsEndangeredBy}
+use Rattle.acas_rulings.specs.Intruder.{Manoeuvre, over, RatesFit, IsFlown}
+use Rattle.acas_rulings.specs.Meeting.{IsClose, IsMeeting, IsEndangeredBy}
 use Rattle.acas_manoeuvre_lemmas.proofs.Windows.{size-finer}
 
 -- ---- the flight of the time t at a steady rate

@@ -11,8 +11,8 @@ use Rattle.acas_flight.specs.Contact.{IsHorizontalContact}
 use Rattle.acas_flight.specs.Parts.{finer}
 use Rattle.acas_flight.specs.Window.{Times, IsWindowOfBox}
 use Rattle.acas_flight.specs.Clear.{Area, area_of_box}
-use Rattle.acas_meetings.specs.Intruder.{Manoeuvre, over, MayFly, IsFlown}
-use Rattle.acas_meetings.specs.Meeting.{IsClose, IsMeeting, IsEndangeredBy, MeetsDuring, IsEndangeredDuringBy}
+use Rattle.acas_rulings.specs.Intruder.{Manoeuvre, over, MayFly, IsFlown}
+use Rattle.acas_rulings.specs.Meeting.{IsClose, IsMeeting, IsEndangeredBy, MeetsDuring, IsEndangeredDuringBy}
 
 -- ---- a flight of an intruder in finer numbers
 

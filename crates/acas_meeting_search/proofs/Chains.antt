@@ -4,7 +4,7 @@ use Rattle.std.proofs.lemmas.Option.{same_Some}
 use Rattle.acas_areas.specs.Value.{is_below}
 use Rattle.acas_areas.specs.Passes.{IsGentle, IsLast}
 use Rattle.acas_pass_lemmas.proofs.Ends.{AllSome}
-use Rattle.acas_meetings.specs.Hunt.{high_course}
+use Rattle.acas_rulings.specs.Hunt.{high_course}
 use Rattle.acas_hunt_lemmas.proofs.Gentle.{each_gentle}
 use Rattle.acas_hunt_lemmas.proofs.Joins.{joined, own-end}
 use Rattle.acas_hunt_lemmas.proofs.Somes.{each_some}

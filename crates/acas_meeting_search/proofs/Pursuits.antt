@@ -5,7 +5,7 @@ use Rattle.acas_areas.specs.Search.{grain}
 use Rattle.acas_pass_lemmas.proofs.Neighbours.{unit_some}
 use Rattle.acas_witness_search.specs.Surveys.{search_of}
 use Rattle.acas_witness_search.proofs.Chains.{search_fine}
-use Rattle.acas_meetings.specs.Hunt.{IsHunt}
+use Rattle.acas_rulings.specs.Hunt.{IsHunt}
 use Rattle.acas_meeting_search.specs.Courses.{unit_of}
 use Rattle.acas_meeting_search.specs.View.{hunt_of}
 use Rattle.acas_meeting_search.specs.declared.pursuit.Pursuit.{Pursuit}

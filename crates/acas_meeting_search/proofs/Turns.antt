@@ -6,7 +6,7 @@ use Rattle.acas_areas.specs.Limits.{IsCurve, IsTime}
 use Rattle.acas_witness_plans.specs.Plans.{CanBeFlown, IsPlanOf}
 use Rattle.acas_witness_plans.specs.declared.plan.Plan.{Plan}
 use Rattle.acas_witness_plans.proofs.Overs.{whole_over}
-use Rattle.acas_meetings.specs.Hunt.{Course}
+use Rattle.acas_rulings.specs.Hunt.{Course}
 use Rattle.acas_meeting_search.specs.declared.parts.Turn.{Turn}
 use Rattle.acas_meeting_search.specs.declared.parts.Flown.{Flown}
 use Rattle.acas_meeting_search.specs.declared.pursuit.Pursuit.{Pursuit}

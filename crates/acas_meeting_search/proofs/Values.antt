@@ -7,7 +7,7 @@ use Rattle.acas_flight.specs.Curves.{approach, held}
 use Rattle.acas_witness_plans.specs.Plans.{IsPlanOf}
 use Rattle.acas_witness_plans.specs.declared.plan.Plan.{Plan}
 use Rattle.acas_witness_plans.proofs.Overs.{whole_over_ℕ}
-use Rattle.acas_meetings.specs.Hunt.{Course, value}
+use Rattle.acas_rulings.specs.Hunt.{Course, value}
 use Rattle.acas_meeting_search.specs.declared.parts.Turn.{Turn}
 use Rattle.acas_meeting_search.specs.Turns.{IsTurnOf, value_of}
 

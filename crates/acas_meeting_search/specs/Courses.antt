@@ -6,7 +6,7 @@ use Rattle.acas_areas.specs.Search.{unit}
 use Rattle.acas_witness_plans.specs.Plans.{IsPlanOf, CanBeFlown}
 use Rattle.acas_witness_search.specs.Passes.{IsMissed, IsHit, IsEndOf}
 use Rattle.acas_witness_search.specs.Surveys.{search_of}
-use Rattle.acas_meetings.specs.Hunt.{Course, Finds, accel, value}
+use Rattle.acas_rulings.specs.Hunt.{Course, Finds, accel, value}
 use Rattle.acas_meeting_search.specs.Stages.{pass_in, passes_from}
 use Rattle.acas_meeting_search.specs.Turns.{CanBeFlownWith, IsTurnOf, value_in}
 use Rattle.acas_meeting_search.specs.View.{hunt_of}

@@ -7,7 +7,7 @@ use Rattle.acas_witness_search.specs.declared.quantity.Quantity.TheVariants.{Tim
 use Rattle.acas_witness_search.specs.Order as quantities
 use Rattle.acas_witness_search.specs.Passes as searched
 use Rattle.acas_witness_search.specs.Surveys.{pass_of}
-use Rattle.acas_meetings.specs.Hunt.{Course, Hunt, bottom, goal_pass, passes, top, toward}
+use Rattle.acas_rulings.specs.Hunt.{Course, Hunt, bottom, goal_pass, passes, top, toward}
 use Rattle.acas_meeting_search.specs.declared.stage.Stage.{Stage}
 use Rattle.acas_meeting_search.specs.declared.stage.Stage.TheVariants.{Of, Goal}
 

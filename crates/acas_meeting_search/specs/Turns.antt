@@ -3,7 +3,7 @@ use Rattle.std.specs.Prelude.{ℕ, ◌*◌, ℤ, pos, ◌-ℤ◌, ◌*ℤ◌}
 use Rattle.acas_frac.specs.Fraction.{Fraction, difference_of, whole_of}
 use Rattle.acas_flight.specs.Values.{IsOver}
 use Rattle.acas_areas.specs.Limits.{IsCurve}
-use Rattle.acas_meetings.specs.Hunt.{Course}
+use Rattle.acas_rulings.specs.Hunt.{Course}
 use Rattle.acas_meeting_search.specs.declared.parts.Turn.{Turn}
 use Rattle.acas_meeting_search.specs.declared.parts.Flown.{Flown}
 

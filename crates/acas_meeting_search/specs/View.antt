@@ -1,7 +1,7 @@
 -- The hunt of a pursuit.
-use Rattle.acas_meetings.specs.View.{may_of}
+use Rattle.acas_rulings.specs.MeetingView.{may_of}
 use Rattle.acas_witness_search.specs.Surveys.{search_of}
-use Rattle.acas_meetings.specs.Hunt.{Hunt}
+use Rattle.acas_rulings.specs.Hunt.{Hunt}
 use Rattle.acas_meeting_search.specs.declared.pursuit.Pursuit.{Pursuit}
 
 abbrev pub hunt_of : Pursuit → Hunt

@@ -1,6 +1,6 @@
 //! The numbers of the last points of the passes.
 ghost use Rattle.acas_areas.specs.Passes.{IsLast};
-ghost use Rattle.acas_meetings.specs.Hunt.{goal_pass};
+ghost use Rattle.acas_rulings.specs.Hunt.{goal_pass};
 ghost use Rattle.acas_meeting_search.specs.Stages.{pass_in};
 ghost use Rattle.acas_meeting_search.specs.View.{hunt_of};
 

@@ -6,7 +6,7 @@ ghost use Rattle.acas_areas.specs.Limits.{IsRate, IsTime};
 ghost use Rattle.acas_areas.specs.Passes.{falling};
 ghost use Rattle.acas_areas.specs.Search.{rate_step};
 ghost use Rattle.acas_witness_plans.specs.Plans.{CanBeFlown, IsPlanOf};
-ghost use Rattle.acas_meetings.specs.Hunt.{Course, bottom, top};
+ghost use Rattle.acas_rulings.specs.Hunt.{Course, bottom, top};
 ghost use Rattle.acas_meeting_search.specs.Courses.{point_of, unit_of};
 ghost use Rattle.acas_meeting_search.specs.Turns.{CanBeFlownWith, IsTurnOf};
 ghost use Rattle.acas_meeting_search.specs.View.{hunt_of};

@@ -1,7 +1,7 @@
 //! The search of a meeting through all passes.
 ghost use Rattle.std.specs.Prelude.{◌≡◌, false, MatchOption};
 ghost use Rattle.acas_areas.specs.Value.{is_below};
-ghost use Rattle.acas_meetings.specs.Hunt.{CanMeet, high_course, low_course};
+ghost use Rattle.acas_rulings.specs.Hunt.{CanMeet, high_course, low_course};
 ghost use Rattle.acas_meeting_search.specs.Courses.{IsEndFrom, IsFlownOf, IsFoundCourse, IsHitIn, IsMissedIn, IsOutcomeOf, StartsBelow, value_at};
 ghost use Rattle.acas_meeting_search.specs.View.{hunt_of};
 

@@ -6,8 +6,8 @@ use Rattle.acas_flight.specs.Values.{IsOver}
 use Rattle.acas_flight.specs.Window.{Times}
 use Rattle.acas_flight_lemmas.proofs.Scales.{cancel_left}
 use Rattle.acas_flight_windows.proofs.NearestTimes.{above_same, below_same}
-use Rattle.acas_meetings.specs.Race.{Race}
-use Rattle.acas_meetings.specs.Least.{IsFirstLeastTime}
+use Rattle.acas_rulings.specs.Race.{Race}
+use Rattle.acas_rulings.specs.Least.{IsFirstLeastTime}
 
 over-same : (q : ℕ) (n : ℤ) (f g : Fraction) → 0 < f.den → Same f g → IsOver q n f → IsOver q n g
 over-same q n f g p e i = cancel_left f.den (n *ℤ pos g.den) (g.num *ℤ pos q) p

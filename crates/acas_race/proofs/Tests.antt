@@ -6,9 +6,9 @@ use Rattle.acas_frac.proofs.SignedProducts.{lt-from_mul_ℤ, mul-lt_ℤ}
 use Rattle.acas_frac.proofs.IntRing.{at, ◌⊗◌, ring}
 use Rattle.acas_frac.proofs.Orders.{le_of_lt_ℤ}
 use Rattle.acas_flight_lemmas.proofs.Rising.{scaled_le}
-use Rattle.acas_meetings.specs.Race.{Race}
-use Rattle.acas_meetings.specs.Least.{IsFirstLeastTime}
-use Rattle.acas_meetings.specs.Turns.{Instant, IsFirstOf, at_from, at_turn, at_to, race_number, IsSoonerOrSame, fraction_of, times_of}
+use Rattle.acas_rulings.specs.Race.{Race}
+use Rattle.acas_rulings.specs.Least.{IsFirstLeastTime}
+use Rattle.acas_rulings.specs.Turns.{Instant, IsFirstOf, at_from, at_turn, at_to, race_number, IsSoonerOrSame, fraction_of, times_of}
 use Rattle.acas_flight.specs.Window.{Times}
 use Rattle.acas_flight.specs.Values.{IsAtMost}
 

@@ -4,8 +4,8 @@ use Rattle.std.proofs.lemmas.Int.{ints}
 use Rattle.acas_frac.proofs.SignedProducts.{lt-from_mul_ℤ}
 use Rattle.acas_frac.proofs.IntRing.{at, num, ◌⊕◌, ◌⊖◌, ◌⊗◌, ring}
 use Rattle.acas_frac.proofs.Orders.{by_above}
-use Rattle.acas_meetings.specs.Race.{Race}
-use Rattle.acas_meetings.specs.Turns.{IsLateTurn}
+use Rattle.acas_rulings.specs.Race.{Race}
+use Rattle.acas_rulings.specs.Turns.{IsLateTurn}
 
 -- where the intruder is at its goal before, the turn is not before the start
 pub late-ahead : (r : Race) → 0 < r.accel → r.rate ≤ℤ r.goal → IsLateTurn r → pos 0 ≤ℤ ((r.goal -ℤ r.start) +ℤ pos (r.hold * r.pull))

@@ -1,7 +1,7 @@
 -- What the structs stand for.
 use Rattle.acas_areas.specs.declared.parts.Moment.{Moment}
-use Rattle.acas_meetings.specs.Race.{Race, race_of}
-use Rattle.acas_meetings.specs.Turns.{Instant}
+use Rattle.acas_rulings.specs.Race.{Race, race_of}
+use Rattle.acas_rulings.specs.Turns.{Instant}
 use Rattle.acas_race.specs.declared.contest.Contest.{Contest}
 
 abbrev pub race_in : Contest → Race

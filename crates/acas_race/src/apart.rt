@@ -2,10 +2,10 @@
 ghost use Rattle.std.specs.Prelude.{◌≡◌, ◌*◌, ◌<◌, ◌≤◌, ◌↔◌, pos, IsTrue, int_lt};
 ghost use Rattle.acas_flight.specs.Response.{demand_of};
 ghost use Rattle.acas_areas.specs.View.{area_of, demand_in, times_of};
-ghost use Rattle.acas_meetings.specs.Apart.{IsApart, StaysAbove};
-ghost use Rattle.acas_meetings.specs.Intruder.{RatesFit};
-ghost use Rattle.acas_meetings.specs.Turns.{race_number};
-ghost use Rattle.acas_meetings.specs.View.{may_of};
+ghost use Rattle.acas_rulings.specs.Apart.{IsApart, StaysAbove};
+ghost use Rattle.acas_rulings.specs.Intruder.{RatesFit};
+ghost use Rattle.acas_rulings.specs.Turns.{race_number};
+ghost use Rattle.acas_rulings.specs.MeetingView.{may_of};
 ghost use Rattle.acas_race.specs.View.{instant_at, race_in};
 
 use crate::conflict::Conflict;
@@ -14,7 +14,7 @@ use crate::nearest::nearest;
 use crate::number::{number, times};
 use crate::sides::{high_contest, low_contest};
 use acas_areas::{Asked, BoxState, Moment, Window};
-use acas_meetings::Manoeuvre;
+use acas_rulings::Manoeuvre;
 use acas_region::{asked_by, natural};
 use acas_units::{GREATEST_HALF_HEIGHT, TICKS_PER_FOOT};
 

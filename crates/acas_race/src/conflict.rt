@@ -2,7 +2,7 @@
 
 use acas_areas::{BoxState, Window};
 use acas_base::Model;
-use acas_meetings::Manoeuvre;
+use acas_rulings::Manoeuvre;
 
 /// An area of states in a window, under an advisory of a model, and what its intruder may do.
 #[derive(Clone, Copy)]

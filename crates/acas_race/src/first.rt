@@ -1,6 +1,6 @@
 //! The first time, from one to another, at which a curve is nearest the intruder.
-ghost use Rattle.acas_meetings.specs.Least.{IsFirstLeastTime};
-ghost use Rattle.acas_meetings.specs.Turns.{IsFirstOf, IsLooked, IsSoonerOrSame, fraction_of, times_of};
+ghost use Rattle.acas_rulings.specs.Least.{IsFirstLeastTime};
+ghost use Rattle.acas_rulings.specs.Turns.{IsFirstOf, IsLooked, IsSoonerOrSame, fraction_of, times_of};
 ghost use Rattle.acas_race.specs.View.{instant_at, race_in};
 
 use crate::contest::Contest;

@@ -1,8 +1,8 @@
 //! The first time of a window at which a curve is nearest the intruder.
 ghost use Rattle.acas_areas.specs.Limits.{IsEnd};
 ghost use Rattle.acas_areas.specs.View.{times_of};
-ghost use Rattle.acas_meetings.specs.Least.{IsFirstLeastTime, IsRaceExtreme};
-ghost use Rattle.acas_meetings.specs.Turns.{fraction_of};
+ghost use Rattle.acas_rulings.specs.Least.{IsFirstLeastTime, IsRaceExtreme};
+ghost use Rattle.acas_rulings.specs.Turns.{fraction_of};
 ghost use Rattle.acas_race.specs.View.{instant_at, race_in};
 
 use crate::contest::Contest;

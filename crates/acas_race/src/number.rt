@@ -1,7 +1,7 @@
 //! How far a curve is above an intruder that goes to a rate of its own: in whole numbers, over those of a time.
 ghost use Rattle.std.specs.Prelude.{◌≡◌, ℕ, ◌*◌, ◌^◌, ◌≤◌, pos, ◌+ℤ◌, ◌*ℤ◌, unsigned_abs, int_lt};
 ghost use Rattle.acas_flight.specs.Curves.{approach};
-ghost use Rattle.acas_meetings.specs.Turns.{race_number};
+ghost use Rattle.acas_rulings.specs.Turns.{race_number};
 ghost use Rattle.acas_race.specs.View.{instant_at, race_in};
 
 use crate::contest::Contest;

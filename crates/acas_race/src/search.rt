@@ -3,10 +3,10 @@ ghost use Rattle.std.specs.Prelude.{◌<◌};
 ghost use Rattle.acas_flight.specs.Response.{demand_of};
 ghost use Rattle.acas_areas.specs.Limits.{IsEnd};
 ghost use Rattle.acas_areas.specs.View.{area_of, times_of};
-ghost use Rattle.acas_meetings.specs.Intruder.{RatesFit};
-ghost use Rattle.acas_meetings.specs.Least.{IsRaceExtreme};
-ghost use Rattle.acas_meetings.specs.Race.{high_race, low_race, turned};
-ghost use Rattle.acas_meetings.specs.View.{may_of};
+ghost use Rattle.acas_rulings.specs.Intruder.{RatesFit};
+ghost use Rattle.acas_rulings.specs.Least.{IsRaceExtreme};
+ghost use Rattle.acas_rulings.specs.Race.{high_race, low_race, turned};
+ghost use Rattle.acas_rulings.specs.MeetingView.{may_of};
 
 use crate::conflict::Conflict;
 use crate::nearest::nearest_time;

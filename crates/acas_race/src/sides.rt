@@ -1,14 +1,14 @@
 //! The two curves of an area against an intruder that may change its rate.
 ghost use Rattle.std.specs.Prelude.{◌≡◌};
 ghost use Rattle.acas_areas.specs.View.{area_of, demand_in};
-ghost use Rattle.acas_meetings.specs.Intruder.{RatesFit};
-ghost use Rattle.acas_meetings.specs.Race.{high_race, low_race, turned};
-ghost use Rattle.acas_meetings.specs.View.{may_of};
+ghost use Rattle.acas_rulings.specs.Intruder.{RatesFit};
+ghost use Rattle.acas_rulings.specs.Race.{high_race, low_race, turned};
+ghost use Rattle.acas_rulings.specs.MeetingView.{may_of};
 ghost use Rattle.acas_race.specs.View.{race_in};
 
 use crate::contest::Contest;
 use acas_areas::{Asked, BoxState};
-use acas_meetings::Manoeuvre;
+use acas_rulings::Manoeuvre;
 use acas_region::{high_chase, low_chase, natural};
 
 /// The low curve of an area against its highest intruder.

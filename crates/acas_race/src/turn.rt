@@ -1,6 +1,6 @@
 //! When a rising curve comes to be as fast as the intruder.
 ghost use Rattle.std.specs.Prelude.{◌≡◌, ◌+◌, ◌*◌, ◌<◌, ◌≤◌, pos, ◌+ℤ◌, ◌-ℤ◌, ◌*ℤ◌, ◌≤ℤ◌, int_lt, unsigned_abs};
-ghost use Rattle.acas_meetings.specs.Turns.{IsEarlyTurn, IsLateTurn, IsLooked, IsSoonerOrSame, IsTurnTime};
+ghost use Rattle.acas_rulings.specs.Turns.{IsEarlyTurn, IsLateTurn, IsLooked, IsSoonerOrSame, IsTurnTime};
 ghost use Rattle.acas_race.specs.View.{instant_at, race_in};
 
 use crate::contest::Contest;

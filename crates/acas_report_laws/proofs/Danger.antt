@@ -10,10 +10,10 @@ use Rattle.acas_rulings.specs.Printed.{AreParts, fractions_of}
 use Rattle.acas_rulings.specs.declared.flight.Witness.{Witness}
 use Rattle.acas_rulings.specs.Rulings.{ShowsDanger}
 use Rattle.acas_rulings.specs.Boxes.{AuditedBox}
-use Rattle.acas_meetings.specs.Intruder.{Manoeuvre}
-use Rattle.acas_meetings.specs.Printed.{meeting_fractions}
-use Rattle.acas_meetings.specs.Verdicts.{ShowsMeeting}
-use Rattle.acas_meetings.specs.declared.meeting.Meeting.{Meeting}
+use Rattle.acas_rulings.specs.Intruder.{Manoeuvre}
+use Rattle.acas_rulings.specs.PrintedMeetings.{meeting_fractions}
+use Rattle.acas_rulings.specs.Verdicts.{ShowsMeeting}
+use Rattle.acas_rulings.specs.declared.meeting.Meeting.{Meeting}
 use Rattle.acas_report_laws.specs.Told.{ToldMeeting, ToldWitness, told_meeting, told_witness}
 
 -- the fractions of what is printed

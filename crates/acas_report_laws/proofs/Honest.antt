@@ -26,10 +26,10 @@ use Rattle.acas_cells.proofs.Order.{of_cells, of_names, sorted_advisory_cells}
 use Rattle.acas_report_lines.specs.Text.{field, cell_line, counts_text, box_text, box_counts_text, is_certified, line_of_box, ruling_text}
 use Rattle.acas_report_lines.specs.Report.{Ruled, lines_of, counts_of}
 use Rattle.acas_report_lines.specs.CellReport.{IsReport, report_text, clear_cells}
-use Rattle.acas_meetings.specs.Intruder.{Manoeuvre}
-use Rattle.acas_meetings.specs.Verdicts.{IsMeetVerdict}
-use Rattle.acas_meetings.specs.declared.verdict.MeetVerdict.{MeetVerdict}
-use Rattle.acas_meetings.specs.declared.verdict.MeetVerdict.TheVariants as met
+use Rattle.acas_rulings.specs.Intruder.{Manoeuvre}
+use Rattle.acas_rulings.specs.Verdicts.{IsMeetVerdict}
+use Rattle.acas_rulings.specs.declared.verdict.MeetVerdict.{MeetVerdict}
+use Rattle.acas_rulings.specs.declared.verdict.MeetVerdict.TheVariants as met
 use Rattle.acas_report_lines.specs.Meetings.{IsMeetVerdictAt, IsMeetingsReport, is_safe, meet_text, meetings_text}
 use Rattle.acas_report_lines.specs.Regions.{IsRegionsReport, IsRulingAt, boxes_text, places, regions_text}
 use Rattle.acas_report_lines.specs.declared.meet_counts.MeetCounts.{MeetCounts}

@@ -5,10 +5,10 @@ use Rattle.std.proofs.lemmas.Bool.{le-ltb}
 use Rattle.std.specs.List.{AllZip}
 use Rattle.acas_frac.specs.Fraction.{fraction_text}
 use Rattle.acas_rulings.specs.declared.flight.Segment.{Segment}
-use Rattle.acas_meetings.specs.Printed.{against_of}
-use Rattle.acas_meetings.specs.declared.meeting.Meeting.{Meeting}
-use Rattle.acas_meetings.specs.declared.verdict.MeetVerdict.{MeetVerdict}
-use Rattle.acas_meetings.specs.declared.verdict.MeetVerdict.TheVariants.{Certified, Reported}
+use Rattle.acas_rulings.specs.PrintedMeetings.{against_of}
+use Rattle.acas_rulings.specs.declared.meeting.Meeting.{Meeting}
+use Rattle.acas_rulings.specs.declared.verdict.MeetVerdict.{MeetVerdict}
+use Rattle.acas_rulings.specs.declared.verdict.MeetVerdict.TheVariants.{Certified, Reported}
 use Rattle.acas_report_lines.specs.Meetings.{meet_text, meeting_text}
 use Rattle.acas_report_lines.specs.Text.{field, labelled, response_text, segment_text, witness_text}
 use Rattle.acas_report_laws.proofs.Separators.{Lacks, Stops, apart, less}

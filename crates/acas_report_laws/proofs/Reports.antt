@@ -9,7 +9,7 @@ use Rattle.acas_cells.specs.Corners.{advisory_cells}
 use Rattle.acas_rulings.specs.Rulings.{IsRulingOfCell}
 use Rattle.acas_cells.specs.declared.name.CellName.{CellName}
 use Rattle.acas_cells.proofs.Lists.{all_members, of_below, of_one}
-use Rattle.acas_meetings.specs.Intruder.{Manoeuvre}
+use Rattle.acas_rulings.specs.Intruder.{Manoeuvre}
 use Rattle.acas_report_lines.specs.Meetings.{IsMeetVerdictAt, IsMeetingsBegun, IsMeetingsReport, as_counts, is_safe, meetings_text}
 use Rattle.acas_report_lines.specs.Report.{counts_of}
 use Rattle.acas_report_lines.specs.Text.{is_certified}

@@ -9,10 +9,10 @@ use Rattle.acas_rulings.specs.declared.ruling.Ruling.{Ruling}
 use Rattle.acas_rulings.specs.declared.ruling.Ruling.TheVariants.{Certified, Reported}
 use Rattle.acas_rulings.specs.Printed.{fractions_of, segments_of}
 use Rattle.acas_report_lines.specs.Report.{Ruled}
-use Rattle.acas_meetings.specs.Printed.{against_of, meeting_fractions}
-use Rattle.acas_meetings.specs.declared.meeting.Meeting.{Meeting}
-use Rattle.acas_meetings.specs.declared.verdict.MeetVerdict.{MeetVerdict}
-use Rattle.acas_meetings.specs.declared.verdict.MeetVerdict.TheVariants as met
+use Rattle.acas_rulings.specs.PrintedMeetings.{against_of, meeting_fractions}
+use Rattle.acas_rulings.specs.declared.meeting.Meeting.{Meeting}
+use Rattle.acas_rulings.specs.declared.verdict.MeetVerdict.{MeetVerdict}
+use Rattle.acas_rulings.specs.declared.verdict.MeetVerdict.TheVariants as met
 use Rattle.acas_report_laws.specs.Told.{IsShort, IsShortMeeting, IsShortRuling, IsShortVerdict, IsShortWitness, told_by, told_meeting, told_of, told_verdict, told_witness}
 use Rattle.acas_report_laws.proofs.Numerals.{fraction_gives, signed_gives}
 use Rattle.acas_report_laws.proofs.Fields.{Same, SameSegment, SameTexts}

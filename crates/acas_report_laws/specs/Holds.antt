@@ -8,11 +8,11 @@ use Rattle.acas_rulings.specs.Rulings.{ShowsDanger}
 use Rattle.acas_cells.specs.declared.name.CellName.{CellName}
 use Rattle.acas_rulings.specs.declared.ruling.Ruling.{Ruling}
 use Rattle.acas_rulings.specs.declared.ruling.Ruling.TheVariants.{Certified, Reported}
-use Rattle.acas_meetings.specs.Intruder.{Manoeuvre}
-use Rattle.acas_meetings.specs.Meeting.{IsEndangeredBy}
-use Rattle.acas_meetings.specs.Verdicts.{ShowsMeeting}
-use Rattle.acas_meetings.specs.declared.verdict.MeetVerdict.{MeetVerdict}
-use Rattle.acas_meetings.specs.declared.verdict.MeetVerdict.TheVariants as met
+use Rattle.acas_rulings.specs.Intruder.{Manoeuvre}
+use Rattle.acas_rulings.specs.Meeting.{IsEndangeredBy}
+use Rattle.acas_rulings.specs.Verdicts.{ShowsMeeting}
+use Rattle.acas_rulings.specs.declared.verdict.MeetVerdict.{MeetVerdict}
+use Rattle.acas_rulings.specs.declared.verdict.MeetVerdict.TheVariants as met
 use Rattle.acas_report_lines.specs.Report.{Ruled}
 use Rattle.acas_report_laws.specs.Told.{IsShortMeeting, IsShortWitness}
 

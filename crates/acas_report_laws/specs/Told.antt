@@ -10,10 +10,10 @@ use Rattle.acas_cells.specs.declared.name.CellName.{CellName}
 use Rattle.acas_rulings.specs.declared.ruling.Ruling.{Ruling}
 use Rattle.acas_rulings.specs.declared.ruling.Ruling.TheVariants.{Certified, Reported}
 use Rattle.acas_rulings.specs.Printed.{fractions_of, segments_of}
-use Rattle.acas_meetings.specs.Printed.{against_of, meeting_fractions}
-use Rattle.acas_meetings.specs.declared.meeting.Meeting.{Meeting}
-use Rattle.acas_meetings.specs.declared.verdict.MeetVerdict.{MeetVerdict}
-use Rattle.acas_meetings.specs.declared.verdict.MeetVerdict.TheVariants as met
+use Rattle.acas_rulings.specs.PrintedMeetings.{against_of, meeting_fractions}
+use Rattle.acas_rulings.specs.declared.meeting.Meeting.{Meeting}
+use Rattle.acas_rulings.specs.declared.verdict.MeetVerdict.{MeetVerdict}
+use Rattle.acas_rulings.specs.declared.verdict.MeetVerdict.TheVariants as met
 use Rattle.acas_report_lines.specs.Report.{Ruled}
 
 -- what is printed of a witness: its numbers, and the segments of its response in order, whichever of them the struct calls a hold

@@ -2,12 +2,12 @@
 use Rattle.std.specs.Prelude.{ℕ, List, ◌++◌, codes, Bool, true, false, Option}
 use Rattle.acas_spec.specs.Model.{ModelData}
 use Rattle.acas_rulings.specs.Boxes.{AuditedBox, box_at}
-use Rattle.acas_meetings.specs.Intruder.{Manoeuvre}
-use Rattle.acas_meetings.specs.Printed.{against_of}
-use Rattle.acas_meetings.specs.Verdicts.{IsMeetVerdict}
-use Rattle.acas_meetings.specs.declared.meeting.Meeting.{Meeting}
-use Rattle.acas_meetings.specs.declared.verdict.MeetVerdict.{MeetVerdict}
-use Rattle.acas_meetings.specs.declared.verdict.MeetVerdict.TheVariants.{Certified, Reported}
+use Rattle.acas_rulings.specs.Intruder.{Manoeuvre}
+use Rattle.acas_rulings.specs.PrintedMeetings.{against_of}
+use Rattle.acas_rulings.specs.Verdicts.{IsMeetVerdict}
+use Rattle.acas_rulings.specs.declared.meeting.Meeting.{Meeting}
+use Rattle.acas_rulings.specs.declared.verdict.MeetVerdict.{MeetVerdict}
+use Rattle.acas_rulings.specs.declared.verdict.MeetVerdict.TheVariants.{Certified, Reported}
 use Rattle.acas_report_lines.specs.Text.{labelled, response_text, witness_text}
 use Rattle.acas_report_lines.specs.Report.{Ruled, IsReportOn, IsBegun}
 use Rattle.acas_report_lines.specs.Regions.{boxes_text, places}

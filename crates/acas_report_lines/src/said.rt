@@ -4,8 +4,7 @@ ghost use Rattle.acas_report_lines.specs.Meetings as meetings;
 ghost use Rattle.acas_report_lines.specs.Text as rulings;
 
 use crate::witness_fields::{MEETING_BYTES, line_meeting, line_witness};
-use acas_meetings::MeetVerdict;
-use acas_rulings::Ruling;
+use acas_rulings::{MeetVerdict, Ruling};
 use acas_units::{LINE_BYTES, Line};
 
 /// The greatest number of bytes of what is said: a word, a meeting and the end of the line.

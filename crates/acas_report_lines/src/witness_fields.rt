@@ -3,14 +3,13 @@ ghost use Rattle.std.specs.Prelude.{◌≡◌, ◌+◌, ◌*◌, ◌≤◌, ◌+
 ghost use Rattle.std.specs.Fmt.{signed_decimal};
 ghost use Rattle.acas_frac.specs.Fraction.{fraction_text};
 ghost use Rattle.acas_rulings.specs.Printed.{segments_of, some_part};
-ghost use Rattle.acas_meetings.specs.Printed.{against_of};
+ghost use Rattle.acas_rulings.specs.PrintedMeetings.{against_of};
 ghost use Rattle.acas_report_lines.specs.Meetings.{meeting_text};
 ghost use Rattle.acas_report_lines.specs.Text.{labelled, parts_text, response_text, segment_text, witness_text};
 
 use crate::fields::{FRAC_BYTES, line_frac};
 use acas_frac::Frac;
-use acas_meetings::Meeting;
-use acas_rulings::{Flight, Segment, Witness};
+use acas_rulings::{Flight, Meeting, Segment, Witness};
 use acas_units::{LINE_BYTES, Line};
 
 /// The greatest number of bytes of a segment: two fractions and an `@`.

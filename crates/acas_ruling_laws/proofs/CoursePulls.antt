@@ -5,7 +5,7 @@ use Rattle.acas_areas.specs.Passes.{Each, at_low, at_high, between}
 use Rattle.acas_areas.specs.Search.{unit}
 use Rattle.acas_pass_lemmas.proofs.Ends.{ends-in}
 use Rattle.acas_ruling_laws.proofs.Pulls as own
-use Rattle.acas_meetings.specs.Hunt.{Course, Finds, Hunt, accel, passes, value}
+use Rattle.acas_rulings.specs.Hunt.{Course, Finds, Hunt, accel, passes, value}
 
 module _ (h : Hunt) (demand : CanBeMet h.search.demand) (some : 0 < unit h.search) where
   each_pull : Each (λ p. (i : ℕ) → 0 < (p.point i).own.pull) (passes h)

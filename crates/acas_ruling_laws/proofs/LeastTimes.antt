@@ -19,11 +19,11 @@ use Rattle.acas_flight_lemmas.proofs.Extremes.{during_ends}
 use Rattle.acas_flight_lemmas.proofs.Numbers.{natural}
 use Rattle.acas_areas.specs.Limits.{AreEnds}
 use Rattle.acas_areas.specs.Search.{IsMoment}
-use Rattle.acas_meetings.specs.Intruder.{Manoeuvre, RatesFit}
-use Rattle.acas_meetings.specs.Race.{Race, high_race, low_race, race_gap, race_tick, turned}
-use Rattle.acas_meetings.specs.Apart.{IsApart, StaysAbove}
-use Rattle.acas_meetings.specs.Least.{IsFirstLeastTime, IsRaceExtreme}
-use Rattle.acas_meetings.specs.Turns.{Instant, IsEarlyTurn, IsFirstOf, IsLateTurn, IsLooked, IsSoonerOrSame, IsTurnTime, ahead, at_goal, falling, fraction_of, on_the_way, race_number, too_slow, turned_before, turning, turns_after}
+use Rattle.acas_rulings.specs.Intruder.{Manoeuvre, RatesFit}
+use Rattle.acas_rulings.specs.Race.{Race, high_race, low_race, race_gap, race_tick, turned}
+use Rattle.acas_rulings.specs.Apart.{IsApart, StaysAbove}
+use Rattle.acas_rulings.specs.Least.{IsFirstLeastTime, IsRaceExtreme}
+use Rattle.acas_rulings.specs.Turns.{Instant, IsEarlyTurn, IsFirstOf, IsLateTurn, IsLooked, IsSoonerOrSame, IsTurnTime, ahead, at_goal, falling, fraction_of, on_the_way, race_number, too_slow, turned_before, turning, turns_after}
 use Rattle.acas_manoeuvre_lemmas.proofs.FirstTimes.{first_least_time}
 use Rattle.acas_manoeuvre_lemmas.proofs.Stays.{below-turned, stays-over}
 use Rattle.acas_race.proofs.SameTimes.{least_time-same}

@@ -18,14 +18,14 @@ use Rattle.acas_rulings.specs.Boxes.{AuditedBox, IsBoxOf}
 use Rattle.acas_rulings.specs.Printed.{flight_fractions, fractions_of, some_part}
 use Rattle.acas_rulings.specs.Ranges.{IsBoxesRange}
 use Rattle.acas_rulings.specs.Witness.{search_between}
-use Rattle.acas_meetings.specs.Intruder.{Manoeuvre}
-use Rattle.acas_meetings.specs.Race.{high_race, low_race, race_gap, turned}
-use Rattle.acas_meetings.specs.Hunt.{Course, Finds, Hunt, accel, high_course, low_course, passes, value}
-use Rattle.acas_meetings.specs.Printed.{PrintsCourse, against_of, meeting_fractions}
-use Rattle.acas_meetings.specs.Verdicts.{IsMeetVerdict, IsMeetingOf, IsMet, hunt_between}
-use Rattle.acas_meetings.specs.declared.meeting.Meeting.{Meeting}
-use Rattle.acas_meetings.specs.declared.verdict.MeetVerdict.{MeetVerdict}
-use Rattle.acas_meetings.specs.declared.verdict.MeetVerdict.TheVariants.{Certified, Reported}
+use Rattle.acas_rulings.specs.Intruder.{Manoeuvre}
+use Rattle.acas_rulings.specs.Race.{high_race, low_race, race_gap, turned}
+use Rattle.acas_rulings.specs.Hunt.{Course, Finds, Hunt, accel, high_course, low_course, passes, value}
+use Rattle.acas_rulings.specs.PrintedMeetings.{PrintsCourse, against_of, meeting_fractions}
+use Rattle.acas_rulings.specs.Verdicts.{IsMeetVerdict, IsMeetingOf, IsMet, hunt_between}
+use Rattle.acas_rulings.specs.declared.meeting.Meeting.{Meeting}
+use Rattle.acas_rulings.specs.declared.verdict.MeetVerdict.{MeetVerdict}
+use Rattle.acas_rulings.specs.declared.verdict.MeetVerdict.TheVariants.{Certified, Reported}
 use Rattle.acas_ruling_laws.proofs.Ones.{AreSameTimes, unit_some}
 use Rattle.acas_ruling_laws.proofs.Parts.{AreReduced, parts_fractions}
 use Rattle.acas_ruling_laws.proofs.Prints.{flight-printed_one, segments-printed_one}

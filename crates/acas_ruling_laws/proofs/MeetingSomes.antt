@@ -15,17 +15,17 @@ use Rattle.acas_areas.specs.Search.{IsMoment, IsTimed, fastest, unit}
 use Rattle.acas_pass_lemmas.proofs.Neighbours.{unit_some}
 use Rattle.acas_rulings.specs.Boxes.{AuditedBox, IsBoxOf}
 use Rattle.acas_rulings.specs.Printed.{flight_fractions}
-use Rattle.acas_meetings.specs.Intruder.{Manoeuvre, RatesFit}
-use Rattle.acas_meetings.specs.Race.{high_race, low_race, turned}
-use Rattle.acas_meetings.specs.Apart.{IsApart}
+use Rattle.acas_rulings.specs.Intruder.{Manoeuvre, RatesFit}
+use Rattle.acas_rulings.specs.Race.{high_race, low_race, turned}
+use Rattle.acas_rulings.specs.Apart.{IsApart}
 use Rattle.acas_manoeuvre_lemmas.proofs.Safe.{apart-safe}
 use Rattle.acas_manoeuvre_lemmas.proofs.Windows.{in_window}
-use Rattle.acas_meetings.specs.declared.meeting.Meeting.{Meeting}
-use Rattle.acas_meetings.specs.declared.verdict.MeetVerdict.{MeetVerdict}
-use Rattle.acas_meetings.specs.declared.verdict.MeetVerdict.TheVariants.{Certified, Reported}
-use Rattle.acas_meetings.specs.Hunt.{IsHunt, accel}
-use Rattle.acas_meetings.specs.Printed.{PrintsCourse}
-use Rattle.acas_meetings.specs.Verdicts.{IsMeetVerdict, IsMet, hunt_between}
+use Rattle.acas_rulings.specs.declared.meeting.Meeting.{Meeting}
+use Rattle.acas_rulings.specs.declared.verdict.MeetVerdict.{MeetVerdict}
+use Rattle.acas_rulings.specs.declared.verdict.MeetVerdict.TheVariants.{Certified, Reported}
+use Rattle.acas_rulings.specs.Hunt.{IsHunt, accel}
+use Rattle.acas_rulings.specs.PrintedMeetings.{PrintsCourse}
+use Rattle.acas_rulings.specs.Verdicts.{IsMeetVerdict, IsMet, hunt_between}
 use Rattle.acas_hunt_lemmas.proofs.Founds.{finds, found_course, some_pull}
 use Rattle.acas_hunt_lemmas.proofs.Prints.{printed-contact}
 use Rattle.acas_hunt_lemmas.proofs.Showing.{shown-endangers, shows-meeting}

@@ -16,9 +16,9 @@ use Rattle.acas_witness.proofs.Contacts.{during_of}
 use Rattle.acas_ruling_laws.proofs.Parts.{AreReduced, parts_fractions}
 use Rattle.acas_ruling_laws.proofs.Printed.{parts_of, printed_flight}
 use Rattle.acas_ruling_laws.proofs.Somes.{HasTime}
-use Rattle.acas_meetings.specs.declared.meeting.Meeting.{Meeting}
-use Rattle.acas_meetings.specs.Hunt.{Course, of_intruder}
-use Rattle.acas_meetings.specs.Printed.{against_of, meeting_fractions}
+use Rattle.acas_rulings.specs.declared.meeting.Meeting.{Meeting}
+use Rattle.acas_rulings.specs.Hunt.{Course, of_intruder}
+use Rattle.acas_rulings.specs.PrintedMeetings.{against_of, meeting_fractions}
 use Rattle.acas_hunt_lemmas.proofs.Founds.{flown_by}
 
 -- the own flight and the intruder's segments of a course, in lowest terms

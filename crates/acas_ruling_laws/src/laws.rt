@@ -19,9 +19,9 @@ ghost use Rattle.acas_cells.specs.Order.{cell_of};
 ghost use Rattle.acas_cells.specs.declared.name.CellName.{CellName};
 ghost use Rattle.acas_rulings.specs.declared.ruling.Ruling.{Ruling};
 ghost use Rattle.acas_rulings.specs.Rulings.{IsRulingOfBox, IsRulingOfCell};
-ghost use Rattle.acas_meetings.specs.Intruder.{Manoeuvre, RatesFit};
-ghost use Rattle.acas_meetings.specs.Verdicts.{IsMeetVerdict};
-ghost use Rattle.acas_meetings.specs.declared.verdict.MeetVerdict.{MeetVerdict};
+ghost use Rattle.acas_rulings.specs.Intruder.{Manoeuvre, RatesFit};
+ghost use Rattle.acas_rulings.specs.Verdicts.{IsMeetVerdict};
+ghost use Rattle.acas_rulings.specs.declared.verdict.MeetVerdict.{MeetVerdict};
 
 /// An area that is not clear in a window has a witness whose fractions are in lowest terms, and no other: the rule says every number
 /// that is printed. The area is in order, of rates within the limits.

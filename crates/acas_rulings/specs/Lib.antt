@@ -5,3 +5,14 @@ pub mod Spans
 pub mod Rulings
 pub mod Boxes
 pub mod View
+pub mod Limits
+pub mod Intruder
+pub mod MeetingView
+pub mod Meeting
+pub mod Race
+pub mod Apart
+pub mod Least
+pub mod Turns
+pub mod Hunt
+pub mod PrintedMeetings
+pub mod Verdicts

@@ -11,7 +11,7 @@ use Rattle.std.proofs.lemmas.Int.{ints}
 use Rattle.acas_boxes.specs.Rates.{fitting_boxes_of}
 use Rattle.acas_boxes.specs.Whole.{boxes_of}
 use Rattle.acas_rulings.specs.Boxes.{AuditedBox}
-use Rattle.acas_meetings.specs.Intruder.{Manoeuvre as Intruder}
+use Rattle.acas_rulings.specs.Intruder.{Manoeuvre as Intruder}
 use Rattle.acas_report_lines.specs.Meetings.{IsMeetingsBegun}
 use Rattle.acas_report_lines.specs.Regions.{IsRegionsReportBegun}
 use Rattle.acas_report_lines.specs.declared.counts.Which.{Which}

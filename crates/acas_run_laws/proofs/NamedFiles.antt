@@ -29,7 +29,7 @@ use Rattle.acas_box_commands.specs.RegionsCalls.{IsRegionsBegun, IsRegionsText, 
 use Rattle.acas_drill.specs.Calls.{IsDrillBegun, IsDrillText}
 use Rattle.acas_drill_model.specs.Word.{drill_number}
 use Rattle.acas_encounter_commands.specs.Calls.{IsReplayBegun, IsReplayText, encounter_looked_at, replay_looks_at}
-use Rattle.acas_meetings.specs.Intruder.{Manoeuvre as Intruder}
+use Rattle.acas_rulings.specs.Intruder.{Manoeuvre as Intruder}
 use Rattle.acas_box_commands.specs.ManoeuvreCalls.{IsManoeuvreBegun, IsManoeuvreText, manoeuvre_looks_at}
 use Rattle.acas_report_lines.specs.declared.counts.Which.{Which}
 use Rattle.acas_report_lines.specs.declared.counts.Which.TheVariants.{All as Whole, Reported as OnlyReported}

@@ -12,7 +12,7 @@ use Rattle.acas_replay.specs.Encounter.{EncounterData}
 use Rattle.acas_replay.specs.Whole.{encounter_of}
 use Rattle.acas_process.specs.Compiled.{compiled}
 use Rattle.acas_rulings.specs.Boxes.{AuditedBox}
-use Rattle.acas_meetings.specs.Intruder.{Manoeuvre as Intruder}
+use Rattle.acas_rulings.specs.Intruder.{Manoeuvre as Intruder}
 use Rattle.acas_report_lines.specs.Meetings.{IsMeetingsReport}
 use Rattle.acas_report_lines.specs.Regions.{IsRegionsReport}
 use Rattle.acas_report_lines.specs.declared.counts.Counts.{Counts}

@@ -7,7 +7,7 @@ use Rattle.acas_outside.specs.Bytes.{AppendsPart}
 use Rattle.acas_flight.specs.Clear.{area_of_box}
 use Rattle.acas_areas.specs.Limits.{IsArea}
 use Rattle.acas_areas.specs.Search.{fastest}
-use Rattle.acas_meetings.specs.Intruder.{Manoeuvre}
+use Rattle.acas_rulings.specs.Intruder.{Manoeuvre}
 use Rattle.acas_rulings.specs.Boxes.{AreBoxesOf, AuditedBox, box_at}
 use Rattle.acas_boxes.specs.Rates.{AllRatesFit}
 use Rattle.acas_report_lines.specs.Meetings.{IsMeetingsBegun, IsMeetingsReport}

@@ -23,7 +23,7 @@ use Rattle.acas_replay.specs.Encounter.{EncounterData, IsEncounter, seconds}
 use Rattle.acas_replay.specs.Text.{IsEncounterText}
 use Rattle.acas_replay.specs.Whole.{encounter_of}
 use Rattle.acas_replay.proofs.Read as encounter_text
-use Rattle.acas_meetings.specs.Intruder.{Manoeuvre as Intruder}
+use Rattle.acas_rulings.specs.Intruder.{Manoeuvre as Intruder}
 use Rattle.acas_areas.specs.Search.{fastest}
 use Rattle.acas_process.specs.Compiled.{compiled}
 use Rattle.acas_rulings.specs.Boxes.{AuditedBox, box_at}

@@ -6,10 +6,10 @@ ghost use Rattle.acas_rulings.specs.Boxes.{AuditedBox, box_at};
 ghost use Rattle.acas_cells.specs.declared.name.CellName.{CellName};
 ghost use Rattle.acas_rulings.specs.declared.ruling.Ruling.TheVariants.{Certified, Reported};
 ghost use Rattle.acas_rulings.specs.declared.flight.Witness.{Witness};
-ghost use Rattle.acas_meetings.specs.Intruder.{Manoeuvre};
-ghost use Rattle.acas_meetings.specs.Meeting.{IsEndangeredBy};
-ghost use Rattle.acas_meetings.specs.declared.meeting.Meeting.{Meeting};
-ghost use Rattle.acas_meetings.specs.declared.verdict.MeetVerdict.TheVariants as meet;
+ghost use Rattle.acas_rulings.specs.Intruder.{Manoeuvre};
+ghost use Rattle.acas_rulings.specs.Meeting.{IsEndangeredBy};
+ghost use Rattle.acas_rulings.specs.declared.meeting.Meeting.{Meeting};
+ghost use Rattle.acas_rulings.specs.declared.verdict.MeetVerdict.TheVariants as meet;
 ghost use Rattle.acas_report.specs.Verdicts.{IsVerdictOnBox, IsVerdictOnCell};
 ghost use Rattle.acas_box_commands.specs.ManoeuvreWorth as meetings;
 

@@ -8,7 +8,7 @@ use Rattle.acas_command.specs.Called.{calls_for}
 use Rattle.acas_command.specs.Outcome.{prints}
 use Rattle.acas_command.proofs.Behind.{answers-from-report}
 use Rattle.acas_command.proofs.Reports.{answers-refer, told-all}
-use Rattle.acas_meetings.specs.View.{may_of}
+use Rattle.acas_rulings.specs.MeetingView.{may_of}
 use Rattle.acas_boxes.specs.Rates.{fitting_boxes_of}
 use Rattle.acas_command.specs.Calls.{with_input_file}
 use Rattle.acas_command.specs.ModelFile.{IsModelFile}

@@ -8,7 +8,7 @@ use Rattle.acas_command.specs.Called.{calls_for}
 use Rattle.acas_command.specs.Outcome.{prints, report_cause, reports}
 use Rattle.acas_command.proofs.Behind.{answers-behind, answers-printed, told-both, told-kept, told-map}
 use Rattle.acas_command.proofs.Reports.{answers-refer, may_print-report_cause}
-use Rattle.acas_meetings.specs.View.{may_of}
+use Rattle.acas_rulings.specs.MeetingView.{may_of}
 use Rattle.acas_boxes.specs.Rates.{fitting_boxes_of}
 use Rattle.acas_command.specs.Calls.{input_cause, with_input, with_input_file}
 use Rattle.acas_command.specs.InputFile.{IsInputFile}

@@ -1,5 +1,5 @@
 use Rattle.std.proofs.Common.{◌≡◌, false, sym, ap, ◌∙◌, arith}
-use Rattle.acas_meetings.specs.View.{may_of}
+use Rattle.acas_rulings.specs.MeetingView.{may_of}
 use Rattle.acas_rulings.specs.Boxes.{AuditedBox, box_at}
 use Rattle.acas_boxes.specs.Rates.{are_within}
 use Rattle.acas_boxes.proofs.Fitting.{all_fit, first_unfit, outside_unfit}

@@ -1,6 +1,6 @@
 use Rattle.std.proofs.Common.{ℕ, ◌<◌}
-use Rattle.acas_meetings.specs.Intruder.{RatesFit}
-use Rattle.acas_meetings.specs.View.{may_of}
+use Rattle.acas_rulings.specs.Intruder.{RatesFit}
+use Rattle.acas_rulings.specs.MeetingView.{may_of}
 use Rattle.acas_rulings.specs.Boxes.{box_at}
 use Rattle.acas_boxes.proofs.rates.rates_fit.Given as goal
 

@@ -4,7 +4,7 @@ use Rattle.acas_command.specs.Answers.{Answers, ended, report_ended}
 use Rattle.acas_audit_commands.proofs.Worth.{audit-worth}
 use Rattle.acas_box_commands.proofs.RegionsWorth.{regions-worth}
 use Rattle.acas_encounter_commands.proofs.Worth.{replay-worth}
-use Rattle.acas_meetings.specs.Intruder.{Manoeuvre}
+use Rattle.acas_rulings.specs.Intruder.{Manoeuvre}
 use Rattle.acas_box_commands.specs.ManoeuvreCalls.{CallsForManoeuvre}
 use Rattle.acas_box_commands.proofs.ManoeuvreWorth.{manoeuvre-worth}
 use Rattle.acas_risk_commands.proofs.Worth.{risk-worth}

@@ -1,5 +1,5 @@
 use Rattle.acas_areas.specs.Search.{unit}
-use Rattle.acas_meetings.specs.Hunt.{value, accel, low_course, high_course, passes}
+use Rattle.acas_rulings.specs.Hunt.{value, accel, low_course, high_course, passes}
 use Rattle.acas_pass_lemmas.proofs.Ends.{found-one}
 use Rattle.acas_flight_laws.proofs.hunts.found_courses_are_one.Goals as goal
 

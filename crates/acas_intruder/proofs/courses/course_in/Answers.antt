@@ -1,7 +1,7 @@
 use Rattle.std.proofs.Common.{rules}
 use Rattle.acas_flight.specs.Response.{demand_of}
 use Rattle.acas_areas.specs.View.{area_of, times_of}
-use Rattle.acas_meetings.specs.View.{may_of}
+use Rattle.acas_rulings.specs.MeetingView.{may_of}
 use Rattle.acas_intruder.proofs.Finding.{course_from, during, pursuit_can}
 use Rattle.acas_intruder.proofs.courses.course_in.Goals as goal
 

@@ -7,10 +7,10 @@ use Rattle.acas_flight_lemmas.proofs.Models.{demand_can_be_met}
 use Rattle.acas_areas.specs.View.{times_of}
 use Rattle.acas_areas.specs.Search.{unit}
 use Rattle.acas_rulings.specs.Boxes.{audited}
-use Rattle.acas_meetings.specs.View.{may_of}
+use Rattle.acas_rulings.specs.MeetingView.{may_of}
 use Rattle.acas_manoeuvre_lemmas.proofs.Safe.{apart-safe}
 use Rattle.acas_manoeuvre_lemmas.proofs.Windows.{in_window}
-use Rattle.acas_meetings.specs.Verdicts.{hunt_between}
+use Rattle.acas_rulings.specs.Verdicts.{hunt_between}
 use Rattle.acas_intruder.proofs.Finding.{some}
 use Rattle.acas_intruder.proofs.Meetings.{accel_is, met, prints-course}
 use Rattle.acas_intruder.proofs.verdict.meet_verdict.Goals as goal

@@ -6,7 +6,7 @@ use Rattle.acas_areas.specs.Search.{grain, high_flight, high_flight_from, high_t
 use Rattle.acas_witness_search.specs.Surveys.{search_of}
 use Rattle.acas_witness_plans.specs.Plans.{IsPlanOf}
 use Rattle.acas_witness_plans.proofs.Overs.{eighths_of, high_over}
-use Rattle.acas_meetings.specs.Hunt.{high_course}
+use Rattle.acas_rulings.specs.Hunt.{high_course}
 use Rattle.acas_meeting_search.specs.Courses.{unit_of}
 use Rattle.acas_meeting_search.specs.View.{hunt_of}
 use Rattle.acas_meeting_search.proofs.Pursuits.{least_rate_is}

@@ -2,7 +2,7 @@ use Rattle.std.proofs.Common.{pos, unsigned_abs, refl}
 use Rattle.acas_areas.specs.Search.{low_time}
 use Rattle.acas_witness_search.specs.Surveys.{search_of}
 use Rattle.acas_witness_plans.proofs.Overs.{low_over}
-use Rattle.acas_meetings.specs.Hunt.{low_course}
+use Rattle.acas_rulings.specs.Hunt.{low_course}
 use Rattle.acas_meeting_search.specs.Courses.{unit_of}
 use Rattle.acas_meeting_search.specs.View.{hunt_of}
 use Rattle.acas_meeting_search.proofs.Pursuits.{rate_is}

@@ -2,7 +2,7 @@ use Rattle.std.proofs.Common.{◌∙◌, ap}
 use Rattle.acas_areas.specs.Passes.{at_high, at_low, between}
 use Rattle.acas_areas.specs.Value.{is_below}
 use Rattle.acas_pass_lemmas.proofs.Ends.{below_or_not}
-use Rattle.acas_meetings.specs.Hunt.{high_course, low_course}
+use Rattle.acas_rulings.specs.Hunt.{high_course, low_course}
 use Rattle.acas_hunt_lemmas.proofs.Joins.{time-start}
 use Rattle.acas_hunt_lemmas.proofs.Somes.{high_some, low_some}
 use Rattle.acas_witness_lemmas.proofs.Meetings.{above_of, within_of, not_within_of}

@@ -2,8 +2,8 @@ use Rattle.std.proofs.Common.{◌≡◌, ℕ, ◌↔◌, IsTrue, subst, arith}
 use Rattle.std.proofs.lemmas.Int.{ints}
 use Rattle.acas_flight.specs.Response.{Demand, demand_of}
 use Rattle.acas_areas.specs.View.{area_of, times_of}
-use Rattle.acas_meetings.specs.Apart.{IsApart}
-use Rattle.acas_meetings.specs.View.{may_of}
+use Rattle.acas_rulings.specs.Apart.{IsApart}
+use Rattle.acas_rulings.specs.MeetingView.{may_of}
 use Rattle.acas_race.proofs.apart.is_apart.Goals as goal
 
 pub returns : goal.returns

@@ -1,9 +1,9 @@
 use Rattle.std.proofs.Common.{◌↔◌, subst, IsTrue}
 use Rattle.acas_areas.specs.View.{area_of, demand_in, times_of}
-use Rattle.acas_meetings.specs.Race.{Race, high_race, low_race, turned}
-use Rattle.acas_meetings.specs.Apart.{StaysAbove, StaysBelow}
+use Rattle.acas_rulings.specs.Race.{Race, high_race, low_race, turned}
+use Rattle.acas_rulings.specs.Apart.{StaysAbove, StaysBelow}
 use Rattle.acas_manoeuvre_lemmas.proofs.Stays.{below-turned}
-use Rattle.acas_meetings.specs.View.{may_of}
+use Rattle.acas_rulings.specs.MeetingView.{may_of}
 use Rattle.acas_race.proofs.Tests.{either}
 use Rattle.acas_race.proofs.apart.is_apart_of.Goals as goal
 

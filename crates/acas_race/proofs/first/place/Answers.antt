@@ -1,6 +1,6 @@
 use Rattle.std.proofs.Common.{arith}
 use Rattle.std.proofs.lemmas.Int.{ints}
-use Rattle.acas_meetings.specs.Turns.{falling}
+use Rattle.acas_rulings.specs.Turns.{falling}
 use Rattle.acas_race.specs.View.{instant_at}
 use Rattle.acas_race.proofs.first.place.Goals as goal
 

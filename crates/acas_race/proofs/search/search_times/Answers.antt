@@ -1,9 +1,9 @@
 use Rattle.std.proofs.Common.{subst}
 use Rattle.acas_flight.specs.Response.{Demand}
 use Rattle.acas_areas.specs.View.{area_of, times_of}
-use Rattle.acas_meetings.specs.Least.{IsRaceExtreme}
-use Rattle.acas_meetings.specs.Race.{Race, high_race, low_race, turned}
-use Rattle.acas_meetings.specs.View.{may_of}
+use Rattle.acas_rulings.specs.Least.{IsRaceExtreme}
+use Rattle.acas_rulings.specs.Race.{Race, high_race, low_race, turned}
+use Rattle.acas_rulings.specs.MeetingView.{may_of}
 use Rattle.acas_race.proofs.search.search_times.Goals as goal
 
 pub returns-clause-low : goal.returns-clause-low

@@ -2,7 +2,7 @@ use Rattle.std.proofs.Common.{◌≡◌, ap, pos, neg_ℤ, to_z, of_z, unsigned_
 use Rattle.std.specs.Int.{w64}
 use Rattle.std.proofs.lemmas.Int.{ints}
 use Rattle.acas_flight.specs.Border.{Border}
-use Rattle.acas_meetings.specs.Race.{race_of}
+use Rattle.acas_rulings.specs.Race.{race_of}
 use Rattle.acas_frac.proofs.Orders.{unsigned_abs-low}
 use Rattle.acas_race.proofs.sides.high_contest.Goals as goal
 

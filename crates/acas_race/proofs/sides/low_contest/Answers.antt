@@ -2,7 +2,7 @@ use Rattle.std.proofs.Common.{◌≡◌, ap, pos, to_z, of_z, unsigned_abs, arit
 use Rattle.std.specs.Int.{w64}
 use Rattle.std.proofs.lemmas.Int.{ints}
 use Rattle.acas_flight.specs.Border.{Border}
-use Rattle.acas_meetings.specs.Race.{race_of}
+use Rattle.acas_rulings.specs.Race.{race_of}
 use Rattle.acas_frac.proofs.Orders.{unsigned_abs-high}
 use Rattle.acas_race.proofs.sides.low_contest.Goals as goal
 

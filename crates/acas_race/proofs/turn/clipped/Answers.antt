@@ -1,5 +1,5 @@
 use Rattle.std.proofs.Common.{ℕ, arith}
-use Rattle.acas_meetings.specs.Turns.{Instant, turning, turned_before, turns_after}
+use Rattle.acas_rulings.specs.Turns.{Instant, turning, turned_before, turns_after}
 use Rattle.acas_flight_windows.proofs.NearestTimes.{before_end}
 use Rattle.acas_race.specs.View.{instant_at}
 use Rattle.acas_race.proofs.turn.clipped.Goals as goal

@@ -1,7 +1,7 @@
 use Rattle.std.proofs.Common.{◌≡◌, ◌*◌, arith, pos, ◌+ℤ◌, ◌<ℤ◌, to_z, of_z, rules}
 use Rattle.std.specs.Int.{w64}
 use Rattle.std.proofs.lemmas.Int.{ints}
-use Rattle.acas_meetings.specs.Turns.{turning, ahead}
+use Rattle.acas_rulings.specs.Turns.{turning, ahead}
 use Rattle.acas_race.specs.View.{instant_at}
 use Rattle.acas_race.proofs.turn.early_turn.Goals as goal
 

@@ -1,6 +1,6 @@
 use Rattle.std.proofs.Common.{arith}
 use Rattle.std.proofs.lemmas.Grind.{common_steps}
-use Rattle.acas_meetings.specs.Turns.{turning, too_slow}
+use Rattle.acas_rulings.specs.Turns.{turning, too_slow}
 use Rattle.acas_race.specs.View.{instant_at}
 use Rattle.acas_race.proofs.Tests.{test_false}
 use Rattle.acas_race.proofs.turn.turn_within.Goals as goal

@@ -4,7 +4,7 @@ use Rattle.std.proofs.lemmas.Int.{ints}
 use Rattle.acas_areas.specs.Search.{grain}
 use Rattle.acas_witness_search.specs.Surveys.{search_of}
 use Rattle.acas_witness_plans.proofs.Ways.{exact_last, eighth_some, eighths_way}
-use Rattle.acas_meetings.specs.Hunt.{goal_pass}
+use Rattle.acas_rulings.specs.Hunt.{goal_pass}
 use Rattle.acas_meeting_search.specs.View.{hunt_of}
 use Rattle.acas_meeting_search.proofs.Pursuits.{grain_some}
 use Rattle.acas_meeting_search.proofs.pursuit.Pursuit.last_goal.Goals as goal

@@ -7,7 +7,7 @@ use Rattle.acas_areas.specs.Flights.{Flight, flight}
 use Rattle.acas_areas.specs.Passes.{Pass, IsFound, moving_down}
 use Rattle.acas_areas.specs.Responses.{IsResponse}
 use Rattle.acas_areas.specs.Search.{Search, IsSearch, unit, rate_step, over_square, low_flight, high_flight, after_altitude, time_pass, altitude_pass, intruder_pass, aim_pass, pull_pass, hold_pass, own_pass, fastest}
-use Rattle.acas_meetings.specs.Intruder.{Manoeuvre}
+use Rattle.acas_rulings.specs.Intruder.{Manoeuvre}
 
 -- A flight of the search, and the rate to which the intruder goes, over q^2: its rate at the start is the flight's.
 pub record Course : Type 0 where

@@ -2,7 +2,7 @@
 use Rattle.acas_frac.specs.Fraction.{Fraction}
 use Rattle.acas_flight.specs.Window.{Times}
 use Rattle.acas_flight.specs.Extremes.{IsExtreme, IsFirstLeast}
-use Rattle.acas_meetings.specs.Race.{Race, race_gap}
+use Rattle.acas_rulings.specs.Race.{Race, race_gap}
 
 -- the time is the earliest of the window's at which the gap of a race is least
 abbrev pub IsFirstLeastTime : Race → Times → Fraction → Type 0

@@ -3,7 +3,7 @@ use Rattle.std.specs.Prelude.{◌≡◌, ℕ, ◌+◌, ◌*◌, ◌<◌, ◌≤�
 use Rattle.acas_frac.specs.Fraction.{Fraction}
 use Rattle.acas_flight.specs.Curves.{approach, held}
 use Rattle.acas_flight.specs.Window.{Times}
-use Rattle.acas_meetings.specs.Race.{Race}
+use Rattle.acas_rulings.specs.Race.{Race}
 
 -- a time of num/den seconds
 pub record Instant : Type 0 where

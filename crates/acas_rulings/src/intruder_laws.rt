@@ -5,9 +5,9 @@ ghost use Rattle.acas_flight.specs.Clear.{Area};
 ghost use Rattle.acas_flight.specs.Curves.{approach, held};
 ghost use Rattle.acas_flight.specs.Response.{Demand, Meets, Segment, climb, demand_of, lasting, scaled};
 ghost use Rattle.acas_flight.specs.State.{Box, IsInBox, State};
-ghost use Rattle.acas_meetings.specs.Intruder.{IsFlown, Manoeuvre, over};
-ghost use Rattle.acas_meetings.specs.Meeting.{IsMeeting};
-ghost use Rattle.acas_meetings.specs.Race.{Race, high_race, low_race, race_gap};
+ghost use Rattle.acas_rulings.specs.Intruder.{IsFlown, Manoeuvre, over};
+ghost use Rattle.acas_rulings.specs.Meeting.{IsMeeting};
+ghost use Rattle.acas_rulings.specs.Race.{Race, high_race, low_race, race_gap};
 
 /// An intruder may fly a segment whose acceleration is no greater than one number, and which begins and ends at rates that are no
 /// greater than another, and then the next from there. Over q an acceleration is times q, and a rate times q^2.

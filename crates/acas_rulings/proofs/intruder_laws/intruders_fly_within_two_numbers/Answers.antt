@@ -1,4 +1,4 @@
-use Rattle.acas_meetings.proofs.intruder_laws.intruders_fly_within_two_numbers.Goals as goal
+use Rattle.acas_rulings.proofs.intruder_laws.intruders_fly_within_two_numbers.Goals as goal
 
 pub returns-clause-some : goal.returns-clause-some
 returns-clause-some c = λ may v s rest. (

@@ -3,7 +3,7 @@ use Rattle.std.specs.Prelude.{ℕ, ◌*◌, ℤ, pos, neg_ℤ, ◌+ℤ◌, ◌-�
 use Rattle.acas_flight.specs.Response.{Demand}
 use Rattle.acas_flight.specs.Curves.{approach, held, low_pull, low_hold, high_pull, high_hold}
 use Rattle.acas_flight.specs.Clear.{Area}
-use Rattle.acas_meetings.specs.Intruder.{Manoeuvre}
+use Rattle.acas_rulings.specs.Intruder.{Manoeuvre}
 
 -- The curve goes from the start rate to the aim with the pull after the hold. The intruder starts at the height and the rate, and goes
 -- to its goal with the acceleration.

@@ -4,8 +4,8 @@ use Rattle.std.specs.List.{flat_map}
 use Rattle.acas_frac.specs.Fraction.{Fraction}
 use Rattle.acas_rulings.specs.Printed.{AreSegments, Prints, fractions_of, some_part}
 use Rattle.acas_rulings.specs.declared.flight.Segment as part
-use Rattle.acas_meetings.specs.Hunt.{Course}
-use Rattle.acas_meetings.specs.declared.meeting.Meeting.{Meeting}
+use Rattle.acas_rulings.specs.Hunt.{Course}
+use Rattle.acas_rulings.specs.declared.meeting.Meeting.{Meeting}
 
 -- the printed segments of the intruder
 abbrev pub against_of : Meeting → List part.Segment

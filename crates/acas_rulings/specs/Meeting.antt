@@ -6,7 +6,7 @@ use Rattle.acas_flight.specs.State.{State, IsInside, Box, IsInBox}
 use Rattle.acas_flight.specs.Contact.{IsHorizontalContact}
 use Rattle.acas_flight.specs.Window.{Times, IsDuring}
 use Rattle.acas_flight.specs.Clear.{Area}
-use Rattle.acas_meetings.specs.Intruder.{Manoeuvre, over, IsFlown}
+use Rattle.acas_rulings.specs.Intruder.{Manoeuvre, over, IsFlown}
 
 -- the intruder starts at an altitude above and climbs y, the own aircraft climbs z: over q^3, it ends at most the half height above
 -- or below

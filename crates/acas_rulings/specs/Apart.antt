@@ -3,8 +3,8 @@ use Rattle.std.specs.Prelude.{ℕ, ◌*◌, ◌<◌, ◌⊎◌, pos, neg_ℤ, �
 use Rattle.acas_flight.specs.Response.{Demand}
 use Rattle.acas_flight.specs.Window.{Times, IsDuring}
 use Rattle.acas_flight.specs.Clear.{Area}
-use Rattle.acas_meetings.specs.Intruder.{Manoeuvre}
-use Rattle.acas_meetings.specs.Race.{Race, low_race, high_race, race_gap, race_tick}
+use Rattle.acas_rulings.specs.Intruder.{Manoeuvre}
+use Rattle.acas_rulings.specs.Race.{Race, low_race, high_race, race_gap, race_tick}
 
 -- the curve is more than the half height above the intruder at each time
 abbrev pub StaysAbove : ℕ → Race → Times → Type 0

@@ -13,15 +13,15 @@ use Rattle.acas_rulings.specs.Boxes.{AuditedBox}
 use Rattle.acas_rulings.specs.Printed.{AreParts, segments_of}
 use Rattle.acas_rulings.specs.Ranges.{IsBoxesRange}
 use Rattle.acas_rulings.specs.Witness.{search_between}
-use Rattle.acas_meetings.specs.Intruder.{Manoeuvre}
-use Rattle.acas_meetings.specs.Least.{IsRaceExtreme}
-use Rattle.acas_meetings.specs.Meeting.{IsEndangeredBy, IsMeeting, MeetsDuring}
-use Rattle.acas_meetings.specs.Race.{high_race, low_race, turned}
-use Rattle.acas_meetings.specs.Hunt.{Course, Finds, Hunt, accel}
-use Rattle.acas_meetings.specs.Printed.{PrintsCourse, against_of, meeting_fractions}
-use Rattle.acas_meetings.specs.declared.meeting.Meeting.{Meeting}
-use Rattle.acas_meetings.specs.declared.verdict.MeetVerdict.{MeetVerdict}
-use Rattle.acas_meetings.specs.declared.verdict.MeetVerdict.TheVariants.{Certified, Reported}
+use Rattle.acas_rulings.specs.Intruder.{Manoeuvre}
+use Rattle.acas_rulings.specs.Least.{IsRaceExtreme}
+use Rattle.acas_rulings.specs.Meeting.{IsEndangeredBy, IsMeeting, MeetsDuring}
+use Rattle.acas_rulings.specs.Race.{high_race, low_race, turned}
+use Rattle.acas_rulings.specs.Hunt.{Course, Finds, Hunt, accel}
+use Rattle.acas_rulings.specs.PrintedMeetings.{PrintsCourse, against_of, meeting_fractions}
+use Rattle.acas_rulings.specs.declared.meeting.Meeting.{Meeting}
+use Rattle.acas_rulings.specs.declared.verdict.MeetVerdict.{MeetVerdict}
+use Rattle.acas_rulings.specs.declared.verdict.MeetVerdict.TheVariants.{Certified, Reported}
 
 -- Over some q the fractions of the meeting are a state of the box; from there its printed response meets the advisory, the intruder may
 -- fly its printed segments, both last the printed time, and the two end in contact; and each printed fraction is in lowest terms.

@@ -4,11 +4,11 @@ ghost use Rattle.acas_spec.specs.Model.{ModelData};
 ghost use Rattle.acas_flight.specs.Curves.{approach, held};
 ghost use Rattle.acas_areas.specs.Search.{aim_pass, altitude_pass, high_flight, hold_pass, intruder_pass, low_flight, own_pass, over_square, pull_pass, time_pass};
 ghost use Rattle.acas_rulings.specs.Boxes.{AuditedBox};
-ghost use Rattle.acas_meetings.specs.Intruder.{Manoeuvre};
-ghost use Rattle.acas_meetings.specs.Hunt.{Course, Hunt, course, goal_pass, high_course, low_course, passes, toward, value};
-ghost use Rattle.acas_meetings.specs.Verdicts.{IsMeetVerdict};
-ghost use Rattle.acas_meetings.specs.declared.meeting.Meeting.{Meeting};
-ghost use Rattle.acas_meetings.specs.declared.verdict.MeetVerdict.TheVariants.{Certified, Reported};
+ghost use Rattle.acas_rulings.specs.Intruder.{Manoeuvre};
+ghost use Rattle.acas_rulings.specs.Hunt.{Course, Hunt, course, goal_pass, high_course, low_course, passes, toward, value};
+ghost use Rattle.acas_rulings.specs.Verdicts.{IsMeetVerdict};
+ghost use Rattle.acas_rulings.specs.declared.meeting.Meeting.{Meeting};
+ghost use Rattle.acas_rulings.specs.declared.verdict.MeetVerdict.TheVariants.{Certified, Reported};
 
 /// The value of a course is the own climb less the intruder's altitude and climb; the low course goes against an intruder that goes to its
 /// greatest rate, and the high course against one that goes to its least.

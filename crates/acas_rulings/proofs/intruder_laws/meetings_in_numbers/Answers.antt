@@ -1,4 +1,4 @@
-use Rattle.acas_meetings.proofs.intruder_laws.meetings_in_numbers.Goals as goal
+use Rattle.acas_rulings.proofs.intruder_laws.meetings_in_numbers.Goals as goal
 
 pub returns : goal.returns
 returns c = λ m advisory may box q s response flight. (

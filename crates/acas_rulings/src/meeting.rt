@@ -1,6 +1,6 @@
 //! What is printed of a meeting.
 
-use acas_rulings::{Segment, Witness};
+use crate::flight::{Segment, Witness};
 
 /// A contact of an own aircraft that follows an advisory with an intruder that changes its rate: the witness has the start of both and
 /// the pilot's response, and the intruder flies one or two segments, if there is time for them.
