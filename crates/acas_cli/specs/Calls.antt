@@ -6,13 +6,13 @@ use Rattle.acas_command.specs.Answers.{Answers}
 use Rattle.acas_command.specs.Called.{Called}
 use Rattle.acas_command.specs.declared.status.Cause.{Cause}
 use Rattle.acas_command.specs.declared.status.Cause.TheVariants.{Words}
-use Rattle.acas_audit_commands.specs.Calls.{CallsForAudit}
+use Rattle.acas_cell_commands.specs.AuditCalls.{CallsForAudit}
 use Rattle.acas_box_commands.specs.RegionsCalls.{CallsForRegions}
 use Rattle.acas_drill.specs.Calls.{CallsForDrill}
 use Rattle.acas_encounter_commands.specs.Calls.{CallsForReplay}
 use Rattle.acas_box_commands.specs.ManoeuvreCalls.{CallsForManoeuvre}
 use Rattle.acas_risk_commands.specs.Calls.{CallsForRisk}
-use Rattle.acas_safeable_commands.specs.Calls.{CallsForSafeable}
+use Rattle.acas_cell_commands.specs.SafeableCalls.{CallsForSafeable}
 use Rattle.acas_table_commands.specs.Calls.{CallsForCompile, CallsForValues}
 use Rattle.acas_check_commands.specs.Calls.{CallsForCheck, CallsForMigrate}
 use Rattle.acas_cli_words.specs.Words.{Form, Values, Compile, Check, Risk, Audit, Regions, Manoeuvre, Safeable, Replay, Migrate, Drill}

@@ -4,13 +4,13 @@ use Rattle.acas_outside.specs.Files.{Files}
 use Rattle.acas_outside.specs.Outside.{Outside}
 use Rattle.acas_command.specs.declared.status.Cause.{Cause}
 use Rattle.acas_command.specs.declared.status.Cause.TheVariants.{Words}
-use Rattle.acas_audit_commands.specs.Worth.{AuditIsWorth}
+use Rattle.acas_cell_commands.specs.AuditWorth.{AuditIsWorth}
 use Rattle.acas_box_commands.specs.RegionsWorth.{RegionsIsWorth}
 use Rattle.acas_drill.specs.Worth.{DrillIsWorth}
 use Rattle.acas_encounter_commands.specs.Worth.{ReplayIsWorth}
 use Rattle.acas_box_commands.specs.ManoeuvreWorth.{ManoeuvreIsWorth}
 use Rattle.acas_risk_commands.specs.Worth.{RiskIsWorth}
-use Rattle.acas_safeable_commands.specs.Worth.{SafeableIsWorth}
+use Rattle.acas_cell_commands.specs.SafeableWorth.{SafeableIsWorth}
 use Rattle.acas_table_commands.specs.Worth.{CompileIsWorth, ValuesIsWorth}
 use Rattle.acas_check_commands.specs.Worth.{CheckIsWorth, MigrateIsWorth}
 use Rattle.acas_cli_words.specs.Words.{Form, Values, Compile, Check, Risk, Audit, Regions, Manoeuvre, Safeable, Replay, Migrate, Drill}

@@ -2,7 +2,7 @@
 use Rattle.std.specs.Prelude.{◌≡◌, ◌≤◌, ◌^◌, ℕ, List, Option, Some, None}
 use Rattle.acas_outside.specs.Files.{Files}
 use Rattle.acas_command.specs.declared.status.Cause.{Cause}
-use Rattle.acas_audit_commands.specs.Decisions.{CountsAudit}
+use Rattle.acas_cell_commands.specs.Decisions.{CountsAudit}
 use Rattle.acas_table_commands.specs.Work.{CountsSweep}
 use Rattle.acas_cli_words.specs.Words.{Form, Values, Compile, Check, Risk, Audit, Regions, Manoeuvre, Safeable, Replay, Migrate, Drill}
 use Rattle.acas_cli.specs.declared.work.Work.{Work}

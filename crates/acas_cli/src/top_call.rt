@@ -14,16 +14,15 @@ ghost use Rattle.acas_cli.specs.Work.{CountsFor, CountsForm, HasRoom, NoneFell};
 
 use crate::drill_call::drill;
 use crate::work::Work;
-use acas_audit_commands::audit;
 use acas_box_commands::{manoeuvre, regions};
+use acas_cell_commands::{audit, safeable};
 use acas_check_commands::{check, migrate};
 use acas_cli_words::{Command, command_of};
 use acas_command::{Cause, Status, cause_of, cause_of_report, report, report_words};
 use acas_encounter_commands::replay;
-use acas_rulings::Manoeuvre;
 use acas_outside::{Folder, Sink};
 use acas_risk_commands::risk;
-use acas_safeable_commands::safeable;
+use acas_rulings::Manoeuvre;
 use acas_step_columns::StencilMeans;
 use acas_table_commands::{compile, values};
 use std::alloc::Global;

@@ -10,9 +10,9 @@ ghost use Rattle.acas_report_lines.specs.Report.{WroteReport};
 
 use crate::verdict::meet_verdict;
 use acas_base::Model;
-use acas_rulings::{AuditBox, Boxes, Manoeuvre, MeetVerdict};
 use acas_outside::{PrintFault, Sink};
 use acas_report_lines::{BoxSource, MeetCounts, write_boxes_by};
+use acas_rulings::{AuditBox, Boxes, Manoeuvre, MeetVerdict};
 use std::alloc::Global;
 
 /// The source that gives each box a verdict of its own, against an intruder that may change its rate.

@@ -7,9 +7,9 @@ ghost use Rattle.acas_rulings.specs.Verdicts.{IsMeetVerdict};
 use crate::courses::course_in;
 use crate::prints::meeting_of;
 use acas_base::Model;
-use acas_rulings::{AuditBox, Manoeuvre, MeetVerdict};
 use acas_race::{Conflict, is_apart};
 use acas_region::window_of_box;
+use acas_rulings::{AuditBox, Manoeuvre, MeetVerdict};
 
 /// Whether a box is certified under its advisory or reported, against an intruder that may change its rate. The advisory is one of the
 /// model's, the greatest range and the radius are flown within the seconds of a window at the least closing speed, and the intruder

@@ -1,4 +1,7 @@
-//! What is said of a cell or a box under an advisory: boxes, rulings and witnesses, as data and as definitions.
+//! What is said of a cell or a box under an advisory, as data and as definitions: boxes, rulings and witnesses; an intruder that may change its
+//! rate: its flights, the danger of them, and when an area is apart from all of them; and what is said of a box against it: the rule that
+//! fixes a meeting, how it is printed, and verdicts. What is true of them is in `acas_manoeuvre_lemmas`, `acas_hunt_lemmas`,
+//! `acas_flight_laws` and `acas_ruling_laws`.
 #![tactic(auto)]
 
 mod areas;

@@ -21,7 +21,7 @@ use Rattle.acas_command.specs.Called.{Called, IsReportOutcome, MayPrint, PrintsP
 use Rattle.acas_command.specs.Outcome.{Outcome, prints, with_file}
 use Rattle.acas_command.specs.declared.status.Cause.{Cause}
 use Rattle.acas_command.specs.declared.status.Cause.TheVariants.{Output}
-use Rattle.acas_audit_commands.specs.Calls.{IsAuditBegun, IsAuditText, audit_looks_at}
+use Rattle.acas_cell_commands.specs.AuditCalls.{IsAuditBegun, IsAuditText, audit_looks_at}
 use Rattle.acas_box_commands.specs.RegionsCalls.{AreAuditedBoxes, IsRegionsBegun, IsRegionsText, regions_looks_at}
 use Rattle.acas_command.proofs.Completed.{completed}
 use Rattle.acas_drill.specs.Calls.{IsDrillBegun, IsDrillText}
@@ -29,7 +29,7 @@ use Rattle.acas_drill_model.specs.DrilledModel.{drilled_model}
 use Rattle.acas_encounter_commands.specs.Calls.{IsReplayBegun, IsReplayText, replay_looks_at}
 use Rattle.acas_box_commands.specs.ManoeuvreCalls.{AreMetBoxes, IsManoeuvreBegun, IsManoeuvreText, manoeuvre_looks_at}
 use Rattle.acas_risk_commands.specs.Calls.{risk_of}
-use Rattle.acas_safeable_commands.specs.Calls.{IsSafeableText, IsSafeableTextBegun, safeable_looks_at}
+use Rattle.acas_cell_commands.specs.SafeableCalls.{IsSafeableText, IsSafeableTextBegun, safeable_looks_at}
 use Rattle.acas_safeable.specs.SafeableText.{IsSafeableBegun}
 use Rattle.acas_table_commands.specs.Calls.{compile_of, values_of}
 use Rattle.acas_check_commands.specs.Calls.{check_of, migrate_of}

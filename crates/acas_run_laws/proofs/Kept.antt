@@ -12,7 +12,7 @@ use Rattle.acas_command.specs.declared.status.Cause.TheVariants.{Done, Reported,
 use Rattle.acas_command.proofs.Reports.{no_file-model}
 use Rattle.acas_table_file.specs.Calls.{with_table}
 use Rattle.acas_table_file.proofs.Files.{no_file-table}
-use Rattle.acas_audit_commands.specs.Calls.{IsAuditBegun, IsAuditText, audit_looks_at}
+use Rattle.acas_cell_commands.specs.AuditCalls.{IsAuditBegun, IsAuditText, audit_looks_at}
 use Rattle.acas_box_commands.specs.RegionsCalls.{IsRegionsBegun, IsRegionsText, regions_looks_at}
 use Rattle.acas_drill.specs.Calls.{IsDrillBegun, IsDrillText}
 use Rattle.acas_encounter_commands.specs.Calls.{IsReplayBegun, IsReplayText, replay_looks_at}
@@ -20,7 +20,7 @@ use Rattle.acas_box_commands.specs.ManoeuvreCalls.{IsManoeuvreBegun, IsManoeuvre
 use Rattle.acas_risk_commands.specs.Calls.{risk_of}
 use Rattle.acas_risk_commands.proofs.Files.{rest_of_risk, text_of_risk}
 use Rattle.acas_check_commands.specs.AcceptedLine.{accepted_line}
-use Rattle.acas_safeable_commands.specs.Calls.{IsSafeableText, IsSafeableTextBegun, safeable_looks_at}
+use Rattle.acas_cell_commands.specs.SafeableCalls.{IsSafeableText, IsSafeableTextBegun, safeable_looks_at}
 use Rattle.acas_table_commands.specs.Calls.{values_of}
 use Rattle.acas_check_commands.specs.Calls.{check_of}
 use Rattle.acas_table_rows.specs.ValuesText.{values_text}

@@ -24,7 +24,7 @@ use Rattle.acas_command.specs.declared.status.FileRole.{FileRole}
 use Rattle.acas_command.specs.declared.status.FileRole.TheVariants.{Model as ModelFile, Table as TableFile, Boxes as BoxesFile, Encounter as EncounterFile}
 use Rattle.acas_command.proofs.Reports.{report-refused}
 use Rattle.acas_table_file.specs.Calls.{with_table}
-use Rattle.acas_audit_commands.specs.Calls.{IsAuditBegun, IsAuditText, audit_looks_at}
+use Rattle.acas_cell_commands.specs.AuditCalls.{IsAuditBegun, IsAuditText, audit_looks_at}
 use Rattle.acas_box_commands.specs.RegionsCalls.{IsRegionsBegun, IsRegionsText, regions_looks_at}
 use Rattle.acas_drill.specs.Calls.{IsDrillBegun, IsDrillText}
 use Rattle.acas_drill_model.specs.Word.{drill_number}
@@ -34,7 +34,7 @@ use Rattle.acas_box_commands.specs.ManoeuvreCalls.{IsManoeuvreBegun, IsManoeuvre
 use Rattle.acas_report_lines.specs.declared.counts.Which.{Which}
 use Rattle.acas_report_lines.specs.declared.counts.Which.TheVariants.{All as Whole, Reported as OnlyReported}
 use Rattle.acas_risk_commands.proofs.Files.{rest_of_risk, text_of_risk}
-use Rattle.acas_safeable_commands.specs.Calls.{IsSafeableText, IsSafeableTextBegun, safeable_looks_at}
+use Rattle.acas_cell_commands.specs.SafeableCalls.{IsSafeableText, IsSafeableTextBegun, safeable_looks_at}
 use Rattle.acas_check_commands.specs.AcceptedLine.{accepted_line}
 use Rattle.acas_table_rows.specs.StoredLine.{compiled_line, migrated_line}
 use Rattle.acas_table_rows.specs.TableFile.{compiled_text}

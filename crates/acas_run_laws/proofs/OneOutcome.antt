@@ -33,14 +33,14 @@ use Rattle.acas_command.proofs.Says.{file-says}
 use Rattle.acas_table_file.specs.AcceptedFile.{IsTableOf}
 use Rattle.acas_table_file.specs.Calls.{with_table}
 use Rattle.acas_table_file.proofs.Files.{with_table-file}
-use Rattle.acas_audit_commands.specs.Calls.{IsAuditBegun, IsAuditText, audit_looks_at}
+use Rattle.acas_cell_commands.specs.AuditCalls.{IsAuditBegun, IsAuditText, audit_looks_at}
 use Rattle.acas_box_commands.specs.RegionsCalls.{AreAuditedBoxes, IsRegionsBegun, IsRegionsText, regions_looks_at}
 use Rattle.acas_drill.specs.Calls.{IsDrillBegun, IsDrillText}
 use Rattle.acas_drill_model.specs.DrilledModel.{drilled_model}
 use Rattle.acas_drill.specs.Text.{drill_text}
 use Rattle.acas_encounter_commands.specs.Calls.{IsReplayBegun, IsReplayText, IsReplayed, encounter_looked_at, replay_looks_at}
 use Rattle.acas_box_commands.specs.ManoeuvreCalls.{AreMetBoxes, IsManoeuvreBegun, IsManoeuvreText, manoeuvre_looks_at}
-use Rattle.acas_safeable_commands.specs.Calls.{IsSafeableText, IsSafeableTextBegun, safeable_looks_at}
+use Rattle.acas_cell_commands.specs.SafeableCalls.{IsSafeableText, IsSafeableTextBegun, safeable_looks_at}
 use Rattle.acas_safeable.specs.SafeableText.{IsSafeableReport}
 use Rattle.acas_safeable.specs.declared.counts.SafeCounts.{SafeCounts}
 use Rattle.acas_cli.specs.Calls.{CallsFor}

@@ -44,7 +44,7 @@ use Rattle.acas_command.proofs.Refused.{IsBehindModel, behind-model, no_file_cau
 use Rattle.acas_table_file.specs.AcceptedFile.{IsTableOf}
 use Rattle.acas_table_file.specs.Calls.{with_table}
 use Rattle.acas_table_file.proofs.Files.{behind-table, with_table-accepted}
-use Rattle.acas_audit_commands.specs.Calls.{IsAuditBegun, IsAuditText, audit_looks_at}
+use Rattle.acas_cell_commands.specs.AuditCalls.{IsAuditBegun, IsAuditText, audit_looks_at}
 use Rattle.acas_box_commands.specs.RegionsCalls.{IsRegionsBegun, IsRegionsText, regions_looks_at}
 use Rattle.acas_drill.specs.Calls.{IsDrillBegun, IsDrillText}
 use Rattle.acas_drill_model.specs.DrilledModel.{drilled_model}
@@ -52,7 +52,7 @@ use Rattle.acas_drill.specs.Text.{drill_text}
 use Rattle.acas_encounter_commands.specs.Calls.{IsReplayBegun, IsReplayText, encounter_looked_at, replay_looks_at}
 use Rattle.acas_box_commands.specs.ManoeuvreCalls.{IsManoeuvreBegun, IsManoeuvreText, manoeuvre_looks_at}
 use Rattle.acas_risk_commands.specs.Calls.{risk_of}
-use Rattle.acas_safeable_commands.specs.Calls.{IsSafeableText, IsSafeableTextBegun, safeable_looks_at}
+use Rattle.acas_cell_commands.specs.SafeableCalls.{IsSafeableText, IsSafeableTextBegun, safeable_looks_at}
 use Rattle.acas_table_commands.specs.Calls.{compile_of, values_of}
 use Rattle.acas_check_commands.specs.Calls.{check_of, migrate_of}
 use Rattle.acas_cli.specs.Calls.{CallsFor}

@@ -16,7 +16,7 @@ use Rattle.acas_command.specs.Worth.{IsNotRefused}
 use Rattle.acas_command.specs.declared.status.Cause.{Cause}
 use Rattle.acas_command.specs.declared.status.Cause.TheVariants.{Done}
 use Rattle.acas_report_lines.specs.declared.counts.Which.{Which}
-use Rattle.acas_audit_commands.specs.Worth.{AuditIsWorth}
+use Rattle.acas_cell_commands.specs.AuditWorth.{AuditIsWorth}
 use Rattle.acas_table_commands.specs.Worth.{CompileIsWorth}
 use Rattle.acas_check_commands.specs.Worth.{CheckIsWorth, MigrateIsWorth, MigratesTable}
 use Rattle.acas_cli.specs.Headline.{Headline}

@@ -1,14 +1,14 @@
 use Rattle.std.proofs.Common.{refl, arith, rules}
 use Rattle.acas_outside.specs.Outside.{Outside, outside}
 use Rattle.acas_command.specs.Answers.{Answers, ended, report_ended}
-use Rattle.acas_audit_commands.proofs.Worth.{audit-worth}
+use Rattle.acas_cell_commands.proofs.AuditWorth.{audit-worth}
 use Rattle.acas_box_commands.proofs.RegionsWorth.{regions-worth}
 use Rattle.acas_encounter_commands.proofs.Worth.{replay-worth}
 use Rattle.acas_rulings.specs.Intruder.{Manoeuvre}
 use Rattle.acas_box_commands.specs.ManoeuvreCalls.{CallsForManoeuvre}
 use Rattle.acas_box_commands.proofs.ManoeuvreWorth.{manoeuvre-worth}
 use Rattle.acas_risk_commands.proofs.Worth.{risk-worth}
-use Rattle.acas_safeable_commands.proofs.Worth.{safeable-worth}
+use Rattle.acas_cell_commands.proofs.SafeableWorth.{safeable-worth}
 use Rattle.acas_check_commands.proofs.MigratedTables.{migrate-worth}
 use Rattle.acas_table_commands.proofs.Worth.{compile-worth, values-worth}
 use Rattle.acas_check_commands.proofs.Worth.{check-worth}

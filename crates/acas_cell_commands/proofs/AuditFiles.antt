@@ -15,7 +15,7 @@ use Rattle.acas_table_file.proofs.Files.{no_file-table}
 use Rattle.acas_report_lines.specs.declared.counts.Which.{Which}
 use Rattle.acas_command.specs.Called.{calls_for}
 use Rattle.acas_command.proofs.Behind.{Refers, told-both}
-use Rattle.acas_audit_commands.specs.Calls.{CallsForAudit, IsAuditBegun, IsAuditText, audit_looks_at}
+use Rattle.acas_cell_commands.specs.AuditCalls.{CallsForAudit, IsAuditBegun, IsAuditText, audit_looks_at}
 
 -- looking at the files stores nothing
 pub no_file-audit : (model table : List ℕ) (files : Files) → (audit_looks_at model table files).file ≡ None

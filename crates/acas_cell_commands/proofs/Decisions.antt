@@ -4,7 +4,7 @@ use Rattle.acas_outside.specs.Files.{Files}
 use Rattle.acas_command.specs.Answers.{EndsLooking}
 use Rattle.acas_command.specs.declared.status.Cause.{Cause}
 use Rattle.acas_command.proofs.Printing.{by_printing}
-use Rattle.acas_audit_commands.specs.Decisions.{CountsAudit}
+use Rattle.acas_cell_commands.specs.Decisions.{CountsAudit}
 
 pub counts-looking : (model table : List ℕ) (holds : Option Files) (cause : Cause) (old new : ℕ) → EndsLooking cause → CountsAudit model table holds cause old new
 counts-looking model table holds cause old new looks may =

@@ -5,8 +5,8 @@ ghost use Rattle.acas_outside.specs.Frame.{ReadsAndWrites};
 ghost use Rattle.acas_outside.specs.Outside.{outside};
 ghost use Rattle.acas_command.specs.Answers.{Answers, report_ended};
 ghost use Rattle.acas_command.specs.ModelFile.{IsModelFile};
-ghost use Rattle.acas_audit_commands.specs.Calls.{CallsForAudit};
-ghost use Rattle.acas_audit_commands.specs.Decisions.{CountsAudit};
+ghost use Rattle.acas_cell_commands.specs.AuditCalls.{CallsForAudit};
+ghost use Rattle.acas_cell_commands.specs.Decisions.{CountsAudit};
 
 use acas_audit_blocks::Decisions;
 use acas_command::{Cause, ModelFile, read_model_file};

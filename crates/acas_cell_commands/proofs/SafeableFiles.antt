@@ -14,7 +14,7 @@ use Rattle.acas_command.proofs.Reports.{no_file-model, refers-report}
 use Rattle.acas_table_file.specs.AcceptedFile.{IsTableFile, IsTableOf}
 use Rattle.acas_table_file.specs.Calls.{with_table}
 use Rattle.acas_table_file.proofs.Files.{no_file-table}
-use Rattle.acas_safeable_commands.specs.Calls.{CallsForSafeable, IsSafeableText, IsSafeableTextBegun, safeable_looks_at}
+use Rattle.acas_cell_commands.specs.SafeableCalls.{CallsForSafeable, IsSafeableText, IsSafeableTextBegun, safeable_looks_at}
 
 -- looking at the files stores nothing
 no_file-safeable : (model table : List ℕ) (files : Files) → (safeable_looks_at model table files).file ≡ None

@@ -8,14 +8,14 @@ use Rattle.acas_command.specs.Outcome.{prints}
 use Rattle.acas_command.proofs.Behind.{answers-from-report}
 use Rattle.acas_command.proofs.Reports.{answers-refer, told-all}
 use Rattle.acas_table_file.specs.Calls.{with_table}
-use Rattle.acas_audit_commands.specs.Calls.{CallsForAudit, IsAuditBegun, IsAuditText, audit_looks_at}
-use Rattle.acas_audit_commands.specs.Decisions.{CountsAudit}
-use Rattle.acas_audit_commands.proofs.Decisions.{counts-looking}
-use Rattle.acas_audit_commands.proofs.Files.{audit-refers}
+use Rattle.acas_cell_commands.specs.AuditCalls.{CallsForAudit, IsAuditBegun, IsAuditText, audit_looks_at}
+use Rattle.acas_cell_commands.specs.Decisions.{CountsAudit}
+use Rattle.acas_cell_commands.proofs.Decisions.{counts-looking}
+use Rattle.acas_cell_commands.proofs.AuditFiles.{audit-refers}
 use Rattle.acas_outside.specs.Files.{Files, Given}
 use Rattle.acas_command.specs.Answers.{report_ended}
 use Rattle.acas_command.specs.ModelFile.{IsModelFile}
-use Rattle.acas_audit_commands.proofs.audit_command.audit.Goals as goal
+use Rattle.acas_cell_commands.proofs.audit_command.audit.Goals as goal
 
 pub returns-in_err-found-clause-answers : goal.returns-in_err-found-clause-answers
 returns-in_err-found-clause-answers g c =

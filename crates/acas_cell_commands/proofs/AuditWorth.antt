@@ -15,9 +15,9 @@ use Rattle.acas_command.proofs.Completed.{completed}
 use Rattle.acas_command.proofs.Refused.{not_refused}
 use Rattle.acas_command.proofs.Reports.{IsPrinted, report-may_print, report-printed, report-refused}
 use Rattle.acas_table_file.proofs.Files.{read-table, rejects-table, tells-advices}
-use Rattle.acas_audit_commands.specs.Calls.{CallsForAudit, IsAuditBegun, IsAuditText, audit_looks_at}
+use Rattle.acas_cell_commands.specs.AuditCalls.{CallsForAudit, IsAuditBegun, IsAuditText, audit_looks_at}
 use Rattle.acas_report.proofs.Verdicts.{verdicts}
-use Rattle.acas_audit_commands.specs.Worth.{AuditIsWorth, PrintsAudit}
+use Rattle.acas_cell_commands.specs.AuditWorth.{AuditIsWorth, PrintsAudit}
 
 prints-audit : (model table : List ℕ) (which : Which) (files : Files) (cause : Cause) (before after : Outside) → IsPrinted (IsAuditText model table which files) files cause before after
     → PrintsAudit model table which files cause before after

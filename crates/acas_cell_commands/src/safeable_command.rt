@@ -5,7 +5,7 @@ ghost use Rattle.acas_outside.specs.Frame.{ReadsAndWrites};
 ghost use Rattle.acas_outside.specs.Outside.{outside};
 ghost use Rattle.acas_command.specs.Answers.{Answers, report_ended};
 ghost use Rattle.acas_command.specs.ModelFile.{IsModelFile};
-ghost use Rattle.acas_safeable_commands.specs.Calls.{CallsForSafeable};
+ghost use Rattle.acas_cell_commands.specs.SafeableCalls.{CallsForSafeable};
 
 use acas_command::{Cause, ModelFile, read_model_file};
 use acas_means::LayerMeans;

@@ -16,8 +16,8 @@ use Rattle.acas_command.proofs.Completed.{completed}
 use Rattle.acas_command.proofs.Refused.{not_refused}
 use Rattle.acas_command.proofs.Reports.{IsPrinted, report-may_print, report-printed, report-refused}
 use Rattle.acas_table_file.proofs.Files.{read-table, rejects-table, tells-advices}
-use Rattle.acas_safeable_commands.specs.Calls.{CallsForSafeable, IsSafeableText, IsSafeableTextBegun, safeable_looks_at}
-use Rattle.acas_safeable_commands.specs.Worth.{PrintsSafeable, SafeableIsWorth}
+use Rattle.acas_cell_commands.specs.SafeableCalls.{CallsForSafeable, IsSafeableText, IsSafeableTextBegun, safeable_looks_at}
+use Rattle.acas_cell_commands.specs.SafeableWorth.{PrintsSafeable, SafeableIsWorth}
 
 prints-safeable : (model table : List ℕ) (files : Files) (cause : Cause) (before after : Outside) → IsPrinted (IsSafeableText model table files) files cause before after
     → PrintsSafeable model table files cause before after

@@ -7,12 +7,12 @@ use Rattle.acas_command.specs.Outcome.{prints}
 use Rattle.acas_command.proofs.Behind.{answers-from-report}
 use Rattle.acas_command.proofs.Reports.{answers-refer, told-all}
 use Rattle.acas_table_file.specs.Calls.{with_table}
-use Rattle.acas_safeable_commands.specs.Calls.{CallsForSafeable, IsSafeableText, IsSafeableTextBegun, safeable_looks_at}
-use Rattle.acas_safeable_commands.proofs.Files.{safeable-refers}
+use Rattle.acas_cell_commands.specs.SafeableCalls.{CallsForSafeable, IsSafeableText, IsSafeableTextBegun, safeable_looks_at}
+use Rattle.acas_cell_commands.proofs.SafeableFiles.{safeable-refers}
 use Rattle.acas_outside.specs.Files.{Files, Given}
 use Rattle.acas_command.specs.Answers.{report_ended}
 use Rattle.acas_command.specs.ModelFile.{IsModelFile}
-use Rattle.acas_safeable_commands.proofs.safeable_command.safeable.Goals as goal
+use Rattle.acas_cell_commands.proofs.safeable_command.safeable.Goals as goal
 
 pub returns-in_err-found-clause-answers : goal.returns-in_err-found-clause-answers
 returns-in_err-found-clause-answers g c =

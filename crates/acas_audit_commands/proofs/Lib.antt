@@ -1,3 +1,0 @@
-mod Decisions
-mod Files
-pub mod Worth

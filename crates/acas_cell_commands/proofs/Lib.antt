@@ -1,0 +1,5 @@
+mod SafeableFiles
+pub mod SafeableWorth
+mod Decisions
+mod AuditFiles
+pub mod AuditWorth

@@ -1,2 +1,0 @@
-mod Files
-pub mod Worth
