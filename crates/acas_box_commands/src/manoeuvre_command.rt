@@ -11,8 +11,8 @@ ghost use Rattle.acas_box_commands.specs.ManoeuvreCalls.{CallsForManoeuvre};
 use acas_boxes::read_fitting_boxes;
 use acas_command::{Cause, FileRole, ModelFile, read_model_file, read_text_file};
 use acas_intruder::write_meetings;
-use acas_rulings::Manoeuvre;
 use acas_outside::{Folder, PrintFault, Sink};
+use acas_rulings::Manoeuvre;
 use std::alloc::Global;
 
 /// Rules on each box of a file, against an intruder that may change its rate, and prints the report. It answers how many are reported.

@@ -8,8 +8,8 @@ ghost use Rattle.acas_meeting_search.specs.Turns.{CanBeFlownWith, value_in};
 
 use crate::parts::{Flown, Turn};
 use acas_frac::Frac;
-use acas_rulings::Manoeuvre;
 use acas_region_curves::{approach, held};
+use acas_rulings::Manoeuvre;
 use acas_units::{GREATEST_HALF_HEIGHT, TICKS_PER_FOOT};
 use acas_witness_plans::{Plan, difference_parts, known};
 

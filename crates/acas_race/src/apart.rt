@@ -14,8 +14,8 @@ use crate::nearest::nearest;
 use crate::number::{number, times};
 use crate::sides::{high_contest, low_contest};
 use acas_areas::{Asked, BoxState, Moment, Window};
-use acas_rulings::Manoeuvre;
 use acas_region::{asked_by, natural};
+use acas_rulings::Manoeuvre;
 use acas_units::{GREATEST_HALF_HEIGHT, TICKS_PER_FOOT};
 
 // Whether the curve is more than the half height above the intruder at a time.

@@ -8,8 +8,8 @@ ghost use Rattle.acas_race.specs.View.{race_in};
 
 use crate::contest::Contest;
 use acas_areas::{Asked, BoxState};
-use acas_rulings::Manoeuvre;
 use acas_region::{high_chase, low_chase, natural};
+use acas_rulings::Manoeuvre;
 
 /// The low curve of an area against its highest intruder.
 pub(crate) fn low_contest(asked: &Asked, may: &Manoeuvre, area: &BoxState) -> Contest
