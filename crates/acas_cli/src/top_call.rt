@@ -2,7 +2,7 @@
 ghost use Rattle.std.specs.Prelude.{◌≡◌, ◌↔◌, ◌≤◌, pos, IsTrue, IfSome, All, None, map, string_bytes};
 ghost use Rattle.acas_outside.specs.Frame.{ReadsAndWrites};
 ghost use Rattle.acas_outside.specs.Outside.{outside};
-ghost use Rattle.acas_rulings.specs.Limits.{IsManoeuvre};
+ghost use Rattle.acas_rulings.specs.ManoeuvreLimits.{IsManoeuvre};
 ghost use Rattle.acas_rulings.specs.MeetingView.{may_of};
 ghost use Rattle.acas_command.specs.Codes.{code_of};
 ghost use Rattle.acas_command.specs.ErrorLine.{Reports};

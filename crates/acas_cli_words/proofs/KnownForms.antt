@@ -8,7 +8,7 @@ use Rattle.acas_units.specs.declared.limits.TheConstants.{GREATEST_DRILL_NUMBER,
 use Rattle.acas_cli_words.specs.Forms.{HasNumber}
 use Rattle.acas_drill_model.specs.Word.{drill_number}
 use Rattle.acas_drill_model.proofs.Words.{named}
-use Rattle.acas_rulings.specs.Limits.{IsManoeuvre}
+use Rattle.acas_rulings.specs.ManoeuvreLimits.{IsManoeuvre}
 use Rattle.acas_report_lines.specs.declared.counts.Which.TheVariants.{All as Whole, Reported}
 use Rattle.acas_cli_words.specs.Words.{Form, Values, Compile, Check, Risk, Audit, Regions, Manoeuvre, Safeable, Replay, Migrate, Drill, accel_of, are_apart, are_file_names, form_of, is_file_name, manoeuvre_of, names_of, rate_of}
 

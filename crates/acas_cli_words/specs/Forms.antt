@@ -1,7 +1,7 @@
 -- The form of a command.
 use Rattle.std.specs.Prelude.{◌≡◌, ◌≤◌, pos, Option, Some, None, ⊤}
 use Rattle.acas_units.specs.declared.limits.TheConstants.{GREATEST_DRILL_NUMBER}
-use Rattle.acas_rulings.specs.Limits.{IsManoeuvre}
+use Rattle.acas_rulings.specs.ManoeuvreLimits.{IsManoeuvre}
 use Rattle.acas_cli_words.specs.Words.{Form, Values, Compile, Check, Risk, Audit, Regions, Manoeuvre, Safeable, Replay, Migrate, Drill}
 use Rattle.acas_cli_words.specs.declared.words.Command.{Command}
 use Rattle.acas_cli_words.specs.declared.words.Command.TheVariants.{Values as ValuesCommand, Compile as CompileCommand, Check as CheckCommand, Risk as RiskCommand, Audit as AuditCommand, Regions as RegionsCommand, Manoeuvre as ManoeuvreCommand, Safeable as SafeableCommand, Replay as ReplayCommand, Migrate as MigrateCommand, Drill as DrillCommand}

@@ -4,8 +4,8 @@ pub mod Witness
 pub mod Spans
 pub mod Rulings
 pub mod Boxes
-pub mod View
-pub mod Limits
+pub mod BoxView
+pub mod ManoeuvreLimits
 pub mod Intruder
 pub mod MeetingView
 pub mod Meeting

@@ -16,7 +16,7 @@ pub struct Boxes {
 impl Model for Boxes {
     ghost use Rattle.std.specs.Prelude.{List};
     ghost use Rattle.acas_rulings.specs.Boxes.{AuditedBox};
-    ghost use Rattle.acas_rulings.specs.View.{AreFew, boxes_view};
+    ghost use Rattle.acas_rulings.specs.BoxView.{AreFew, boxes_view};
 
     ghost Value = { List AuditedBox };
 

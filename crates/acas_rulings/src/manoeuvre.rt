@@ -1,5 +1,5 @@
 //! What an intruder may do.
-ghost use Rattle.acas_rulings.specs.Limits.{IsManoeuvre};
+ghost use Rattle.acas_rulings.specs.ManoeuvreLimits.{IsManoeuvre};
 
 /// What an intruder may do that changes its rate: its greatest acceleration, from 1 to 2,000 ft/min per second, and its greatest rate,
 /// from 1 to 10,000 ft/min, both upward and downward.

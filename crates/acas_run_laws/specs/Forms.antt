@@ -1,6 +1,6 @@
 -- What a form reads, writes and may report.
 use Rattle.std.specs.Prelude.{ℕ, pos, List, Option, None, Some, ⊤}
-use Rattle.acas_rulings.specs.Limits.{IsManoeuvre}
+use Rattle.acas_rulings.specs.ManoeuvreLimits.{IsManoeuvre}
 use Rattle.acas_cli_words.specs.Words.{Form, Values, Compile, Check, Risk, Audit, Regions, Manoeuvre, Safeable, Replay, Migrate, Drill}
 
 -- the file that it writes, if any
