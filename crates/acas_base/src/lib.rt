@@ -9,7 +9,7 @@ mod names;
 mod numbers;
 mod weights;
 
-pub use acas_spec::{Advisory, Choice, SigmaPoint, Text};
+pub use acas_spec::{Advisory, Choice, Name, SigmaPoint, Text};
 pub use advices::Advices;
 pub use layers::Layers;
 pub use model::Model;

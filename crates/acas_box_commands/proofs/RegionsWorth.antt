@@ -5,7 +5,7 @@ use Rattle.std.specs.FinMap.{get}
 use Rattle.acas_spec.specs.Model.{ModelData}
 use Rattle.acas_outside.specs.Files.{Files}
 use Rattle.acas_outside.specs.Outside.{Outside}
-use Rattle.acas_input.specs.declared.fault.InputFault.{InputFault}
+use Rattle.acas_doc.specs.declared.input_fault.InputFault.{InputFault}
 use Rattle.acas_flight.specs.State.{IsInBox}
 use Rattle.acas_rulings.specs.Boxes.{AuditedBox, box_at}
 use Rattle.acas_rulings.specs.Rulings.{IsWitnessOfBox}

@@ -5,8 +5,8 @@ use Rattle.acas_spec.specs.Model.{ModelData}
 use Rattle.acas_outside.specs.Bytes.{Appends}
 use Rattle.acas_outside.specs.Files.{Files}
 use Rattle.acas_outside.specs.Outside.{Outside}
-use Rattle.acas_input.specs.declared.fault.InputFault.{InputFault}
-use Rattle.acas_input.specs.declared.fault.InputFault.TheVariants.{Rate}
+use Rattle.acas_doc.specs.declared.input_fault.InputFault.{InputFault}
+use Rattle.acas_doc.specs.declared.input_fault.InputFault.TheVariants.{Rate}
 use Rattle.acas_rulings.specs.Intruder.{Manoeuvre}
 use Rattle.acas_rulings.specs.Meeting.{IsEndangeredBy}
 use Rattle.acas_rulings.specs.Boxes.{AuditedBox, box_at}

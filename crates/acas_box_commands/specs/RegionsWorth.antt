@@ -4,7 +4,7 @@ use Rattle.acas_spec.specs.Model.{ModelData}
 use Rattle.acas_outside.specs.Bytes.{Appends}
 use Rattle.acas_outside.specs.Files.{Files}
 use Rattle.acas_outside.specs.Outside.{Outside}
-use Rattle.acas_input.specs.declared.fault.InputFault.{InputFault}
+use Rattle.acas_doc.specs.declared.input_fault.InputFault.{InputFault}
 use Rattle.acas_rulings.specs.Boxes.{AuditedBox}
 use Rattle.acas_boxes.specs.Text.{IsBoxesText}
 use Rattle.acas_report_lines.specs.Regions.{places, regions_text}

@@ -8,8 +8,8 @@ use Rattle.acas_doc.specs.Keys.{list_at, whole_item}
 use Rattle.acas_doc.specs.Paths.{key_path}
 use Rattle.acas_doc.specs.Values.{data_at}
 use Rattle.acas_flight.specs.State.{Interval}
-use Rattle.acas_input.specs.declared.fault.InputFault.{InputFault}
-use Rattle.acas_input.specs.Document.{in_doc}
+use Rattle.acas_doc.specs.declared.input_fault.InputFault.{InputFault}
+use Rattle.acas_doc.specs.Input.{in_doc}
 use Rattle.acas_boxes.specs.declared.spans.TheConstants.{SPAN_ENDS}
 
 abbrev pub interval : ℤ → ℤ → Interval

@@ -8,7 +8,7 @@ use Rattle.acas_spec.specs.Model.{ModelData, advisory_at}
 use Rattle.acas_model.specs.Text.{HasOnly, HoldsWhole, HoldsText, HoldsList, HoldsTables}
 use Rattle.acas_flight.specs.State.{Interval}
 use Rattle.acas_rulings.specs.Boxes.{AreBoxesOf, AuditedBox, box_at}
-use Rattle.acas_input.specs.declared.document.TheConstants.{INPUT_VERSION}
+use Rattle.acas_doc.specs.declared.input.TheConstants.{INPUT_VERSION}
 use Rattle.acas_boxes.specs.Spans.{in_ticks}
 
 -- the key holds the least and the greatest number of an interval; they are in order and within limits

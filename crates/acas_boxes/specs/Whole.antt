@@ -8,9 +8,9 @@ use Rattle.acas_doc.specs.Document.{document_of}
 use Rattle.acas_doc.specs.Keys.{list_at}
 use Rattle.acas_doc.specs.Known.{only_known}
 use Rattle.acas_rulings.specs.Boxes.{AuditedBox}
-use Rattle.acas_input.specs.declared.fault.InputFault.{InputFault}
-use Rattle.acas_input.specs.declared.fault.InputFault.TheVariants.{NotToml, Doc, UnknownName, Window, Rate, Memory}
-use Rattle.acas_input.specs.Document.{in_doc, version_of}
+use Rattle.acas_doc.specs.declared.input_fault.InputFault.{InputFault}
+use Rattle.acas_doc.specs.declared.input_fault.InputFault.TheVariants.{NotToml, Doc, UnknownName, Window, Rate, Memory}
+use Rattle.acas_doc.specs.Input.{in_doc, version_of}
 use Rattle.acas_boxes.specs.OneBox.{box_item}
 
 -- each item of the list is a box

@@ -9,7 +9,7 @@ mod rates;
 mod spans;
 mod whole;
 
-pub use acas_input::InputFault;
+pub use acas_doc::InputFault;
 pub use acas_rulings::AuditBox;
 pub use laws::{fitting_texts_say_their_boxes, texts_say_their_boxes};
 pub use rates::{rates_fit, read_fitting_boxes};

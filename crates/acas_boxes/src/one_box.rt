@@ -5,14 +5,15 @@ ghost use Rattle.acas_units.specs.declared.limits.TheConstants.{GREATEST_RADIUS}
 ghost use Rattle.acas_areas.specs.Limits.{IsFlownInTime, interval_of};
 ghost use Rattle.acas_model.specs.View.{item_at};
 ghost use Rattle.acas_rulings.specs.Boxes.{IsBoxOf, audited};
-ghost use Rattle.acas_input.specs.Answers.{Gives};
+ghost use Rattle.acas_doc.specs.InputAnswers.{Gives};
+ghost use Rattle.acas_doc.specs.Named.{advisory_at};
 ghost use Rattle.acas_boxes.specs.OneBox as rules;
 
 use crate::spans::{altitudes_at, closings_at, ranges_at, rates_at};
 use acas_areas::BoxState;
 use acas_base::Model;
-use acas_doc::{only_keys, path_of_item, table_item};
-use acas_input::{InputFault, advisory_at};
+use acas_doc::{InputFault, only_keys, path_of_item, table_item, text};
+use acas_model::advisory_named;
 use acas_rulings::AuditBox;
 use acas_units::{
     GREATEST_BOX_RANGE, GREATEST_CLOSING, LEAST_BOX_RANGE, LEAST_CLOSING, Span, WINDOW_SECONDS,
@@ -50,6 +51,22 @@ fn window(model: &Model, place: u32, range: &Span, closing: &Span) -> Result<(),
     } else {
         Err(InputFault::Window { place })
     }
+}
+
+/// The advisory that a table names.
+#[tactic(auto, unfolding(acas_doc::specs::Named::advisory_at))]
+fn advisory_at(
+    alloc: Global,
+    model: &Model,
+    table: &Table,
+    path: &[u8],
+    place: u32,
+) -> Result<u8, InputFault>
+    ensures value { Gives (λ a. a) result (advisory_at model.now (table_view table.now) path.now place) }
+    ensures known { IfOk result (λ a. a < model.now.grid.advisories) }
+{
+    let name = text(alloc, table, path, "advisory")?;
+    advisory_named(model, name.as_bytes(), place)
 }
 
 /// The box that a table says.

@@ -3,14 +3,14 @@ ghost use Rattle.std.specs.Prelude.{◌≡◌, ◌↔◌, ℕ, Ok, Err, IfOk};
 ghost use Rattle.acas_rulings.specs.MeetingView.{may_of};
 ghost use Rattle.acas_areas.specs.Limits.{interval_of};
 ghost use Rattle.acas_rulings.specs.Boxes.{AreBoxesOf};
-ghost use Rattle.acas_input.specs.Answers.{Gives};
-ghost use Rattle.acas_input.specs.declared.fault.InputFault.TheVariants.{Rate};
+ghost use Rattle.acas_doc.specs.InputAnswers.{Gives};
+ghost use Rattle.acas_doc.specs.declared.input_fault.InputFault.TheVariants.{Rate};
 ghost use Rattle.acas_boxes.specs.Rates.{AllRatesFit, IsFirstUnfit};
 ghost use Rattle.acas_boxes.specs.Rates as rules;
 
 use crate::whole::read_boxes;
 use acas_base::Model;
-use acas_input::InputFault;
+use acas_doc::InputFault;
 use acas_rulings::{Boxes, Manoeuvre};
 use acas_units::Span;
 use std::alloc::Global;

@@ -3,11 +3,10 @@ ghost use Rattle.std.specs.Prelude.{◌*◌, pos, ◌≤ℤ◌, unsigned_abs, If
 ghost use Rattle.toml.specs.View.{table_view};
 ghost use Rattle.acas_units.specs.declared.ticks.TheConstants.{TICKS_PER_FOOT};
 ghost use Rattle.acas_areas.specs.Limits.{IsSmall, interval_of};
-ghost use Rattle.acas_input.specs.Answers.{Gives};
+ghost use Rattle.acas_doc.specs.InputAnswers.{Gives};
 ghost use Rattle.acas_boxes.specs.Spans as rules;
 
-use acas_doc::{item, list, path_of_key};
-use acas_input::InputFault;
+use acas_doc::{InputFault, item, list, path_of_key};
 use acas_units::{
     GREATEST_ALTITUDE, GREATEST_BOX_RANGE, GREATEST_CLOSING, GREATEST_RATE, LEAST_ALTITUDE,
     LEAST_BOX_RANGE, LEAST_CLOSING, LEAST_RATE, Span, feet_to_ticks,

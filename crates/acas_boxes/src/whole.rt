@@ -4,13 +4,12 @@ ghost use Rattle.std.specs.List.{AllByRecursion};
 ghost use Rattle.toml.specs.View.{table_view};
 ghost use Rattle.acas_model.specs.View.{data_of};
 ghost use Rattle.acas_rulings.specs.Boxes.{AreBoxesOf, IsBoxOf, audited};
-ghost use Rattle.acas_input.specs.Answers.{Gives};
+ghost use Rattle.acas_doc.specs.InputAnswers.{Gives};
 ghost use Rattle.acas_boxes.specs.Whole as rules;
 
 use crate::one_box::box_item;
 use acas_base::Model;
-use acas_doc::{list, only_keys};
-use acas_input::{InputFault, document_of, version_of};
+use acas_doc::{InputFault, document_of, list, only_keys, version_of};
 use acas_rulings::{AuditBox, Boxes};
 use acas_units::{GREATEST_BOXES, LEAST_BOXES};
 use std::alloc::Global;

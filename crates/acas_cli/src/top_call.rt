@@ -7,7 +7,7 @@ ghost use Rattle.acas_rulings.specs.MeetingView.{may_of};
 ghost use Rattle.acas_command.specs.Codes.{code_of};
 ghost use Rattle.acas_command.specs.ErrorLine.{Reports};
 ghost use Rattle.acas_cli.specs.Calls.{AnswersCall, AnswersForm};
-ghost use Rattle.acas_cli_words.specs.Forms.{HasNumber, form_of_command};
+ghost use Rattle.acas_cli_words.specs.Forms.{HasNumber, form_of_command, form_of_table_command};
 ghost use Rattle.acas_cli.specs.Headline.{Headline, IsWorth};
 ghost use Rattle.acas_cli_words.specs.Words.{form_of, names_of};
 ghost use Rattle.acas_cli.specs.Work.{CountsFor, CountsForm, HasRoom, NoneFell};
@@ -17,7 +17,7 @@ use crate::work::Work;
 use acas_box_commands::{manoeuvre, regions};
 use acas_cell_commands::{audit, safeable};
 use acas_check_commands::{check, migrate};
-use acas_cli_words::{Command, command_of};
+use acas_cli_words::{Command, TableCommand, command_of};
 use acas_command::{Cause, Status, cause_of, cause_of_report, report, report_words};
 use acas_encounter_commands::replay;
 use acas_outside::{Folder, Sink};
@@ -112,38 +112,23 @@ fn answer<F: Folder, O: Sink>(
     ensures folder { ReadsAndWrites F.Folder folder.old folder.new (result ≡ Cause.Folder) }
     ensures output { O.faults out.old ≤ O.faults out.new }
 {
-    let Work {
-        backups,
-        turned,
-        decisions,
-    } = work;
     match command {
         Command::Values { model } => cause_of(values::<StencilMeans, F, O>(
-            alloc, model, folder, out, backups, turned,
+            alloc,
+            model,
+            folder,
+            out,
+            &mut work.backups,
+            &mut work.turned,
         )),
         Command::Compile { model, table } => cause_of(compile::<StencilMeans, F, O>(
-            alloc, model, table, folder, out, backups, turned,
-        )),
-        Command::Migrate {
+            alloc,
             model,
             table,
-            target,
-        } => cause_of(migrate::<StencilMeans, F, O>(alloc, model, table, target, folder, out)),
-        Command::Check { model, table } => cause_of(check::<StencilMeans, F, O>(
-            alloc, model, table, folder, out,
-        )),
-        Command::Risk { model, table } => cause_of(risk::<StencilMeans, F, O>(
-            alloc, model, table, folder, out,
-        )),
-        Command::Safeable { model, table } => cause_of_report(safeable::<StencilMeans, F, O>(
-            alloc, model, table, folder, out,
-        )),
-        Command::Audit {
-            model,
-            table,
-            which,
-        } => cause_of_report(audit::<StencilMeans, F, O>(
-            alloc, model, table, which, folder, out, decisions,
+            folder,
+            out,
+            &mut work.backups,
+            &mut work.turned,
         )),
         Command::Regions { model, boxes } => cause_of_report(regions(
             alloc, model, boxes, folder, out,
@@ -157,12 +142,64 @@ fn answer<F: Folder, O: Sink>(
             let may = manoeuvre_of(accel, rate);
             cause_of_report(manoeuvre(alloc, model, boxes, &may, folder, out))
         }
-        Command::Replay {
+        Command::OnTable {
             model,
             table,
-            encounter,
-        } => cause_of(replay::<StencilMeans, F, O>(alloc, model, table, encounter, folder, out)),
+            command,
+        } => answer_on_table(alloc, model, table, command, folder, out, work),
         Command::Drill { number } => drill(alloc, number, out).cause,
+    }
+}
+
+// The answer to a command on a table that there is.
+fn answer_on_table<F: Folder, O: Sink>(
+    alloc: Global,
+    model: &str,
+    table: &str,
+    command: TableCommand<'_>,
+    folder: &mut F,
+    out: &mut O,
+    work: &mut Work,
+) -> Cause
+    requires served { All (λ name. IsTrue (F.serves folder.old name))
+        (names_of (form_of_table_command model.now table.now command)) }
+    requires counts { HasRoom work.old }
+    ensures answers { AnswersCall (form_of_table_command model.now table.now command.entry) result
+        (outside F.Folder O.Sink folder.old out.old) (outside F.Folder O.Sink folder.new out.new) }
+    ensures headline { IfSome (F.holds folder.old) (λ files.
+        IsWorth (form_of_table_command model.now table.now command.entry) files result
+        (outside F.Folder O.Sink folder.old out.old) (outside F.Folder O.Sink folder.new out.new)) }
+    ensures work { CountsFor (form_of_table_command model.now table.now command.entry) (F.holds folder.old) result
+        work.old work.new }
+    ensures rising { NoneFell work.old work.new }
+    ensures folder { ReadsAndWrites F.Folder folder.old folder.new (result ≡ Cause.Folder) }
+    ensures output { O.faults out.old ≤ O.faults out.new }
+{
+    match command {
+        TableCommand::Check => cause_of(check::<StencilMeans, F, O>(
+            alloc, model, table, folder, out,
+        )),
+        TableCommand::Risk => cause_of(risk::<StencilMeans, F, O>(
+            alloc, model, table, folder, out,
+        )),
+        TableCommand::Audit { which } => cause_of_report(audit::<StencilMeans, F, O>(
+            alloc,
+            model,
+            table,
+            which,
+            folder,
+            out,
+            &mut work.decisions,
+        )),
+        TableCommand::Safeable => cause_of_report(safeable::<StencilMeans, F, O>(
+            alloc, model, table, folder, out,
+        )),
+        TableCommand::Replay { encounter } => cause_of(replay::<StencilMeans, F, O>(
+            alloc, model, table, encounter, folder, out,
+        )),
+        TableCommand::Migrate { target } => cause_of(migrate::<StencilMeans, F, O>(
+            alloc, model, table, target, folder, out,
+        )),
     }
 }
 

@@ -5,4 +5,4 @@ mod given;
 mod words;
 
 pub use given::{NoWords, given_words};
-pub use words::{Command, command_of};
+pub use words::{Command, TableCommand, command_of};

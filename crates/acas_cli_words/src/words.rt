@@ -1,13 +1,13 @@
 //! The forms of words.
 ghost use Rattle.std.specs.Prelude.{◌≡◌, ◌∷◌, [], map, string_bytes};
-ghost use Rattle.acas_cli_words.specs.Forms.{HasForm};
+ghost use Rattle.acas_cli_words.specs.Forms.{HasForm, form_of_command, form_of_table_command};
 ghost use Rattle.acas_cli_words.specs.Words.{accel_of, are_apart, are_file_names, form_of, is_file_name, rate_of};
 
 use acas_drill_model::{drill_number, number_within};
 use acas_report_lines::Which;
 use acas_units::{FILE_NAME_BYTES, GREATEST_LIMIT, GREATEST_RATE};
 
-/// A command, with the names of its files, which lines an audit prints, what an intruder may do, and the number of a drill.
+/// A command, with the names of its files, what an intruder may do, and the number of a drill.
 #[derive(Clone, Copy)]
 pub enum Command<'w> {
     /// `values M`: print the table of a model.
@@ -18,22 +18,6 @@ pub enum Command<'w> {
     Compile {
         model: &'w str,
         table: &'w str,
-    },
-    /// `check M T`: check a table of a model.
-    Check {
-        model: &'w str,
-        table: &'w str,
-    },
-    /// `risk M T`: how likely contact is under the policy of a table, and what that costs.
-    Risk {
-        model: &'w str,
-        table: &'w str,
-    },
-    /// `audit M T`, and with `--reported` behind it: rule on each advisory cell of a table.
-    Audit {
-        model: &'w str,
-        table: &'w str,
-        which: Which,
     },
     /// `regions M B`: rule on each box of a file.
     Regions {
@@ -48,26 +32,38 @@ pub enum Command<'w> {
         accel: u32,
         rate: u32,
     },
-    /// `safeable M T`: whether an advisory keeps each clear cell of a table safe that is given a second later.
-    Safeable {
+    /// A command on a table that there is.
+    OnTable {
         model: &'w str,
         table: &'w str,
-    },
-    /// `replay M T E`: fly an encounter under the advice of a table.
-    Replay {
-        model: &'w str,
-        table: &'w str,
-        encounter: &'w str,
-    },
-    /// `migrate M T1 T2`: store a table again in version 2, under another name.
-    Migrate {
-        model: &'w str,
-        table: &'w str,
-        target: &'w str,
+        command: TableCommand<'w>,
     },
     /// `drill K`: compile, accept and audit the model of a number.
     Drill {
         number: u32,
+    },
+}
+
+/// A command on a table T of a model M, with the name of a third file, and which lines an audit prints.
+#[derive(Clone, Copy)]
+pub enum TableCommand<'w> {
+    /// `check M T`: check a table of a model.
+    Check,
+    /// `risk M T`: how likely contact is under the policy of a table, and what that costs.
+    Risk,
+    /// `audit M T`, and with `--reported` behind it: rule on each advisory cell of a table.
+    Audit {
+        which: Which,
+    },
+    /// `safeable M T`: whether an advisory keeps each clear cell of a table safe that is given a second later.
+    Safeable,
+    /// `replay M T E`: fly an encounter under the advice of a table.
+    Replay {
+        encounter: &'w str,
+    },
+    /// `migrate M T1 T2`: store a table again in version 2, under another name.
+    Migrate {
+        target: &'w str,
     },
 }
 
@@ -124,15 +120,14 @@ fn of_three_words<'w>(verb: &str, model: &'w str, file: &'w str) -> Option<Comma
         return None;
     }
     match verb {
-        "check" => Some(Command::Check { model, table: file }),
-        "risk" => Some(Command::Risk { model, table: file }),
-        "audit" => Some(Command::Audit {
-            model,
-            table: file,
-            which: Which::All,
-        }),
+        "check" => Some(on_table(model, file, TableCommand::Check)),
+        "risk" => Some(on_table(model, file, TableCommand::Risk)),
+        "audit" => {
+            let which = Which::All;
+            Some(on_table(model, file, TableCommand::Audit { which }))
+        }
         "regions" => Some(Command::Regions { model, boxes: file }),
-        "safeable" => Some(Command::Safeable { model, table: file }),
+        "safeable" => Some(on_table(model, file, TableCommand::Safeable)),
         _ => None,
     }
 }
@@ -146,23 +141,20 @@ fn of_four_words<'w>(
     ensures { HasForm result (form_of (verb.now ∷ model.now ∷ table.now ∷ third.now ∷ [])) }
 {
     if verb == "audit" && are_file_names(model, table) && third == "--reported" {
-        Some(Command::Audit {
-            model,
-            table,
-            which: Which::Reported,
-        })
+        let which = Which::Reported;
+        Some(on_table(model, table, TableCommand::Audit { which }))
     } else if verb == "replay" && are_file_names(model, table) && is_file_name(third) {
-        Some(Command::Replay {
+        Some(on_table(
             model,
             table,
-            encounter: third,
-        })
+            TableCommand::Replay { encounter: third },
+        ))
     } else if verb == "migrate" && are_apart(model, third) && are_apart(table, third) {
-        Some(Command::Migrate {
+        Some(on_table(
             model,
             table,
-            target: third,
-        })
+            TableCommand::Migrate { target: third },
+        ))
     } else {
         None
     }
@@ -188,6 +180,16 @@ fn of_five_words<'w>(
             rate,
         }),
         _ => None,
+    }
+}
+
+fn on_table<'w>(model: &'w str, table: &'w str, command: TableCommand<'w>) -> Command<'w>
+    ensures { form_of_command result ≡ form_of_table_command model.now table.now command.entry }
+{
+    Command::OnTable {
+        model,
+        table,
+        command,
     }
 }
 

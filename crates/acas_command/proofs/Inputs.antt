@@ -3,8 +3,8 @@ use Rattle.std.proofs.Common.{◌≡◌, ℕ, Bool, true, false, cond, nat_lt, L
 use Rattle.std.specs.FinMap.{get}
 use Rattle.std.proofs.lemmas.Bool.{le-ltb}
 use Rattle.acas_units.specs.declared.limits.TheConstants.{TEXT_BYTES}
-use Rattle.acas_input.specs.declared.fault.InputFault.{InputFault}
-use Rattle.acas_input.specs.declared.fault.InputFault.TheVariants as inputs
+use Rattle.acas_doc.specs.declared.input_fault.InputFault.{InputFault}
+use Rattle.acas_doc.specs.declared.input_fault.InputFault.TheVariants as inputs
 use Rattle.acas_outside.specs.Files.{Given}
 use Rattle.acas_outside.specs.Outside.{Outside}
 use Rattle.acas_command.specs.Answers.{Answers, EndsLooking}

@@ -6,8 +6,8 @@ use Rattle.acas_command.specs.ErrorLine.{AppendsLine, Reports, error_line, name_
 use Rattle.acas_command.specs.LineParts.{line_head, line_of_parts, line_subject, line_tail}
 use Rattle.acas_command.specs.declared.status.Cause.{Cause}
 use Rattle.acas_command.specs.declared.status.Cause.TheVariants.{Done, Reported, Words, Absent, Model, Table, Input, Folder, Output, TooLong, Memory}
-use Rattle.acas_input.specs.declared.fault.InputFault.{InputFault}
-use Rattle.acas_input.specs.declared.fault.InputFault.TheVariants as input
+use Rattle.acas_doc.specs.declared.input_fault.InputFault.{InputFault}
+use Rattle.acas_doc.specs.declared.input_fault.InputFault.TheVariants as input
 use Rattle.acas_model.specs.declared.fault.ModelFault.{ModelFault}
 use Rattle.acas_model.specs.declared.fault.ModelFault.TheVariants as fault
 

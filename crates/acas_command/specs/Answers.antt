@@ -5,7 +5,7 @@ use Rattle.acas_outside.specs.Bytes.{Appends}
 use Rattle.acas_outside.specs.Counts.{Rose, raised}
 use Rattle.acas_outside.specs.Files.{Files}
 use Rattle.acas_outside.specs.Outside.{Outside}
-use Rattle.acas_input.specs.declared.fault.InputFault.TheVariants as inputs
+use Rattle.acas_doc.specs.declared.input_fault.InputFault.TheVariants as inputs
 use Rattle.acas_model.specs.declared.fault.ModelFault.TheVariants as faults
 use Rattle.acas_table_text.specs.Refusals.{IsOfBytes}
 use Rattle.acas_command.specs.Called.{Called}

@@ -4,8 +4,8 @@ use Rattle.sha2.specs.Sha256.{sha256}
 use Rattle.acas_units.specs.declared.limits.TheConstants.{TEXT_BYTES}
 use Rattle.acas_spec.specs.Model.{ModelData}
 use Rattle.acas_model.specs.Whole.{model_of}
-use Rattle.acas_input.specs.declared.fault.InputFault.{InputFault}
-use Rattle.acas_input.specs.declared.fault.InputFault.TheVariants as inputs
+use Rattle.acas_doc.specs.declared.input_fault.InputFault.{InputFault}
+use Rattle.acas_doc.specs.declared.input_fault.InputFault.TheVariants as inputs
 use Rattle.acas_model.specs.declared.fault.ModelFault.{ModelFault}
 use Rattle.acas_command.specs.Outcome.{Outcome, refuses}
 use Rattle.acas_command.specs.declared.status.FileRole.{FileRole}

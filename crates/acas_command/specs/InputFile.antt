@@ -1,6 +1,6 @@
 -- A file of boxes or of an encounter.
 use Rattle.std.specs.Prelude.{◌≡◌, ℕ, List, Option, Result, Ok}
-use Rattle.acas_input.specs.declared.fault.InputFault.{InputFault}
+use Rattle.acas_doc.specs.declared.input_fault.InputFault.{InputFault}
 use Rattle.acas_command.specs.TextFile.{IsTextFile}
 
 -- the file is a text that is read as this

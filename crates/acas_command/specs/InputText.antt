@@ -1,8 +1,8 @@
 -- What is printed of the fault of a text of boxes or of an encounter.
 use Rattle.std.specs.Prelude.{ℕ, List, ◌++◌, codes}
 use Rattle.std.specs.Fmt.{decimal}
-use Rattle.acas_input.specs.declared.fault.InputFault.{InputFault}
-use Rattle.acas_input.specs.declared.fault.InputFault.TheVariants as input
+use Rattle.acas_doc.specs.declared.input_fault.InputFault.{InputFault}
+use Rattle.acas_doc.specs.declared.input_fault.InputFault.TheVariants as input
 use Rattle.acas_command.specs.FaultText.{kind_text}
 
 -- the rule that the text fails; a place is that of a box, and 0 in an encounter

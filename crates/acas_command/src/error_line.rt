@@ -6,7 +6,7 @@ ghost use Rattle.acas_command.specs.LineParts.{fault_head, fault_subject, input_
 
 use crate::fault_text::tail_of;
 use crate::status::{Cause, FileRole};
-use acas_input::InputFault;
+use acas_doc::InputFault;
 use acas_model::ModelFault;
 use acas_outside::{Sink, emit_parts};
 

@@ -7,9 +7,8 @@ ghost use Rattle.acas_command.specs.LineParts.{fault_tail, input_tail, line_tail
 use crate::line_fields::{put_count, put_counts, put_number, put_numbers, put_text};
 use crate::refusal_text::write_refusal;
 use crate::status::Cause;
-use acas_doc::DocKind;
+use acas_doc::{DocKind, InputFault};
 use acas_grid::AxisFault;
-use acas_input::InputFault;
 use acas_model::{AxisName, ModelFault, NamePlace};
 use acas_units::{GREATEST_ENTRIES, GREATEST_TOTAL_WEIGHT, Line};
 

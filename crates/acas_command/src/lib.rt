@@ -10,7 +10,7 @@ mod state_fields;
 mod status;
 mod text_file;
 
-pub use acas_input::InputFault;
+pub use acas_doc::InputFault;
 pub use acas_table_text::TableRefusal;
 pub use error_line::{report, report_words};
 pub use line_fields::{put_count, put_millionths, put_text, put_wide_millionths};

@@ -3,7 +3,7 @@ ghost use Rattle.std.specs.Prelude.{◌≡◌};
 ghost use Rattle.acas_command.specs.Answers.{ended, report_ended};
 ghost use Rattle.acas_command.specs.Codes.{code_of};
 
-use acas_input::InputFault;
+use acas_doc::InputFault;
 use acas_model::ModelFault;
 use acas_table_text::TableRefusal;
 use std::alloc::AllocError;

@@ -4,3 +4,5 @@ pub mod LeastUnknown
 pub mod Holds
 pub mod Documents
 mod WholeItems
+pub mod InputKeys
+pub mod InputFaults

@@ -4,3 +4,6 @@ pub mod Keys
 pub mod Known
 pub mod Document
 pub mod Answers
+pub mod InputAnswers
+pub mod Input
+pub mod Named

@@ -1,9 +1,10 @@
 //! The lists of a drilled model: its advisories, what may be chosen, and its sigma points.
-ghost use Rattle.std.specs.Prelude.{◌≡◌, ◌++◌, ◌∷◌, [], IfOk, OnOk, map};
+ghost use Rattle.std.specs.Prelude.{◌≡◌, ◌≤◌, ◌++◌, ◌∷◌, [], IfOk, OnOk, length, map};
+ghost use Rattle.acas_units.specs.declared.limits.TheConstants.{GREATEST_NAME_BYTES};
 ghost use Rattle.acas_base.specs.View.{lists_of};
 ghost use Rattle.acas_drill_model.specs.DrilledModel.{asks, changes, costs, drilled_advisories, drilled_choices, drilled_sigmas};
 
-use acas_base::{Advisory, Choice, SigmaPoint, Text};
+use acas_base::{Advisory, Choice, Name, SigmaPoint};
 use std::alloc::{AllocError, Global};
 
 /// How many advisories there are.
@@ -32,9 +33,10 @@ fn push_advisory(
     lo: i64,
     hi: i64,
 ) -> Result<(), AllocError>
+    requires short { length name.now ≤ GREATEST_NAME_BYTES }
     ensures { OnOk result (list.new.items ≡ list.old.items ++ asks name.now lo hi ∷ []) }
 {
-    let name = Text::new(Vec::from_slice(alloc, name.as_bytes())?);
+    let name = Name::new(name.as_bytes());
     list.push(Advisory { name, lo, hi })?;
     Ok(())
 }

@@ -9,7 +9,7 @@ use Rattle.acas_spec.specs.Table.{Table}
 use Rattle.acas_outside.specs.Bytes.{Appends}
 use Rattle.acas_outside.specs.Files.{Files}
 use Rattle.acas_outside.specs.Outside.{Outside}
-use Rattle.acas_input.specs.declared.fault.InputFault.{InputFault}
+use Rattle.acas_doc.specs.declared.input_fault.InputFault.{InputFault}
 use Rattle.acas_replay.specs.Encounter.{EncounterData}
 use Rattle.acas_replay.specs.Text.{IsEncounterText}
 use Rattle.acas_replay.specs.Whole.{encounter_of}

@@ -6,7 +6,7 @@ use Rattle.acas_base.specs.Advices.{AdvicesData}
 use Rattle.acas_outside.specs.Bytes.{Appends}
 use Rattle.acas_outside.specs.Files.{Files}
 use Rattle.acas_outside.specs.Outside.{Outside}
-use Rattle.acas_input.specs.declared.fault.InputFault.{InputFault}
+use Rattle.acas_doc.specs.declared.input_fault.InputFault.{InputFault}
 use Rattle.acas_replay.specs.Encounter.{EncounterData, seconds}
 use Rattle.acas_replay.specs.Text.{IsEncounterText}
 use Rattle.acas_replay.specs.Audited.{IsAudited, IsOfCells}

@@ -11,7 +11,7 @@ ghost use Rattle.acas_model.specs.Advisories as rules;
 
 use crate::fault::{ModelFault, NamePlace};
 use acas_doc::{DocKind, fault_at, only_keys, path_of_item, table_item, text, whole};
-use acas_spec::{Advisory, Text};
+use acas_spec::{Advisory, Name};
 use acas_units::{GREATEST_NAME_BYTES, GREATEST_RATE, LEAST_NAME_BYTES, LEAST_RATE};
 use std::alloc::Global;
 use toml::{Table, Value};
@@ -43,12 +43,12 @@ fn is_name(bytes: &[u8]) -> bool
 
 /// The name in the table of an advisory.
 #[tactic(auto, unfolding(crate::specs::Advisories::name_at))]
-fn name_at(alloc: Global, table: &Table, path: &[u8]) -> Result<Text, ModelFault>
+fn name_at(alloc: Global, table: &Table, path: &[u8]) -> Result<Name, ModelFault>
     ensures { Gives (λ n. n) result (rules.name_at (table_view table.now) path.now) }
 {
     let name = text(alloc, table, path, "name")?;
     if is_name(name.as_bytes()) {
-        Ok(Text::new(Vec::from_slice(alloc, name.as_bytes())?))
+        Ok(Name::new(name.as_bytes()))
     } else {
         Err(ModelFault::from(fault_at(alloc, path, "name", DocKind::WrongKind)))
     }

@@ -9,14 +9,16 @@ mod choices;
 mod document;
 mod fault;
 mod laws;
+mod named;
 mod noise;
 mod numbers;
 mod whole;
 
 pub use acas_base::{Advices, Model};
 pub use acas_doc::{DocFault, DocKind};
-pub use acas_spec::{Advisory, Choice, SigmaPoint, Text};
+pub use acas_spec::{Advisory, Choice, Name, SigmaPoint, Text};
 pub use fault::{AxisName, ModelFault, NamePlace};
 pub use laws::texts_say_their_models;
+pub use named::advisory_named;
 pub use numbers::DELAY_VERSION;
 pub use whole::read_model;

@@ -4,8 +4,8 @@ use Rattle.toml.specs.Data.{Members}
 use Rattle.acas_spec.specs.Steps.{◌>>=◌}
 use Rattle.acas_doc.specs.Keys.{list_at, whole_items}
 use Rattle.acas_doc.specs.Paths.{key_path}
-use Rattle.acas_input.specs.declared.fault.InputFault.{InputFault}
-use Rattle.acas_input.specs.Document.{in_doc}
+use Rattle.acas_doc.specs.declared.input_fault.InputFault.{InputFault}
+use Rattle.acas_doc.specs.Input.{in_doc}
 use Rattle.acas_replay.specs.declared.limits.TheConstants.{LEAST_ACCELERATION, GREATEST_ACCELERATION}
 
 -- a list at a key of the document, of so many accelerations, each within the limits

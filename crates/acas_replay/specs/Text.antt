@@ -6,7 +6,7 @@ use Rattle.toml.specs.Parse.{parse_document}
 use Rattle.acas_units.specs.declared.ticks.TheConstants.{TICKS_PER_FOOT}
 use Rattle.acas_spec.specs.Model.{ModelData, advisory_at}
 use Rattle.acas_model.specs.Text.{HasOnly, HoldsWhole, HoldsText, HoldsList}
-use Rattle.acas_input.specs.declared.document.TheConstants.{INPUT_VERSION}
+use Rattle.acas_doc.specs.declared.input.TheConstants.{INPUT_VERSION}
 use Rattle.acas_replay.specs.declared.start.Start.{Start}
 use Rattle.acas_replay.specs.Encounter.{EncounterData, IsEncounter, IsEncounterOf}
 

@@ -7,9 +7,9 @@ use Rattle.acas_spec.specs.Model.{ModelData}
 use Rattle.acas_spec.specs.Steps.{◌>>=◌, ◌>>◌}
 use Rattle.acas_doc.specs.Document.{document_of}
 use Rattle.acas_doc.specs.Known.{only_known}
-use Rattle.acas_input.specs.declared.fault.InputFault.{InputFault}
-use Rattle.acas_input.specs.declared.fault.InputFault.TheVariants.{NotToml, Doc, UnknownName, Window, Rate, Memory}
-use Rattle.acas_input.specs.Document.{in_doc, version_of}
+use Rattle.acas_doc.specs.declared.input_fault.InputFault.{InputFault}
+use Rattle.acas_doc.specs.declared.input_fault.InputFault.TheVariants.{NotToml, Doc, UnknownName, Window, Rate, Memory}
+use Rattle.acas_doc.specs.Input.{in_doc, version_of}
 use Rattle.acas_replay.specs.Encounter.{EncounterData}
 use Rattle.acas_replay.specs.Start.{start_of}
 use Rattle.acas_replay.specs.Accelerations.{accelerations_at}

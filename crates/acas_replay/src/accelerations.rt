@@ -1,12 +1,11 @@
 //! The accelerations of one aircraft.
 ghost use Rattle.std.specs.Prelude.{◌≡◌, ◌≤◌, length, IfOk};
 ghost use Rattle.toml.specs.View.{table_view};
-ghost use Rattle.acas_input.specs.Answers.{Gives};
+ghost use Rattle.acas_doc.specs.InputAnswers.{Gives};
 ghost use Rattle.acas_replay.specs.Accelerations as rules;
 
 use crate::limits::{GREATEST_ACCELERATION, LEAST_ACCELERATION};
-use acas_doc::{list, whole_items};
-use acas_input::InputFault;
+use acas_doc::{InputFault, list, whole_items};
 use std::alloc::Global;
 use toml::Table;
 

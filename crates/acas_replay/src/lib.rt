@@ -21,7 +21,7 @@ mod state;
 mod text_laws;
 mod whole;
 
-pub use acas_input::InputFault;
+pub use acas_doc::InputFault;
 pub use contact::has_contact;
 pub use encounter::Encounter;
 pub use laws::{

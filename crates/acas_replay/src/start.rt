@@ -1,14 +1,15 @@
 //! How an encounter starts.
-ghost use Rattle.std.specs.Prelude.{◌≡◌, ◌<◌, IfOk};
+ghost use Rattle.std.specs.Prelude.{◌≡◌, ◌<◌, [], IfOk};
 ghost use Rattle.toml.specs.View.{table_view};
 ghost use Rattle.acas_spec.specs.Axis.{IsBetween};
-ghost use Rattle.acas_input.specs.Answers.{Gives};
+ghost use Rattle.acas_doc.specs.InputAnswers.{Gives};
+ghost use Rattle.acas_doc.specs.Named.{advisory_at};
 ghost use Rattle.acas_replay.specs.Start as rules;
 
 use crate::limits::{GREATEST_START_RANGE, LEAST_START_RANGE};
 use acas_base::Model;
-use acas_doc::whole;
-use acas_input::{InputFault, advisory_at};
+use acas_doc::{InputFault, text, whole};
+use acas_model::advisory_named;
 use acas_units::{
     GREATEST_ALTITUDE, GREATEST_CLOSING, GREATEST_RATE, LEAST_ALTITUDE, LEAST_CLOSING, LEAST_RATE,
     feet_to_ticks,
@@ -43,13 +44,23 @@ fn number_at(
     Ok(whole(alloc, document, b"", key, least, greatest)?)
 }
 
+/// The present advisory that a document names.
+#[tactic(auto, unfolding(acas_doc::specs::Named::advisory_at))]
+fn present_in(alloc: Global, model: &Model, document: &Table) -> Result<u8, InputFault>
+    ensures value { Gives (λ a. a) result (advisory_at model.now (table_view document.now) [] 0) }
+    ensures known { IfOk result (λ a. a < model.now.grid.advisories) }
+{
+    let name = text(alloc, document, b"", "advisory")?;
+    advisory_named(model, name.as_bytes(), 0)
+}
+
 /// The start that a document says.
 #[tactic(auto, unfolding(crate::specs::Start::start_of))]
 pub(crate) fn start_of(alloc: Global, model: &Model, document: &Table) -> Result<Start, InputFault>
     ensures value { Gives (λ s. s) result (rules.start_of model.now (table_view document.now)) }
     ensures known { IfOk result (λ s. s.advisory < model.now.grid.advisories) }
 {
-    let advisory = advisory_at(alloc, model, document, b"", 0)?;
+    let advisory = present_in(alloc, model, document)?;
     let range = number_at(
         alloc,
         document,

@@ -1,7 +1,7 @@
 //! The rules of an encounter's text, in their order.
 ghost use Rattle.std.specs.Prelude.{◌≡◌, IfOk, IfErr};
 ghost use Rattle.toml.specs.View.{table_view};
-ghost use Rattle.acas_input.specs.Answers.{Gives};
+ghost use Rattle.acas_doc.specs.InputAnswers.{Gives};
 ghost use Rattle.acas_replay.specs.Encounter.{IsEncounterOf};
 ghost use Rattle.acas_replay.specs.Whole as rules;
 
@@ -9,8 +9,7 @@ use crate::accelerations::accelerations_at;
 use crate::encounter::Encounter;
 use crate::start::start_of;
 use acas_base::Model;
-use acas_doc::only_keys;
-use acas_input::{InputFault, document_of, version_of};
+use acas_doc::{InputFault, document_of, only_keys, version_of};
 use acas_units::{GREATEST_SECONDS, LEAST_SECONDS};
 use std::alloc::Global;
 use toml::Table;

@@ -17,7 +17,7 @@ use Rattle.acas_table_text.specs.Text.{entry_at}
 use Rattle.acas_accept.specs.GivenTable.{entry_place}
 use Rattle.acas_base.specs.Advices.{AdvicesData, AreAdvicesOf, advice_at}
 use Rattle.acas_outside.specs.Files.{Files}
-use Rattle.acas_input.specs.declared.fault.InputFault.{InputFault}
+use Rattle.acas_doc.specs.declared.input_fault.InputFault.{InputFault}
 use Rattle.acas_model.specs.Whole.{model_of}
 use Rattle.acas_command.specs.InputFile.{IsInputFile}
 use Rattle.acas_command.specs.ModelFile.{IsModelFile}

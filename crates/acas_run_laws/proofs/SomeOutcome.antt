@@ -13,7 +13,7 @@ use Rattle.acas_base.specs.Advices.{AdvicesData}
 use Rattle.acas_outside.specs.Files.{Files}
 use Rattle.acas_flight.specs.Clear.{area_of_box}
 use Rattle.acas_areas.specs.Limits.{IsArea, IsSmall}
-use Rattle.acas_input.specs.declared.fault.InputFault.{InputFault}
+use Rattle.acas_doc.specs.declared.input_fault.InputFault.{InputFault}
 use Rattle.acas_boxes.specs.Rates.{fitting_boxes_of}
 use Rattle.acas_boxes.specs.Text.{IsBoxesText}
 use Rattle.acas_boxes.specs.Whole.{boxes_of}

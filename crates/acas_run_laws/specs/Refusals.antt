@@ -5,7 +5,7 @@ use Rattle.acas_units.specs.declared.limits.TheConstants.{TEXT_BYTES}
 use Rattle.acas_spec.specs.Model.{ModelData}
 use Rattle.acas_model.specs.Whole.{model_of}
 use Rattle.acas_outside.specs.Files.{Files}
-use Rattle.acas_input.specs.declared.fault.InputFault.{InputFault}
+use Rattle.acas_doc.specs.declared.input_fault.InputFault.{InputFault}
 use Rattle.acas_boxes.specs.Rates.{fitting_boxes_of}
 use Rattle.acas_boxes.specs.Whole.{boxes_of}
 use Rattle.acas_replay.specs.Whole.{encounter_of}

@@ -3,8 +3,8 @@ ghost use Rattle.std.specs.Prelude.{◌≡◌, ◌≢◌, ◌⊎◌, ◌+◌, �
 ghost use Rattle.acas_units.specs.declared.limits.TheConstants.{TEXT_BYTES};
 ghost use Rattle.acas_outside.specs.Counts.{Rose};
 ghost use Rattle.acas_outside.specs.Outside.{Outside};
-ghost use Rattle.acas_input.specs.declared.fault.InputFault.{InputFault};
-ghost use Rattle.acas_input.specs.declared.fault.InputFault.TheVariants as inputs;
+ghost use Rattle.acas_doc.specs.declared.input_fault.InputFault.{InputFault};
+ghost use Rattle.acas_doc.specs.declared.input_fault.InputFault.TheVariants as inputs;
 ghost use Rattle.acas_model.specs.declared.fault.ModelFault.{ModelFault};
 ghost use Rattle.acas_model.specs.declared.fault.ModelFault.TheVariants as faults;
 ghost use Rattle.acas_table_text.specs.declared.fault.TableFault.TheVariants as reads;

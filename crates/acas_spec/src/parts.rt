@@ -1,10 +1,10 @@
 //! The parts of a model that are lists in its file.
-use crate::text::Text;
+use crate::name::Name;
 
 /// A vertical advisory: the closed interval of own vertical rates that it asks for, in ft/min.
 #[derive(Drop)]
 pub struct Advisory {
-    pub name: Text,
+    pub name: Name,
     pub lo: i64,
     pub hi: i64,
 }

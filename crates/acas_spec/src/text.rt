@@ -1,4 +1,4 @@
-//! A text, such as the name of an advisory.
+//! A text, such as the path of a key.
 ghost use Rattle.std.specs.Prelude.{◌≡◌};
 
 use std::marker::Model;

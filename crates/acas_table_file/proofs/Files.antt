@@ -22,7 +22,7 @@ use Rattle.acas_command.specs.Calls.{with_model}
 use Rattle.acas_command.specs.Outcome.{Outcome}
 use Rattle.acas_command.specs.Says.{SaysModel}
 use Rattle.acas_command.specs.declared.status.Cause.TheVariants.{Input, Table as Refused}
-use Rattle.acas_input.specs.declared.fault.InputFault.{InputFault}
+use Rattle.acas_doc.specs.declared.input_fault.InputFault.{InputFault}
 use Rattle.acas_command.proofs.Behind.{told-map}
 use Rattle.acas_command.proofs.Refused.{IsNoFileCause, behind-model}
 use Rattle.acas_command.proofs.Says.{file-says, read-model, says-model}

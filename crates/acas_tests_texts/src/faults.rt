@@ -1,8 +1,7 @@
 //! What is said of a text: that it is read, or what is wrong with it, in words.
 use acas_base::Model;
 use acas_boxes::read_boxes;
-use acas_doc::{DocFault, DocKind};
-use acas_input::InputFault;
+use acas_doc::{DocFault, DocKind, InputFault};
 use acas_model::{ModelFault, read_model};
 use acas_replay::read_encounter;
 use acas_tests_data::model_of;

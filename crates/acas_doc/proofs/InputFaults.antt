@@ -7,11 +7,11 @@ use Rattle.acas_doc.specs.declared.fault.DocFault.{DocFault}
 use Rattle.acas_doc.specs.Document.{document_in, document_of}
 use Rattle.acas_doc.specs.Values.{or_fault}
 use Rattle.acas_doc.specs.Keys.{text_at, whole_at}
-use Rattle.acas_input.specs.declared.document.TheConstants.{INPUT_VERSION}
-use Rattle.acas_input.specs.declared.fault.InputFault.{InputFault}
-use Rattle.acas_input.specs.declared.fault.InputFault.TheVariants.{NotToml, Doc, UnknownName}
-use Rattle.acas_input.specs.Document.{in_doc, version_of}
-use Rattle.acas_input.specs.Named.{advisory_at, named, or_unknown}
+use Rattle.acas_doc.specs.declared.input.TheConstants.{INPUT_VERSION}
+use Rattle.acas_doc.specs.declared.input_fault.InputFault.{InputFault}
+use Rattle.acas_doc.specs.declared.input_fault.InputFault.TheVariants.{NotToml, Doc, UnknownName}
+use Rattle.acas_doc.specs.Input.{in_doc, version_of}
+use Rattle.acas_doc.specs.Named.{advisory_at, named, or_unknown}
 
 -- the fault, if there is one, is such
 abbrev pub AnyFaultIs : {A : Type 0} → (InputFault → Type 0) → Result A InputFault → Type 0

@@ -13,10 +13,10 @@ use Rattle.acas_spec.specs.declared.parts.Advisory.{Advisory}
 use Rattle.acas_spec.proofs.Each.{bind_ok, same_ok}
 use Rattle.acas_doc.specs.Keys.{text_at}
 use Rattle.acas_doc.proofs.Holds.{fault_as_ok, text_at_ok, text_at_passes, whole_at_ok, whole_at_passes}
-use Rattle.acas_input.specs.declared.document.TheConstants.{INPUT_VERSION}
-use Rattle.acas_input.specs.declared.fault.InputFault.{InputFault}
-use Rattle.acas_input.specs.Document.{in_doc, version_of}
-use Rattle.acas_input.specs.Named.{advisory_at, named, or_unknown}
+use Rattle.acas_doc.specs.declared.input.TheConstants.{INPUT_VERSION}
+use Rattle.acas_doc.specs.declared.input_fault.InputFault.{InputFault}
+use Rattle.acas_doc.specs.Input.{in_doc, version_of}
+use Rattle.acas_doc.specs.Named.{advisory_at, named, or_unknown}
 
 -- the advisory that a list holds where it ends
 abbrev pub no_advisory : Advisory

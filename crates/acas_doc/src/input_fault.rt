@@ -1,9 +1,9 @@
 //! The first rule that an input's text fails.
 ghost use Rattle.std.specs.Prelude.{◌≡◌};
 ghost use Rattle.acas_doc.specs.Answers.{text_fault};
-ghost use Rattle.acas_input.specs.declared.fault.InputFault.TheVariants.{Doc, Memory};
+ghost use Rattle.acas_doc.specs.declared.input_fault.InputFault.TheVariants.{Doc, Memory};
 
-use acas_doc::{DocError, DocFault};
+use crate::fault::{DocError, DocFault};
 use std::alloc::{AllocError, AllocFailed};
 
 /// The first rule that a text of boxes or of an encounter fails, or `Memory` where there was none to read it. A place is the number

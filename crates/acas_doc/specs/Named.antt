@@ -5,9 +5,9 @@ use Rattle.toml.specs.Data.{Members}
 use Rattle.acas_spec.specs.Steps.{◌>>=◌}
 use Rattle.acas_spec.specs.Model.{ModelData}
 use Rattle.acas_doc.specs.Keys.{text_at}
-use Rattle.acas_input.specs.declared.fault.InputFault.{InputFault}
-use Rattle.acas_input.specs.declared.fault.InputFault.TheVariants.{UnknownName}
-use Rattle.acas_input.specs.Document.{in_doc}
+use Rattle.acas_doc.specs.declared.input_fault.InputFault.{InputFault}
+use Rattle.acas_doc.specs.declared.input_fault.InputFault.TheVariants.{UnknownName}
+use Rattle.acas_doc.specs.Input.{in_doc}
 
 -- the number of the advisory of this name
 abbrev pub named : ModelData → List ℕ → Option ℕ

@@ -4,9 +4,9 @@ use Rattle.toml.specs.Data.{Members}
 use Rattle.acas_spec.specs.Steps.{fault_as}
 use Rattle.acas_doc.specs.declared.fault.DocFault.{DocFault}
 use Rattle.acas_doc.specs.Keys.{whole_at}
-use Rattle.acas_input.specs.declared.document.TheConstants.{INPUT_VERSION}
-use Rattle.acas_input.specs.declared.fault.InputFault.{InputFault}
-use Rattle.acas_input.specs.declared.fault.InputFault.TheVariants.{Doc}
+use Rattle.acas_doc.specs.declared.input.TheConstants.{INPUT_VERSION}
+use Rattle.acas_doc.specs.declared.input_fault.InputFault.{InputFault}
+use Rattle.acas_doc.specs.declared.input_fault.InputFault.TheVariants.{Doc}
 
 -- a fault of a key is a fault of the input
 abbrev pub in_doc : {A : Type 0} → Result A DocFault → Result A InputFault

@@ -1,3 +1,0 @@
-pub mod Answers
-pub mod Document
-pub mod Named
