@@ -3,6 +3,7 @@ use Rattle.std.proofs.Common.{◌≡◌, ◌∙◌, ap, sym, arith}
 use Rattle.std.proofs.lemmas.Grind.{common_steps}
 use Rattle.acas_table_text.specs.Text.{entry_at}
 use Rattle.acas_table.proofs.Looks.{alone_given, moved_given, passed_given, stopped_given}
+use Rattle.acas_table.proofs.Standing.{behind_ended, start_behind}
 use Rattle.acas_table.proofs.Answered.{answered}
 use Rattle.acas_table.proofs.body.read_entry.Goals.{in-Some+in_ok-check_digest, in_default}
 use Rattle.acas_table.proofs.body.read_entry.Goals as goal
@@ -36,3 +37,9 @@ returns-clause-reads g c = grind (arith, common_steps)
 
 pub returns-clause-mark : goal.returns-clause-mark
 returns-clause-mark g c = grind (arith, common_steps)
+
+pub read_bytes-requires-clause-stands : goal.read_bytes-requires-clause-stands
+read_bytes-requires-clause-stands g c = grind (arith, behind_ended, start_behind)
+
+pub returns-clause-place : goal.returns-clause-place
+returns-clause-place g c = grind (arith, behind_ended, start_behind)
