@@ -1,4 +1,5 @@
 use Rattle.std.proofs.Common.{◌≡◌, true, ◌<◌, ◌++◌, List, ℕ, ◌∙◌, sym, subst, arith}
+use Rattle.std.proofs.lemmas.Grind.{common_steps}
 use Rattle.acas_cells.specs.Cells.{Cell, cell_at}
 use Rattle.acas_cells.specs.Corners.{is_clear_cell}
 use Rattle.acas_outside.specs.Bytes.{AppendsPart}
@@ -72,3 +73,21 @@ returns-clause-ok g c =
     let same : c.standing-outlook.result ≡ found cell = found_is m a found cell c.standing-outlook.result c.grid.ensures.valid c.requires.cell looked c.standing-outlook.ensures are in
     subst (λ (l : List ℕ). Prints (g.S.Sink.written c.args.sink.now) (g.S.Sink.written c.print.new.sink) c.args.pen.now.buffer c.print.new.self l)
     (c.bytes.ensures ∙ c.write_cell_line.ensures.value ∙ looked_text m a found cell c.standing-outlook.result looked same) c.in_ok-print.ensures.ok
+
+pub returns-then-not-is_clear-clause-counted : goal.returns-then-not-is_clear-clause-counted
+returns-then-not-is_clear-clause-counted g c = grind (arith, common_steps)
+
+pub returns-then-cell-eq0-clause-counted : goal.returns-then-cell-eq0-clause-counted
+returns-then-cell-eq0-clause-counted g c = grind (arith, common_steps)
+
+pub returns-then-not-is_clear-clause-frame : goal.returns-then-not-is_clear-clause-frame
+returns-then-not-is_clear-clause-frame g c = grind (arith, common_steps)
+
+pub returns-then-cell-eq0-clause-frame : goal.returns-then-cell-eq0-clause-frame
+returns-then-cell-eq0-clause-frame g c = grind (arith, common_steps)
+
+pub returns-in_err-print-clause-frame : goal.returns-in_err-print-clause-frame
+returns-in_err-print-clause-frame g c = grind (arith, common_steps)
+
+pub returns-clause-frame : goal.returns-clause-frame
+returns-clause-frame g c = grind (arith, common_steps)

@@ -10,3 +10,6 @@ returns-then-altitudes-eq1-clause-others c = grind (arith, common_steps)
 
 pub returns-else-altitudes-eq1-clause-best : goal.returns-else-altitudes-eq1-clause-best
 returns-else-altitudes-eq1-clause-best c = grind (arith, common_steps)
+
+pub write_best-requires-clause-priced : goal.write_best-requires-clause-priced
+write_best-requires-clause-priced c = grind (arith, common_steps)

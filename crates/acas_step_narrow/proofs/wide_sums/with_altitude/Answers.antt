@@ -26,3 +26,9 @@ returns-clause-lower_room c = grind (arith, common_steps)
 
 pub returns-clause-upper_room : goal.returns-clause-upper_room
 returns-clause-upper_room c = search rules
+
+pub with_pair-three-requires : goal.with_pair-three-requires
+with_pair-three-requires c = grind (arith, common_steps)
+
+pub with_pair-requires : goal.with_pair-requires
+with_pair-requires c = grind (arith, common_steps)

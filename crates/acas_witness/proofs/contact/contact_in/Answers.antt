@@ -5,6 +5,10 @@ use Rattle.acas_flight.specs.Clear.{Area, IsEndangeredDuring}
 use Rattle.acas_areas.specs.View.{times_of}
 use Rattle.acas_witness.proofs.contact.contact_in.Goals as goal
 
+pub returns-then-is_clear-clause-exact : goal.returns-then-is_clear-clause-exact
+returns-then-is_clear-clause-exact c =
+    (λ _. c.is_clear.ensures.safe c.if-is_clear.true, λ _. c.is_clear.ensures.exact.0 c.if-is_clear.true)
+
 pub returns-then-is_clear-clause-cell : goal.returns-then-is_clear-clause-cell
 returns-then-is_clear-clause-cell c = λ n i j k e w d.
     let m = c.args.model.now in
