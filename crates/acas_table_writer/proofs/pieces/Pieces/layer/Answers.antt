@@ -148,3 +148,24 @@ returns-in-Whole g c =
       hashed = λ m holds. rw c.in-Whole.is (subst (λ (l : List ℕ). Holds c.loop-at.self (m ++ l)) all (c.loop-at.invariant.hashed m holds));
       frame = writes_same g.F.Folder _ _ _ _ no_err c.loop-at.invariant.frame;
     }
+
+pub encode-requires-clause-bound : goal.encode-requires-clause-bound
+encode-requires-clause-bound g c = grind (arith, common_steps)
+
+pub encode-requires-clause-long : goal.encode-requires-clause-long
+encode-requires-clause-long g c = grind (arith, common_steps)
+
+pub front-requires-clause-within : goal.front-requires-clause-within
+front-requires-clause-within g c = grind (arith, common_steps)
+
+pub overflow_mul-count : goal.overflow_mul-count
+overflow_mul-count g c = grind (arith, common_steps)
+
+pub returns-in-Layered-clause-hashed : goal.returns-in-Layered-clause-hashed
+returns-in-Layered-clause-hashed g c = grind (arith, common_steps)
+
+pub loop-at-smaller : goal.loop-at-smaller
+loop-at-smaller g c = grind (arith, common_steps)
+
+pub overflow_add-at-in-loop-at-2 : goal.overflow_add-at-in-loop-at-2
+overflow_add-at-in-loop-at-2 g c = grind (arith, common_steps)
