@@ -1,2 +1,3 @@
+pub mod Ended
 mod Swept
 pub mod Worth

@@ -6,6 +6,8 @@ use Rattle.std.proofs.lemmas.List.{take-append-drop}
 use Rattle.std.proofs.lemmas.List.FromFn.{get_or-map-range_with_len, length-map-range_with_len, map-range_with_len_more, take-map-range_with_len}
 use Rattle.acas_units.specs.declared.pair.Entry.{Entry}
 use Rattle.acas_outside.specs.Files.{Files, Grows, GrowsPart, Stores, StoresPart}
+use Rattle.acas_outside.specs.Frame.{OnlyWrites}
+use Rattle.acas_outside.specs.declared.folder.Folder.{Ghosts as FolderMeanings}
 use Rattle.acas_table_text.specs.Growth.{base, front, layer_bytes, text_behind}
 use Rattle.acas_table_text.specs.Text.{header}
 use Rattle.acas_table_text.specs.declared.format.Format.TheVariants.{Layered}
@@ -112,3 +114,7 @@ module _ (digest : List ℕ) (s : TableShape) (layer : ℕ → List Entry) where
       → (new ≡ old) ⊎ StoresPart old new name (text_of_all digest s layer)
   start_is old new name w state either =
       ⊎_elim (λ (same : new ≡ old). inl same) (λ (part : StoresPart old new name w.head). inr (part_of_first old new name w state part)) either
+
+-- two calls that wrote
+pub writes_then : {F : Type 0} (d : FolderMeanings F) (a b c : F) (A B : Type 0) → OnlyWrites d a b A → OnlyWrites d b c B → OnlyWrites d a c B
+writes_then d a b c A B v w = record { serves = w.serves ∙ v.serves; misses = w.misses ∙ v.misses; taken = w.taken ∙ v.taken; faults = omega (arith, v.faults, w.faults); fault = λ f. omega (arith, v.faults, w.fault f) }

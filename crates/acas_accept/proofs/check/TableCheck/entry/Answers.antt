@@ -1,6 +1,7 @@
 use Rattle.std.proofs.Common.{List, None, Some, Ok, Err, subst, arith}
 use Rattle.acas_units.specs.declared.pair.Pair.{Pair}
 use Rattle.acas_table.specs.Reader.{reader_state, GivesEntry, HasRead}
+use Rattle.std.proofs.lemmas.Grind.{common_steps}
 use Rattle.acas_accept.proofs.Planes.{allowed_at, says_at}
 use Rattle.acas_accept.proofs.Steps.{IsOn, Keeps, Says, check_next, fault_answered, unsound_answered, in_layer_next, more_entries}
 use Rattle.acas_table.proofs.Told.{told_both, told_map}
@@ -48,3 +49,12 @@ returns-in-Err-check_at-clause-given g c = λ digest.
     (λ bytes gives within.
     unsound_answered c.args.model.now digest c.args.self.now c.args.n c.args.state bytes c.in-Ok.entry c.in-Err-check_at.fault c.requires.check c.requires.at.seconds c.requires.at.inside within (gives within.accepted.stands) says)
     (c.in-Ok.ensures.given digest)
+
+pub returns-in-Err-clause-reads : goal.returns-in-Err-clause-reads
+returns-in-Err-clause-reads g c = grind (arith, common_steps)
+
+pub returns-in-Ok-check_at-clause-reads : goal.returns-in-Ok-check_at-clause-reads
+returns-in-Ok-check_at-clause-reads g c = grind (arith, common_steps)
+
+pub returns-in-Err-check_at-clause-reads : goal.returns-in-Err-check_at-clause-reads
+returns-in-Err-check_at-clause-reads g c = grind (arith, common_steps)

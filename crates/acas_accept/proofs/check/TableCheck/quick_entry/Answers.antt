@@ -1,6 +1,7 @@
-use Rattle.std.proofs.Common.{◌∙◌, List, None, refl, ap, subst}
+use Rattle.std.proofs.Common.{◌∙◌, List, None, refl, ap, subst, arith}
 use Rattle.acas_units.specs.declared.pair.Pair.{Pair}
 use Rattle.acas_table.specs.Reader.{ReaderState}
+use Rattle.std.proofs.lemmas.Grind.{common_steps}
 use Rattle.acas_accept.proofs.Planes.{allowed_at, says_at}
 use Rattle.acas_accept.proofs.Steps.{IsOn, Keeps, Says, check_next, in_layer_next, more_entries}
 use Rattle.acas_accept.proofs.check.TableCheck.quick_entry.Goals as goal
@@ -33,3 +34,18 @@ returns-clause-given c = λ yes digest bytes within.
     record { reader = c.keep.ensures.reader; means = c.keep.ensures.means; leasts = c.keep.ensures.leasts; pairs = c.keep.ensures.pairs; advice = c.keep.ensures.advice } in
     in_layer_next c.args.model.now digest old c.pass.new.self c.keep.new.self c.args.n c.args.state bytes c.in-Some.entry c.requires.check c.requires.n c.requires.state within
     (c.pass.ensures.given c.in-Some.entry c.in-Some.ensures.at_hand digest bytes within.accepted.stands) (c.pass.ensures.stands digest bytes within.accepted.stands) says keeps
+
+pub returns-then-not-found : goal.returns-then-not-found
+returns-then-not-found c = grind (arith, common_steps)
+
+pub returns-in_default : goal.returns-in_default
+returns-in_default c = grind (arith, common_steps)
+
+pub returns-then-not-is_sound_at : goal.returns-then-not-is_sound_at
+returns-then-not-is_sound_at c = grind (arith, common_steps)
+
+pub is_sound_at-requires-clause-narrow : goal.is_sound_at-requires-clause-narrow
+is_sound_at-requires-clause-narrow c = grind (arith, common_steps)
+
+pub returns-clause-taken : goal.returns-clause-taken
+returns-clause-taken c = grind (arith, common_steps)

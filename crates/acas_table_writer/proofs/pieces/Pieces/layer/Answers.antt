@@ -1,13 +1,14 @@
-use Rattle.std.proofs.Common.{◌≡◌, ◌+◌, ◌-◌, ◌*◌, ◌≤◌, [], ◌++◌, List, ℕ, length, take, drop, arith, refl, sym, ◌∙◌, ap, subst, append_assoc}
+use Rattle.std.proofs.Common.{true, false, ◌≡◌, ◌+◌, ◌-◌, ◌*◌, ◌≤◌, [], ◌++◌, List, ℕ, length, take, drop, arith, refl, sym, ◌∙◌, ap, subst, append_assoc}
 use Rattle.std.proofs.lemmas.List.{append-nil, length-drop, length-take-le, take_all}
 use Rattle.std.proofs.lemmas.Grind.{common_steps}
-use Rattle.std.proofs.lemmas.Result.{on_ok_weaker, on_err_weaker}
+use Rattle.std.proofs.lemmas.Result.{err_from_is_err_and, on_ok_weaker, on_err_weaker}
 use Rattle.sha2.specs.Sha256.{sha256}
 use Rattle.acas_units.specs.declared.pair.Entry.{Entry}
 use Rattle.acas_units.specs.declared.pair.Pair.{Pair}
 use Rattle.acas_outside.specs.Files.{Grows, GrowsPart}
 use Rattle.acas_outside.proofs.Grown.{grows_none, held_grown}
-use Rattle.acas_outside.proofs.Appended.{on_err_always}
+use Rattle.acas_outside.specs.Frame.{OnlyWrites}
+use Rattle.acas_outside.specs.declared.folder.Folder.{Ghosts as FolderMeanings}
 use Rattle.acas_table_writer.specs.Pieces.{Holds}
 use Rattle.acas_table_text.specs.Growth.{layer_bytes}
 use Rattle.acas_table_text.specs.Text.{layer_text, layer_of}
@@ -16,6 +17,16 @@ use Rattle.acas_table_text.specs.declared.format.Format.TheVariants.{Layered, Wh
 use Rattle.acas_table_text.proofs.Layers.{text_piece, text_split}
 use Rattle.acas_table_writer.proofs.Growing.{grows_as, grows_then, part_then}
 use Rattle.acas_table_writer.proofs.pieces.Pieces.layer.Goals as goal
+
+-- two calls that wrote, and one that did not fail
+writes_then : {F : Type 0} (d : FolderMeanings F) (a b c : F) (A B : Type 0) → OnlyWrites d a b A → OnlyWrites d b c B → OnlyWrites d a c B
+writes_then d a b c A B v w = record { serves = w.serves ∙ v.serves; misses = w.misses ∙ v.misses; taken = w.taken ∙ v.taken; faults = omega (arith, v.faults, w.faults); fault = λ f. omega (arith, v.faults, w.fault f) }
+
+writes_same : {F : Type 0} (d : FolderMeanings F) (a b : F) (A B : Type 0) → (B → A) → OnlyWrites d a b A → OnlyWrites d a b B
+writes_same d a b A B is w = record { serves = w.serves; misses = w.misses; taken = w.taken; faults = w.faults; fault = λ f. w.fault (is f) }
+
+no_err : {A : Type 0} → false ≡ true → A
+no_err is = cc
 
 pub loop-at-init : goal.loop-at-init
 loop-at-init g c = record {
@@ -47,8 +58,8 @@ begins_so : (f : Format) (m : List ℕ) (layer : List Entry) → layer_text laye
 begins_so Whole m layer = append-nil (layer_text layer)
 begins_so Layered m layer = refl
 
-pub returns-in_err-front-clause-err : goal.returns-in_err-front-clause-err
-returns-in_err-front-clause-err g c = λ m holds.
+pub returns-in_err-front : goal.returns-in_err-front
+returns-in_err-front g c =
     let at = c.loop-at.at in
     let n = c.min-count.result in
     let ps = c.args.pairs.now in
@@ -57,13 +68,19 @@ returns-in_err-front-clause-err g c = λ m holds.
     let within : c.loop-at.at + c.min-count.result ≤ length c.args.pairs.now = grind (arith, common_steps) in
     let text = piece_text ps vs c.encode.new.self.buffer.items at n within c.encode.ensures.text in
     let behind : List ℕ = layer_text (layer_of (drop (at + n) ps) (drop (at + n) vs)) in
-    let rest : List ℕ = layer_rest c.args.format m layer in
     let so_far : List ℕ = layer_text (layer_of (take at ps) (take at vs)) in
     let piece : List ℕ = layer_text (layer_of (take (at + n - at) (drop at ps)) (take (at + n - at) (drop at vs))) in
-    on_err_always _
-    (part_then _ _ _ c.args.name.now so_far piece (behind ++ rest) _
-    (longer so_far piece behind rest _ _ (text_split ps vs at n c.requires.long within) (begins_so c.args.format m layer))
-    c.loop-at.invariant.grown (subst (λ (l : List ℕ). GrowsPart (g.F.Folder.holds c.loop-at.folder) (g.F.Folder.holds c.front.new.folder) c.args.name.now l) text c.in_err-front.ensures.err))
+    let p = err_from_is_err_and c.from_residual.result c.from_residual.ensures.1 in
+    rw p.1 (record {
+      ok = λ m holds. tt;
+      err = λ m holds.
+          let rest : List ℕ = layer_rest c.args.format m layer in
+          (part_then _ _ _ c.args.name.now so_far piece (behind ++ rest) _
+          (longer so_far piece behind rest _ _ (text_split ps vs at n c.requires.long within) (begins_so c.args.format m layer))
+          c.loop-at.invariant.grown (subst (λ (l : List ℕ). GrowsPart (g.F.Folder.holds c.loop-at.folder) (g.F.Folder.holds c.front.new.folder) c.args.name.now l) text c.in_err-front.ensures.err));
+      hashed = λ m holds. tt;
+      frame = writes_then g.F.Folder _ _ _ _ _ c.loop-at.invariant.frame c.in_err-front.ensures.frame;
+    })
 
 pub loop-at-preserved : goal.loop-at-preserved
 loop-at-preserved g c =
@@ -117,3 +134,38 @@ returns-in-Layered-clause-err g c = λ m holds.
     (λ part. part_then _ _ _ c.args.name.now (layer_text layer) (sha256 (m ++ layer_text layer)) [] _ (append-nil _ ∙ sym whole)
     (grows_as _ _ c.args.name.now _ _ (sym all) c.loop-at.invariant.grown) part)
     (c.digest.ensures.err (m ++ layer_text layer) (subst (λ (l : List ℕ). Holds c.loop-at.self (m ++ l)) all (c.loop-at.invariant.hashed m holds)))
+
+pub returns-in-Layered-clause-frame : goal.returns-in-Layered-clause-frame
+returns-in-Layered-clause-frame g c = writes_then g.F.Folder _ _ _ _ _ c.loop-at.invariant.frame c.digest.ensures.frame
+
+pub returns-in-Whole : goal.returns-in-Whole
+returns-in-Whole g c =
+    let layer = layer_of c.args.pairs.now c.args.advice.now in
+    let past : length c.args.pairs.now ≤ c.loop-at.at = grind (arith, common_steps) in
+    let all = text_taken c.args.pairs.now c.args.advice.now c.loop-at.at past c.requires.long in record {
+      ok = λ m holds. grows_as _ _ c.args.name.now _ _ (ap (λ (f : Format). layer_bytes f m layer) c.in-Whole.is ∙ sym all) c.loop-at.invariant.grown;
+      err = λ m holds. tt;
+      hashed = λ m holds. rw c.in-Whole.is (subst (λ (l : List ℕ). Holds c.loop-at.self (m ++ l)) all (c.loop-at.invariant.hashed m holds));
+      frame = writes_same g.F.Folder _ _ _ _ no_err c.loop-at.invariant.frame;
+    }
+
+pub encode-requires-clause-bound : goal.encode-requires-clause-bound
+encode-requires-clause-bound g c = grind (arith, common_steps)
+
+pub encode-requires-clause-long : goal.encode-requires-clause-long
+encode-requires-clause-long g c = grind (arith, common_steps)
+
+pub front-requires-clause-within : goal.front-requires-clause-within
+front-requires-clause-within g c = grind (arith, common_steps)
+
+pub overflow_mul-count : goal.overflow_mul-count
+overflow_mul-count g c = grind (arith, common_steps)
+
+pub returns-in-Layered-clause-hashed : goal.returns-in-Layered-clause-hashed
+returns-in-Layered-clause-hashed g c = grind (arith, common_steps)
+
+pub loop-at-smaller : goal.loop-at-smaller
+loop-at-smaller g c = grind (arith, common_steps)
+
+pub overflow_add-at-in-loop-at-2 : goal.overflow_add-at-in-loop-at-2
+overflow_add-at-in-loop-at-2 g c = grind (arith, common_steps)

@@ -1,0 +1,12 @@
+use Rattle.std.proofs.Common.{arith}
+use Rattle.std.proofs.lemmas.Grind.{common_steps}
+use Rattle.acas_table_rows.proofs.entry_lines.write_entry.Goals as goal
+
+pub push-requires-2 : goal.push-requires-2
+push-requires-2 c = grind (arith, common_steps)
+
+pub push-requires-3 : goal.push-requires-3
+push-requires-3 c = grind (arith, common_steps)
+
+pub returns-clause-short : goal.returns-clause-short
+returns-clause-short c = grind (arith, common_steps)
