@@ -33,6 +33,7 @@ WEIGHTS = {
     "acas_frac": 5,
     "acas_grid": 5,
     "acas_hunt_lemmas": 1,
+    "acas_input": 3,
     "acas_intruder": 4,
     "acas_manoeuvre_lemmas": 2,
     "acas_means": 5,

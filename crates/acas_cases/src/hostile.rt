@@ -1,7 +1,8 @@
 //! A folder of which a file never ends, and an output that takes nothing.
 ghost use Rattle.std.specs.Prelude.{None, true};
 
-use acas_outside::{Failed, Folder, MemoryFolder, MemorySink, ReadMiss, Sink};
+use acas_memory_sink::MemorySink;
+use acas_outside::{Failed, Folder, MemoryFolder, ReadMiss, Sink};
 
 /// A folder in memory of which one file never ends. It tells nothing.
 #[derive(Drop)]

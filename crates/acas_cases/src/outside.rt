@@ -2,7 +2,8 @@
 use crate::hostile::{Endless, Stuck};
 use crate::texts::words_of;
 use acas_cli::{Cause, FileRole, Status, Work, run};
-use acas_outside::{MemoryFolder, MemorySink};
+use acas_memory_sink::MemorySink;
+use acas_outside::MemoryFolder;
 use std::alloc::Global;
 use std::process::Abort;
 

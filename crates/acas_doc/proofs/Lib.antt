@@ -4,5 +4,3 @@ pub mod LeastUnknown
 pub mod Holds
 pub mod Documents
 mod WholeItems
-pub mod InputKeys
-pub mod InputFaults

@@ -6,4 +6,3 @@ pub mod Document
 pub mod Answers
 pub mod InputAnswers
 pub mod Input
-pub mod Named

@@ -5,7 +5,6 @@ pub mod Frame
 pub mod Whole
 pub mod Outside
 pub mod Calls
-pub mod MemorySink
 pub mod Stored
 pub mod MemoryFolder
 pub mod Printing

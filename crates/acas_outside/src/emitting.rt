@@ -1,5 +1,5 @@
 //! Bytes that are appended to a sink, over short writes.
-ghost use Rattle.std.specs.Prelude.{◌++◌, IsErr, OnOk, OnErr};
+ghost use Rattle.std.specs.Prelude.{IsErr, OnOk, OnErr};
 ghost use Rattle.acas_outside.specs.Bytes.{Appends, AppendsPart, joined};
 ghost use Rattle.acas_outside.specs.Frame.{Emits};
 
@@ -33,21 +33,4 @@ pub fn emit_parts<S: Sink>(sink: &mut S, parts: &[&[u8]]) -> Result<(), Failed>
         emit(sink, part)?;
     }
     Ok(())
-}
-
-/// Appends all bytes of four parts, which may be borrowed from four places.
-pub fn emit_four<'p, S: Sink>(
-    sink: &mut S,
-    first: &'p [u8],
-    second: &'p [u8],
-    third: &'p [u8],
-    fourth: &'p [u8],
-) -> Result<(), Failed>
-    ensures ok { let all = first.now ++ second.now ++ third.now ++ fourth.now in
-        OnOk result (Appends (S.written sink.old) (S.written sink.new) all) }
-    ensures err { let all = first.now ++ second.now ++ third.now ++ fourth.now in
-        OnErr result (AppendsPart (S.written sink.old) (S.written sink.new) all) }
-    ensures frame { Emits S.Sink sink.old sink.new (IsErr result) }
-{
-    emit_parts(sink, &[first, second, third, fourth])
 }

@@ -2,7 +2,7 @@
 //! printed piece by piece: a buffer that gathers pieces to blocks, so that a line costs no call on its sink, a pen that builds lines over
 //! it, and, in `proofs/`, what a loop over pieces keeps and what a failure in it leaves.
 //!
-//! A folder or a sink in memory tells what it holds. The files and streams of the system tell nothing.
+//! A folder in memory tells what it holds. The files and streams of the system tell nothing.
 #![tactic(auto)]
 
 mod calls;
@@ -10,7 +10,6 @@ mod emitting;
 mod folder;
 mod listed_calls;
 mod memory_folder;
-mod memory_sink;
 mod pen;
 mod print_buffer;
 mod print_fault;
@@ -21,10 +20,10 @@ mod storing;
 mod whole;
 
 pub use calls::Calls;
-pub use emitting::{emit, emit_four, emit_parts};
+pub use emitting::{emit, emit_parts};
 pub use folder::{Folder, ReadMiss};
+pub use listed_calls::ListedCalls;
 pub use memory_folder::MemoryFolder;
-pub use memory_sink::MemorySink;
 pub use pen::Pen;
 pub use print_buffer::{BLOCK_BYTES, PrintBuffer};
 pub use print_fault::PrintFault;

@@ -4,14 +4,15 @@ ghost use Rattle.acas_outside.specs.Counts.{raised};
 
 /// The calls of one kind: the numbers of those that are to fail, how many were made, and how many failed.
 #[derive(Drop)]
-pub(crate) struct ListedCalls {
-    pub(crate) listed: Vec<u64>,
-    pub(crate) made: u64,
-    pub(crate) failed: u64,
+pub struct ListedCalls {
+    pub listed: Vec<u64>,
+    pub made: u64,
+    pub failed: u64,
 }
 
 impl ListedCalls {
-    pub(crate) fn new(listed: Vec<u64>) -> ListedCalls
+    /// Calls of which those of these numbers are to fail.
+    pub fn new(listed: Vec<u64>) -> ListedCalls
         ensures listed { result.listed.items ≡ listed.items }
         ensures made { result.made ≡ 0 }
         ensures failed { result.failed ≡ 0 }
@@ -23,8 +24,8 @@ impl ListedCalls {
         }
     }
 
-    // Counts a call, and says whether it is to fail.
-    pub(crate) fn count(&mut self) -> bool
+    /// Counts a call, and says whether it is to fail.
+    pub fn count(&mut self) -> bool
         ensures listed { IsTrue result ↔ Contains self.old.listed.items self.old.made }
         ensures made { self.new ≡ record self.old { made = raised self.old.made 1 } }
     {

@@ -5,7 +5,7 @@ ghost use Rattle.acas_outside.specs.Bytes.{AppendsPart};
 ghost use Rattle.acas_outside.specs.Files.{Files, GrowsPart, StoresPart};
 ghost use Rattle.acas_outside.specs.Frame.{Emits, OnlyReads, OnlyWrites, ReadsAndWrites};
 ghost use Rattle.acas_outside.specs.MemoryFolder.{AppendsInMemory, FolderState, ReadsInMemory};
-ghost use Rattle.acas_outside.specs.MemorySink.{SinkState, WritesInMemory};
+ghost use Rattle.acas_memory_sink.specs.MemorySink.{SinkState, WritesInMemory};
 
 use acas_outside::{Folder, Sink};
 

@@ -3,7 +3,7 @@ ghost use Rattle.std.specs.Prelude.{◌≤◌};
 
 use acas_command::Cause;
 use acas_drill::drill;
-use acas_outside::MemorySink;
+use acas_memory_sink::MemorySink;
 use acas_step_columns::StencilMeans;
 use acas_units::GREATEST_DRILL_NUMBER;
 use std::alloc::Global;

@@ -1,10 +1,8 @@
 //! Folders and outputs in memory, of which calls fail, and a buffer before them.
 ghost use Rattle.std.specs.Prelude.{IsTrue};
 
-use acas_outside::{
-    Failed, Folder, MemoryFolder, MemorySink, PrintBuffer, ReadFault, ReadMiss, Sink, emit,
-    emit_four, emit_parts, read_whole, store_file, write_piece,
-};
+use acas_memory_sink::MemorySink;
+use acas_outside::{Failed, Folder, MemoryFolder, PrintBuffer, ReadFault, ReadMiss, Sink, emit, emit_parts, read_whole, store_file, write_piece};
 use std::alloc::{AllocError, Global};
 
 // A folder of which the reads, creates and appends of these numbers fail.
@@ -91,7 +89,10 @@ pub fn emit_all<S: Sink>(sink: &mut S) -> Result<(), Failed> {
         sink,
         &[b" two".as_slice(), b"".as_slice(), b" three".as_slice()],
     )?;
-    emit_four(sink, b" f", b"o", b"u", b"r")
+    emit_parts(
+        sink,
+        &[b" f".as_slice(), b"o".as_slice(), b"u".as_slice(), b"r".as_slice()],
+    )
 }
 
 // A name, a call, what is to come of it, and what the name holds afterwards.

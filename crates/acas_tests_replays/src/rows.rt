@@ -1,6 +1,7 @@
 //! Rows: a model, the advices of a table, an encounter, and how it is replayed.
 use crate::parts::{Encountered, advices_of, encounter_of, model_with};
-use acas_outside::{MemorySink, PrintFault};
+use acas_memory_sink::MemorySink;
+use acas_outside::PrintFault;
 use acas_replay::replay;
 use std::alloc::Global;
 

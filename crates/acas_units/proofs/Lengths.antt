@@ -1,8 +1,7 @@
 -- How many bytes the texts of numbers have.
-use Rattle.std.proofs.Common.{◌≡◌, ℕ, suc, ◌/◌, ◌^◌, ◌<◌, ◌≤◌, ℤ, pos, negsuc, unsigned_abs, ◌∷◌, ◌++◌, length, refl, arith, length-append}
-use Rattle.std.specs.Fmt.{decimal, signed_decimal}
+use Rattle.std.proofs.Common.{suc, ◌^◌, ◌<◌, ◌≤◌, ℤ, pos, negsuc, unsigned_abs, length, arith}
+use Rattle.std.specs.Fmt.{signed_decimal}
 use Rattle.std.proofs.lemmas.Fmt.{length-decimal-le_wide}
-use Rattle.acas_units.specs.Printed.{millionths_text, sign_text, six_digits}
 
 -- a whole number of 128 bits has at most 40: a sign and 39 digits
 pub length_signed_decimal_le : (z : ℤ) → unsigned_abs z < 2 ^ 128 → length (signed_decimal z) ≤ 40
@@ -10,25 +9,3 @@ length_signed_decimal_le (pos n) small =
     omega (arith, length-decimal-le_wide 39 n (omega arith) (omega (arith, small)) (omega (arith, small)))
 length_signed_decimal_le (negsuc n) small =
     omega (arith, length-decimal-le_wide 39 (suc n) (omega arith) (omega (arith, small)) (omega (arith, small)))
-
-length_sign_text_le : (z : ℤ) → length (sign_text z) ≤ 1
-length_sign_text_le (pos n) = omega arith
-length_sign_text_le (negsuc n) = omega arith
-
-length_six_digits : (n : ℕ) → length (six_digits n) ≡ 6
-unfolding six_digits
-length_six_digits n = refl
-
--- a number of at most 10^30 millionths has at most 33: a sign, 25 digits, a point and six digits
-pub length_millionths_le : (z : ℤ) → unsigned_abs z ≤ 10 ^ 30 → length (millionths_text z) ≤ 33
-length_millionths_le z small =
-    let n = unsigned_abs z in
-    let whole : length (decimal (n / 1000000)) ≤ 25 = length-decimal-le_wide 25 (n / 1000000) (omega arith) (omega (arith, small)) (omega (arith, small)) in
-    omega (
-      arith,
-      whole,
-      length_sign_text_le z,
-      length_six_digits n,
-      length-append (sign_text z ++ decimal (n / 1000000)) (46 ∷ six_digits n),
-      length-append (sign_text z) (decimal (n / 1000000)),
-    )

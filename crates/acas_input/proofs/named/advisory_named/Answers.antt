@@ -1,7 +1,7 @@
 use Rattle.std.proofs.Common.{bytes_eq, sym, arith}
 use Rattle.std.proofs.lemmas.List.Quantifiers.{position-Some}
-use Rattle.acas_doc.proofs.InputKeys.{no_advisory}
-use Rattle.acas_model.proofs.named.advisory_named.Goals as goal
+use Rattle.acas_input.proofs.Keys.{no_advisory}
+use Rattle.acas_input.proofs.named.advisory_named.Goals as goal
 
 pub returns-in-Some-clause-range : goal.returns-in-Some-clause-range
 returns-in-Some-clause-range c =

@@ -1,8 +1,7 @@
 //! A sink in memory, whose listed calls fail.
 ghost use Rattle.std.specs.Prelude.{◌≡◌, ◌≤◌, IfOk};
 
-use crate::listed_calls::ListedCalls;
-use crate::sink::{Failed, Sink};
+use acas_outside::{Failed, ListedCalls, Sink};
 use std::alloc::{AllocError, Global};
 
 /// A sink in memory, which tells what was written. It takes at most `most` bytes per write, and its listed writes
@@ -17,7 +16,7 @@ pub struct MemorySink {
 }
 
 impl MemorySink {
-    ghost use Rattle.acas_outside.specs.MemorySink.{sink_state, new_sink};
+    ghost use Rattle.acas_memory_sink.specs.MemorySink.{sink_state, new_sink};
 
     /// A sink to which nothing is written. `writes` are the numbers of the writes that are to fail, counted from 0,
     /// and `most` is the greatest number of bytes per write, at least 1.
@@ -59,7 +58,7 @@ impl Sink for MemorySink {
     ghost use Rattle.std.specs.Prelude.{◌≡◌, ◌≤◌, ◌<◌, length, take, IfOk, OnErr, Some};
     ghost use Rattle.acas_outside.specs.Bytes.{Appends};
     ghost use Rattle.acas_outside.specs.Counts.{Rose};
-    ghost use Rattle.acas_outside.specs.MemorySink.{sink_state, faults_of, WritesInMemory};
+    ghost use Rattle.acas_memory_sink.specs.MemorySink.{sink_state, faults_of, WritesInMemory};
 
     ghost written = { λ sink. Some (sink_state sink).written };
 

@@ -3,7 +3,7 @@ use Rattle.std.specs.Prelude.{◌≡◌, ◌⊎◌, ℕ, ◌+◌, min, List, [],
 use Rattle.acas_outside.specs.Calls.{CallState, call_state, no_calls, made_one, failed_one, IsListed}
 use Rattle.acas_outside.specs.Counts.{raised}
 use Rattle.acas_outside.specs.declared.sink.Failed.{Failed}
-use Rattle.acas_outside.specs.declared.memory_sink.MemorySink.{MemorySink}
+use Rattle.acas_memory_sink.specs.declared.memory_sink.MemorySink.{MemorySink}
 
 pub record SinkState : Type 0 where
   -- all that was written

@@ -16,7 +16,7 @@ use Rattle.acas_doc.proofs.Holds.{fault_as_ok, text_at_ok, text_at_passes, whole
 use Rattle.acas_doc.specs.declared.input.TheConstants.{INPUT_VERSION}
 use Rattle.acas_doc.specs.declared.input_fault.InputFault.{InputFault}
 use Rattle.acas_doc.specs.Input.{in_doc, version_of}
-use Rattle.acas_doc.specs.Named.{advisory_at, named, or_unknown}
+use Rattle.acas_input.specs.Named.{advisory_at, named, or_unknown}
 
 -- the advisory that a list holds where it ends
 abbrev pub no_advisory : Advisory

@@ -11,7 +11,7 @@ use Rattle.acas_doc.specs.declared.input.TheConstants.{INPUT_VERSION}
 use Rattle.acas_doc.specs.declared.input_fault.InputFault.{InputFault}
 use Rattle.acas_doc.specs.declared.input_fault.InputFault.TheVariants.{NotToml, Doc, UnknownName}
 use Rattle.acas_doc.specs.Input.{in_doc, version_of}
-use Rattle.acas_doc.specs.Named.{advisory_at, named, or_unknown}
+use Rattle.acas_input.specs.Named.{advisory_at, named, or_unknown}
 
 -- the fault, if there is one, is such
 abbrev pub AnyFaultIs : {A : Type 0} → (InputFault → Type 0) → Result A InputFault → Type 0

@@ -1,6 +1,6 @@
 //! The advisory that a text beside a model names.
 ghost use Rattle.std.specs.Prelude.{◌≡◌, ◌<◌, IfOk};
-ghost use Rattle.acas_doc.specs.Named.{named, or_unknown};
+ghost use Rattle.acas_input.specs.Named.{named, or_unknown};
 
 use acas_base::Model;
 use acas_doc::InputFault;
