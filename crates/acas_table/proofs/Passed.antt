@@ -7,7 +7,8 @@ use Rattle.std.proofs.lemmas.List.{take_more, drop_more, take-append-drop}
 use Rattle.acas_outside.specs.Files.{Files, Given}
 use Rattle.acas_table_text.specs.Faults.{first, unless, end_fault, width_of, fault_in, fault_at, widths, fields_fault}
 use Rattle.acas_table_text.specs.Format.{part}
-use Rattle.acas_table.specs.Source.{IsAt, IsAtFile, Blames, Checks, Steps}
+use Rattle.acas_table.specs.Source.{IsAt, IsAtFile, Blames, Checks, ReadsTable, Steps, bytes_taken}
+use Rattle.acas_outside.specs.declared.folder.Folder.{Ghosts as FolderMeanings}
 use Rattle.acas_table_text.proofs.Nones.{first_none, first_one}
 use Rattle.acas_table_text.specs.declared.field.Field.{Field}
 use Rattle.acas_table_text.specs.declared.field.Field.TheVariants as fields
@@ -175,3 +176,17 @@ blamed_given {X = X} (Some files) later name i all old mid new fault result is w
     subst (λ (r : Result X TableFault). Checks {X = X} (fields_fault old.expected old.place all) (λ _ _. ⊤) (get files name) new r) (sym is)
     (blamed_file X (get files name) i all old mid new fault within steps (passed stands)
     (subst (λ (h : Option Files). Given h name (λ file. IsAtFile mid file → Checks {X = X} (fault_at mid.expected mid.place (get_or all i fields.Magic)) (λ _ _. ⊤) file new (Err fault))) same checks))
+
+-- bytes that were read are passed over, and what is answered then tells of no read and of no memory
+pub passed_ok : {F X Y : Type 0} (d : FolderMeanings F) (old new : F) (name : List ℕ) (before mid now : Source) (n : ℕ) (y : Y) (x : X)
+    → Steps mid now n → bytes_taken now ≡ bytes_taken mid
+    → ReadsTable d old new name before mid (Ok y) → ReadsTable d old new name before now (Ok x)
+passed_ok d old new name before mid now n y x steps same reads = grind arith
+
+pub passed_fault : {F X Y : Type 0} (d : FolderMeanings F) (old new : F) (name : List ℕ) (before mid now : Source) (n : ℕ) (y : Y)
+    (fault : TableFault) → IsOfBytes fault → Steps mid now n → bytes_taken now ≡ bytes_taken mid
+    → ReadsTable d old new name before mid (Ok y) → ReadsTable {X = X} d old new name before now (Err fault)
+passed_fault d old new name before mid now n y fault kind steps same reads = grind arith
+
+pub of_version : (n : ℕ) → IsOfBytes (Version n)
+of_version n = record { failed = λ k. cc; absent = λ k. cc; memory = λ k. cc }

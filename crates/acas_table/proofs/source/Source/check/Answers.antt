@@ -1,6 +1,5 @@
-use Rattle.std.proofs.Common.{sym, arith}
-use Rattle.std.proofs.lemmas.Grind.{common_steps}
-use Rattle.acas_table.proofs.Passed.{field_given, of_field}
+use Rattle.std.proofs.Common.{sym}
+use Rattle.acas_table.proofs.Passed.{field_given, of_field, passed_fault, passed_ok}
 use Rattle.acas_table.proofs.source.Source.check.Goals as goal
 
 pub returns-in-Some-clause-given : goal.returns-in-Some-clause-given
@@ -10,19 +9,11 @@ returns-in-Some-clause-given g c =
 
 pub returns-in-Some-clause-reads : goal.returns-in-Some-clause-reads
 returns-in-Some-clause-reads g c =
-    let kind = of_field c.args.field.now c.at_hand.result.now c.in-Some.fault (sym c.in-Some.ensures.fault) in
-    let frame = c.in_ok-fill.ensures.reads.frame in
-    record {
-      memory = kind.memory;
-      not_held = λ absent. absurd (kind.absent absent);
-      taken = grind (arith, common_steps);
-      frame = record {
-        holds = frame.holds;
-        serves = frame.serves;
-        faults = frame.faults;
-        misses = frame.misses;
-        taken = frame.taken;
-        fault = λ failed. absurd (kind.failed failed);
-        miss = λ absent. absurd (kind.absent absent);
-      };
-    }
+    passed_fault _ _ _ c.args.name.now c.args.self.now c.fill.new.self _ _ tt _
+    (of_field c.args.field.now c.at_hand.result.now c.in-Some.fault (sym c.in-Some.ensures.fault))
+    c.pass.ensures.steps c.pass.ensures.taken c.in_ok-fill.ensures.reads
+
+pub returns-in-None-clause-reads : goal.returns-in-None-clause-reads
+returns-in-None-clause-reads g c =
+    passed_ok _ _ _ c.args.name.now c.args.self.now c.fill.new.self _ _ tt tt
+    c.pass.ensures.steps c.pass.ensures.taken c.in_ok-fill.ensures.reads
