@@ -17,8 +17,10 @@ sum_most : (m : ModelData) (by total sum : ℕ) → total ≡ total_weight m →
 sum_most m by total sum is within = omega (arith, within, ap (λ (w : ℕ). 2 * by * w) (whole_weight m ∙ sym is))
 
 -- so they can be divided by the whole weight
-sum_room : (m : ModelData) (by total sum : ℕ) → 2 * by ≤ 2 ^ 62 → total ≡ total_weight m → sum ≤ 2 * by * weights_below m (length m.sigmas) → sum ≤ 2 ^ 62 * total
-sum_room m by total sum few is within = omega (arith, sum_most m by total sum is within, mul-le (2 * by) total (2 ^ 62) total few (omega arith))
+sum_room : (m : ModelData) (by total sum : ℕ) → 2 * by ≤ 2 ^ 62 → total ≡ total_weight m →
+    sum ≤ 2 * by * weights_below m (length m.sigmas) → sum ≤ 2 ^ 62 * total
+sum_room m by total sum few is within =
+    omega (arith, sum_most m by total sum is within, mul-le (2 * by) total (2 ^ 62) total few (omega arith))
 
 pub lowered-requires-clause-within : goal.lowered-requires-clause-within
 lowered-requires-clause-within c =
@@ -30,12 +32,14 @@ lowered-requires-clause-within c =
 
 pub up_wide-requires-clause-room : goal.up_wide-requires-clause-room
 up_wide-requires-clause-room c =
-    sum_room c.args.over.now.model.now c.args.over.now.reach.size c.args.over.now.stencils.now.total.by c.wide_sums-sums.result.upper (omega (arith, c.requires.size))
+    sum_room c.args.over.now.model.now c.args.over.now.reach.size c.args.over.now.stencils.now.total.by c.wide_sums-sums.result.upper
+    (omega (arith, c.requires.size))
     c.requires.column.usable.stencils.by c.wide_sums-sums.ensures.within.upper
 
 pub down_wide-requires-clause-room : goal.down_wide-requires-clause-room
 down_wide-requires-clause-room c =
-    sum_room c.args.over.now.model.now c.args.over.now.reach.size c.args.over.now.stencils.now.total.by c.wide_sums-sums.result.lower (omega (arith, c.requires.size))
+    sum_room c.args.over.now.model.now c.args.over.now.reach.size c.args.over.now.stencils.now.total.by c.wide_sums-sums.result.lower
+    (omega (arith, c.requires.size))
     c.requires.column.usable.stencils.by c.wide_sums-sums.ensures.within.lower
 
 pub lowered-requires-2-clause-within : goal.lowered-requires-2-clause-within
