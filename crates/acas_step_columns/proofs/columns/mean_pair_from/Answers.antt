@@ -14,8 +14,8 @@ use Rattle.acas_step_narrow.proofs.RaisedMeans.{means_of_all}
 use Rattle.acas_step_columns.proofs.SourceMeans.{means_of_twin}
 use Rattle.acas_step_columns.proofs.columns.mean_pair_from.Goals as goal
 
-pub means_of_sums-requires-clause-within : goal.means_of_sums-requires-clause-within
-means_of_sums-requires-clause-within c = grind (arith, common_steps)
+pub means_of_sums-requires : goal.means_of_sums-requires
+means_of_sums-requires c = grind (arith, common_steps)
 
 pub returns-in-Twin-clause-means : goal.returns-in-Twin-clause-means
 returns-in-Twin-clause-means c =
@@ -65,3 +65,15 @@ returns-in-Layer-clause-bounded c = grind (arith, common_steps)
 
 pub bounds-earlier-from : goal.bounds-earlier-from
 bounds-earlier-from c = grind (arith, common_steps)
+
+pub wide_means-requires : goal.wide_means-requires
+wide_means-requires c = grind (arith, common_steps)
+
+pub vertex_in_column-vertex-requires : goal.vertex_in_column-vertex-requires
+vertex_in_column-vertex-requires c = grind (arith, common_steps)
+
+pub mean_by-requires : goal.mean_by-requires
+mean_by-requires c = grind (arith, common_steps)
+
+pub mean_by-requires-in-Layer : goal.mean_by-requires-in-Layer
+mean_by-requires-in-Layer c = grind (arith, common_steps)

@@ -1,6 +1,6 @@
-use Rattle.std.proofs.Common.{◌≡◌, ℕ, ◌*◌, ◌≤◌, length, pos, w64, to_z, of_z, FitsSigned, ap, sym, ◌∙◌, arith}
-use Rattle.std.proofs.lemmas.Grind.{common_steps}
+use Rattle.std.proofs.Common.{◌≡◌, ℕ, ◌*◌, ◌^◌, ◌≤◌, length, pos, w64, to_z, of_z, FitsSigned, ap, sym, ◌∙◌, arith}
 use Rattle.std.proofs.lemmas.Int.{fits_signed_from_abs, ints, to_z-of_z}
+use Rattle.std.proofs.lemmas.Nat.{mul-le}
 use Rattle.acas_spec.specs.Model.{ModelData, total_weight}
 use Rattle.acas_frac.specs.Rounding.{down, up}
 use Rattle.acas_grid.specs.States.{vertex_at}
@@ -16,6 +16,12 @@ use Rattle.acas_step_columns.proofs.wide_means.wide_means.Goals as goal
 sum_most : (m : ModelData) (by total sum : ℕ) → total ≡ total_weight m → sum ≤ 2 * by * weights_below m (length m.sigmas) → sum ≤ 2 * by * total
 sum_most m by total sum is within = omega (arith, within, ap (λ (w : ℕ). 2 * by * w) (whole_weight m ∙ sym is))
 
+-- so they can be divided by the whole weight
+sum_room : (m : ModelData) (by total sum : ℕ) → 2 * by ≤ 2 ^ 62 → total ≡ total_weight m →
+    sum ≤ 2 * by * weights_below m (length m.sigmas) → sum ≤ 2 ^ 62 * total
+sum_room m by total sum few is within =
+    omega (arith, sum_most m by total sum is within, mul-le (2 * by) total (2 ^ 62) total few (omega arith))
+
 pub lowered-requires-clause-within : goal.lowered-requires-clause-within
 lowered-requires-clause-within c =
     let by = c.args.over.now.reach.size in
@@ -24,8 +30,17 @@ lowered-requires-clause-within c =
     let are = c.requires.column.usable.stencils in
     omega (arith, c.up_wide.ensures, quotient-most sum total (2 * by) are.total.some (sum_most c.args.over.now.model.now by total sum are.by c.wide_sums-sums.ensures.within.upper))
 
+pub up_wide-requires-clause-room : goal.up_wide-requires-clause-room
+up_wide-requires-clause-room c =
+    sum_room c.args.over.now.model.now c.args.over.now.reach.size c.args.over.now.stencils.now.total.by c.wide_sums-sums.result.upper
+    (omega (arith, c.requires.size))
+    c.requires.column.usable.stencils.by c.wide_sums-sums.ensures.within.upper
+
 pub down_wide-requires-clause-room : goal.down_wide-requires-clause-room
-down_wide-requires-clause-room c = grind (arith, common_steps)
+down_wide-requires-clause-room c =
+    sum_room c.args.over.now.model.now c.args.over.now.reach.size c.args.over.now.stencils.now.total.by c.wide_sums-sums.result.lower
+    (omega (arith, c.requires.size))
+    c.requires.column.usable.stencils.by c.wide_sums-sums.ensures.within.lower
 
 pub lowered-requires-2-clause-within : goal.lowered-requires-2-clause-within
 lowered-requires-2-clause-within c =
