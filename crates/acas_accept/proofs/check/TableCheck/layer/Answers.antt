@@ -1,5 +1,4 @@
 use Rattle.std.proofs.Common.{◌≡◌, ℕ, ap, subst, arith}
-use Rattle.std.proofs.lemmas.Grind.{common_steps}
 use Rattle.std.proofs.lemmas.Result.{err_from_is_err_and}
 use Rattle.acas_spec.specs.Model.{GridData, states}
 use Rattle.acas_grid.specs.Grid.{state_number}
@@ -53,9 +52,3 @@ returns g c =
       check = subst (λ (s : ℕ). IsCheckOf c.args.model.now c.loop-present.self c.args.n s) all c.loop-present.invariant.check;
       reads = c.loop-present.invariant.reads;
     }
-
-pub new-plane-requires : goal.new-plane-requires
-new-plane-requires g c = grind (arith, common_steps)
-
-pub plane-requires-clause-check : goal.plane-requires-clause-check
-plane-requires-clause-check g c = grind (arith, common_steps)
