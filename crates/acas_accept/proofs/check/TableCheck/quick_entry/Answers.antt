@@ -35,12 +35,6 @@ returns-clause-given c = λ yes digest bytes within.
     in_layer_next c.args.model.now digest old c.pass.new.self c.keep.new.self c.args.n c.args.state bytes c.in-Some.entry c.requires.check c.requires.n c.requires.state within
     (c.pass.ensures.given c.in-Some.entry c.in-Some.ensures.at_hand digest bytes within.accepted.stands) (c.pass.ensures.stands digest bytes within.accepted.stands) says keeps
 
-pub returns-then-not-found : goal.returns-then-not-found
-returns-then-not-found c = grind (arith, common_steps)
-
-pub returns-in_default : goal.returns-in_default
-returns-in_default c = grind (arith, common_steps)
-
 pub returns-then-not-is_sound_at : goal.returns-then-not-is_sound_at
 returns-then-not-is_sound_at c = grind (arith, common_steps)
 
