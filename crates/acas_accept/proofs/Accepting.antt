@@ -1,11 +1,10 @@
 -- A table that is accepted or refused, from its header to its end.
 use Rattle.std.proofs.Common.{◌≡◌, ◌∙◌, ℕ, ◌+◌, ◌-◌, ◌≤◌, List, Option, None, Some, Result, Ok, Err, refl, sym, subst, arith}
-use Rattle.std.specs.Prelude.{IfOk, IfSome}
+use Rattle.std.specs.Prelude.{IfSome}
 use Rattle.std.specs.FinMap.{get}
 use Rattle.acas_spec.specs.Limits.{IsModel}
 use Rattle.acas_spec.specs.Model.{ModelData, entries}
 use Rattle.acas_base.specs.Advices.{AdvicesData}
-use Rattle.acas_base.specs.Layers.{LayersData}
 use Rattle.acas_outside.specs.Bytes.{IsBytes}
 use Rattle.acas_outside.specs.Counts.{raised}
 use Rattle.acas_outside.specs.Files.{Files, Given}
@@ -22,9 +21,9 @@ use Rattle.acas_table_text.specs.declared.shape.TableShape.{TableShape}
 use Rattle.acas_table_text_laws.proofs.Twice.{each_entry_none}
 use Rattle.acas_table_text_laws.proofs.Texts.{text_given_small}
 use Rattle.acas_table.proofs.Told.{told_both, told_map}
-use Rattle.acas_accept.specs.Answers.{AreAllowed, AreWhole, Gives, HasAdvices, HasLayers, ReadsOnce}
+use Rattle.acas_accept.specs.Answers.{AreAllowed, Gives, ReadsOnce}
 use Rattle.acas_accept.specs.Checking.{HasAccepted, HasNoRefusal, IsAnswer}
-use Rattle.acas_accept.specs.Keeping.{AreAdvicesBelow, AreAllowedBelow, AreLayersBelow}
+use Rattle.acas_accept.specs.Keeping.{AreAllowedBelow}
 use Rattle.acas_accept.specs.Reading.{ReadsOn}
 use Rattle.acas_accept.specs.declared.check.TableCheck.{TableCheck}
 use Rattle.acas_accept.specs.declared.refusal.AcceptFault.{AcceptFault}
@@ -141,28 +140,5 @@ module _ {F X : Type 0} (d : FolderMeanings F) (old mid new last : F) (name : Li
 
 -- ---- what is given
 
-pub given_as : {X : Type 0} (P Q : List ℕ → X → Type 0) (m : ModelData) (digest : List ℕ) (holds : Option Files) (name : List ℕ) (result : Result X AcceptFault) → IfOk result (λ given. (bytes : List ℕ) → P bytes given → Q bytes given)
-    → Given holds name (λ file. Gives P m digest file result) → Given holds name (λ file. Gives Q m digest file result)
-given_as {X = X} P Q m digest None name result as_is given = tt
-given_as {X = X} P Q m digest (Some files) name result as_is given = file_as (get files name) result as_is given
-  where
-    file_as : (file : Option (List ℕ)) (answer : Result X AcceptFault) → IfOk answer (λ given. (bytes : List ℕ) → P bytes given → Q bytes given) → Gives P m digest file answer → Gives Q m digest file answer
-    file_as None (Ok x) leads given = absurd given
-    file_as (Some bytes) (Ok x) leads given = (given.0, given.1, leads bytes given.2)
-    file_as None (Err (Refused refusal)) leads given = absurd given
-    file_as None (Err Absent) leads given = given
-    file_as None (Err Failed) leads given = tt
-    file_as None (Err Memory) leads given = tt
-    file_as (Some bytes) (Err (Refused refusal)) leads given = given
-    file_as (Some bytes) (Err Absent) leads given = given
-    file_as (Some bytes) (Err Failed) leads given = tt
-    file_as (Some bytes) (Err Memory) leads given = tt
-
-pub has_advices : (m : ModelData) (bytes : List ℕ) (advices : AdvicesData) → AreAdvicesBelow m bytes (m.grid.horizon + 1) advices → HasAdvices m bytes advices
-has_advices m bytes advices are = record { each = λ n state some seconds inside. are.each n state some (omega arith) inside }
-
 pub are_allowed : (m : ModelData) (advices : AdvicesData) → AreAllowedBelow m (m.grid.horizon + 1) advices → AreAllowed m advices
 are_allowed m advices allowed = record { each = λ n state some seconds inside. allowed.each n state some (omega arith) inside }
-
-pub has_layers : (m : ModelData) (bytes : List ℕ) (layers : LayersData) → AreWhole m layers → AreLayersBelow m bytes (m.grid.horizon + 1) layers → HasLayers m bytes layers
-has_layers m bytes layers whole are = record { whole = whole; each = λ n seconds. are.each n (omega arith) }

@@ -12,7 +12,7 @@ use Rattle.acas_command.specs.Called.{calls_for}
 use Rattle.acas_command.specs.Calls.{input_cause, with_input, with_input_file}
 use Rattle.acas_command.specs.Outcome.{Outcome, prints, refuses}
 use Rattle.acas_command.specs.TextFile.{IsTextFile}
-use Rattle.acas_command.specs.declared.status.Cause.TheVariants.{Folder, Input, TooLong}
+use Rattle.acas_command.specs.declared.status.Cause.TheVariants.{Input, TooLong}
 use Rattle.acas_command.specs.declared.status.FileRole.{FileRole}
 use Rattle.acas_command.proofs.Behind.{told-both, told-kept}
 use Rattle.acas_command.proofs.Reports.{no_file-text}
@@ -78,14 +78,6 @@ ends-input (inputs.UnknownName place) = tt
 ends-input (inputs.Window place) = tt
 ends-input (inputs.Rate place) = tt
 ends-input inputs.Memory = tt
-
-pub input-no_folder : (fault : InputFault) → input_cause fault ≢ Folder
-input-no_folder inputs.NotToml e = absurd (cc e)
-input-no_folder (inputs.Doc at) e = absurd (cc e)
-input-no_folder (inputs.UnknownName place) e = absurd (cc e)
-input-no_folder (inputs.Window place) e = absurd (cc e)
-input-no_folder (inputs.Rate place) e = absurd (cc e)
-input-no_folder inputs.Memory e = absurd (cc e)
 
 -- a text that is refused
 pub rejected-input_file : {A : Type 0} (role : FileRole) (read : List ℕ → Result A InputFault) (file : Option (List ℕ)) (fault : InputFault)

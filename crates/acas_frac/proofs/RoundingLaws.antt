@@ -62,9 +62,6 @@ down_bounded a c b p h =
     let least : neg_ℤ (pos b) ≤ℤ m = down_greatest a c (neg_ℤ (pos b)) p (omega (arith, ints, mul-neg_ℤ (pos c) (pos b))) in
     omega (arith, ints)
 
-pub up_bounded : (a : ℤ) (c b : ℕ) → 0 < c → unsigned_abs a ≤ c * b → unsigned_abs (up a (pos c)) ≤ b
-up_bounded a c b p h = omega (arith, ints, down_bounded (neg_ℤ a) c b p (omega (arith, ints)))
-
 -- ---- either way to round
 
 -- what holds of both holds of each way to round
@@ -73,6 +70,3 @@ either P d u round way = ⊎_elim (λ (e : round ≡ down). subst P (sym e) d) (
 
 pub round-mul_both : (round : ℤ → ℤ → ℤ) → IsRounding round → (n c : ℕ) (a : ℤ) → 0 < n → 0 < c → round (pos n *ℤ a) (pos n *ℤ pos c) ≡ round a (pos c)
 round-mul_both = either (λ round. (n c : ℕ) (a : ℤ) → 0 < n → 0 < c → round (pos n *ℤ a) (pos n *ℤ pos c) ≡ round a (pos c)) down-mul_both up-mul_both
-
-pub round_bounded : (round : ℤ → ℤ → ℤ) → IsRounding round → (a : ℤ) (c b : ℕ) → 0 < c → unsigned_abs a ≤ c * b → unsigned_abs (round a (pos c)) ≤ b
-round_bounded = either (λ round. (a : ℤ) (c b : ℕ) → 0 < c → unsigned_abs a ≤ c * b → unsigned_abs (round a (pos c)) ≤ b) down_bounded up_bounded

@@ -1,6 +1,6 @@
 -- The least value over a list of choices, and the first choice that has it.
 use Rattle.std.specs.Int.{int_min}
-use Rattle.std.proofs.Common.{◌≡◌, ℕ, zero, suc, ◌+◌, ◌<◌, ℤ, pos, ◌≤ℤ◌, ◌<ℤ◌, List, [], ◌∷◌, length, get_or, drop, true, false, cond, int_le, Contains, refl, subst, ◌∙◌, arith}
+use Rattle.std.proofs.Common.{◌≡◌, ℕ, zero, suc, ◌<◌, ℤ, pos, ◌≤ℤ◌, ◌<ℤ◌, List, [], ◌∷◌, length, get_or, drop, true, false, int_le, Contains, refl, subst, ◌∙◌, arith}
 use Rattle.std.proofs.lemmas.Int.{ints, clamps, by_lt_z}
 use Rattle.acas_spec.specs.declared.parts.Choice.{Choice}
 use Rattle.acas_process.specs.Compiled.{first_least, least}
@@ -108,21 +108,3 @@ least-drop f [] i d h = absurd (omega arith)
 least-drop f (c ∷ []) i d h = absurd (omega arith)
 least-drop f (c ∷ e ∷ rest) zero d h = refl
 least-drop f (c ∷ e ∷ rest) (suc i) d h = least-drop f (e ∷ rest) i d (omega arith)
-
-pub first_least-drop : (f : ℕ → ℤ) (cs : List Choice) (i : ℕ) (d : Choice) → suc i < length cs →
-    first_least f (drop i cs) ≡ cond (int_le (f (get_or cs i d).advisory) (least f (drop (suc i) cs))) (get_or cs i d).advisory (first_least f (drop (suc i) cs))
-first_least-drop f [] i d h = absurd (omega arith)
-first_least-drop f (c ∷ []) i d h = absurd (omega arith)
-first_least-drop f (c ∷ e ∷ rest) zero d h = refl
-first_least-drop f (c ∷ e ∷ rest) (suc i) d h = first_least-drop f (e ∷ rest) i d (omega arith)
-
--- the best of the choices from place i on
-pub record IsBestFrom (f : ℕ → ℤ) (cs : List Choice) (i : ℕ) (value : ℤ) (advisory : ℕ) : Type 0 where
-  pub least : value ≡ least f (drop i cs)
-  pub first : advisory ≡ first_least f (drop i cs)
-
-pub best_of_last : (f : ℕ → ℤ) (cs : List Choice) (i : ℕ) (d : Choice) → i + 1 ≡ length cs → IsBestFrom f cs i (f (get_or cs i d).advisory) (get_or cs i d).advisory
-best_of_last f [] i d h = absurd (omega arith)
-best_of_last f (c ∷ []) zero d h = record { least = refl; first = refl }
-best_of_last f (c ∷ e ∷ rest) zero d h = absurd (omega arith)
-best_of_last f (c ∷ rest) (suc i) d h = let b = best_of_last f rest i d (omega arith) in record { least = b.least; first = b.first }

@@ -107,9 +107,6 @@ digest_is f s bytes k same = subst (λ (h : Format). digest_fault s bytes k ≡ 
 pub entry_is : (f : Format) (s : TableShape) (bytes : List ℕ) (i : ℕ) → format_of bytes ≡ f → entry_fault s bytes i ≡ entry_as f s bytes i
 entry_is f s bytes i same = subst (λ (h : Format). entry_fault s bytes i ≡ entry_as h s bytes i) same (entry_here s bytes i)
 
-pub tail_is : (f : Format) (s : TableShape) (bytes : List ℕ) → format_of bytes ≡ f → tail_fault s bytes ≡ tail_as f s bytes
-tail_is f s bytes same = subst (λ (h : Format). tail_fault s bytes ≡ tail_as h s bytes) same (tail_here s bytes)
-
 pub first_is : (f : Format) (digest : List ℕ) (s : TableShape) (bytes : List ℕ) → format_of bytes ≡ f → first_fault digest s bytes ≡ faults_as f digest s bytes
 first_is f digest s bytes same = subst (λ (h : Format). first_fault digest s bytes ≡ faults_as h digest s bytes) same (first_here digest s bytes)
 
