@@ -52,19 +52,13 @@ pub enum TableCommand<'w> {
     /// `risk M T`: how likely contact is under the policy of a table, and what that costs.
     Risk,
     /// `audit M T`, and with `--reported` behind it: rule on each advisory cell of a table.
-    Audit {
-        which: Which,
-    },
+    Audit { which: Which },
     /// `safeable M T`: whether an advisory keeps each clear cell of a table safe that is given a second later.
     Safeable,
     /// `replay M T E`: fly an encounter under the advice of a table.
-    Replay {
-        encounter: &'w str,
-    },
+    Replay { encounter: &'w str },
     /// `migrate M T1 T2`: store a table again in version 2, under another name.
-    Migrate {
-        target: &'w str,
-    },
+    Migrate { target: &'w str },
 }
 
 /// The command of the words after the program's name, or None where they are no form. It takes no memory.
@@ -144,17 +138,9 @@ fn of_four_words<'w>(
         let which = Which::Reported;
         Some(on_table(model, table, TableCommand::Audit { which }))
     } else if verb == "replay" && are_file_names(model, table) && is_file_name(third) {
-        Some(on_table(
-            model,
-            table,
-            TableCommand::Replay { encounter: third },
-        ))
+        Some(on_table(model, table, TableCommand::Replay { encounter: third }))
     } else if verb == "migrate" && are_apart(model, third) && are_apart(table, third) {
-        Some(on_table(
-            model,
-            table,
-            TableCommand::Migrate { target: third },
-        ))
+        Some(on_table(model, table, TableCommand::Migrate { target: third }))
     } else {
         None
     }

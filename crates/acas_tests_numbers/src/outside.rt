@@ -2,7 +2,10 @@
 ghost use Rattle.std.specs.Prelude.{IsTrue};
 
 use acas_memory_sink::MemorySink;
-use acas_outside::{Failed, Folder, MemoryFolder, PrintBuffer, ReadFault, ReadMiss, Sink, emit, emit_parts, read_whole, store_file, write_piece};
+use acas_outside::{
+    Failed, Folder, MemoryFolder, PrintBuffer, ReadFault, ReadMiss, Sink, emit, emit_parts,
+    read_whole, store_file, write_piece,
+};
 use std::alloc::{AllocError, Global};
 
 // A folder of which the reads, creates and appends of these numbers fail.
@@ -91,7 +94,12 @@ pub fn emit_all<S: Sink>(sink: &mut S) -> Result<(), Failed> {
     )?;
     emit_parts(
         sink,
-        &[b" f".as_slice(), b"o".as_slice(), b"u".as_slice(), b"r".as_slice()],
+        &[
+            b" f".as_slice(),
+            b"o".as_slice(),
+            b"u".as_slice(),
+            b"r".as_slice(),
+        ],
     )
 }
 
