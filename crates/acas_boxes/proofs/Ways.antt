@@ -6,10 +6,10 @@ use Rattle.acas_doc.specs.Answers.{Fails, text_fault}
 use Rattle.acas_doc.specs.declared.fault.DocFault.{DocFault}
 use Rattle.acas_doc.specs.declared.fault.DocError.{DocError}
 use Rattle.acas_doc.specs.declared.fault.DocError.TheVariants as errors
-use Rattle.acas_input.specs.declared.fault.InputFault.{InputFault}
-use Rattle.acas_input.specs.declared.fault.InputFault.TheVariants.{Doc, Memory}
-use Rattle.acas_input.specs.Answers.{Gives}
-use Rattle.acas_input.specs.Document.{in_doc}
+use Rattle.acas_doc.specs.declared.input_fault.InputFault.{InputFault}
+use Rattle.acas_doc.specs.declared.input_fault.InputFault.TheVariants.{Doc, Memory}
+use Rattle.acas_doc.specs.InputAnswers.{Gives}
+use Rattle.acas_doc.specs.Input.{in_doc}
 
 -- a reader gives this fault if the rules do, unless it says that memory ran out
 pub out : {X Y : Type 0} (view : X → Y) (r : Result X InputFault) (f : InputFault) (rules : Result Y InputFault)
