@@ -12,9 +12,8 @@ ghost use Rattle.acas_check_commands.specs.Calls.{CallsForCheck};
 use acas_command::{Cause, ModelFile, put_count, put_text, read_model_file};
 use acas_grid::Grid;
 use acas_means::LayerMeans;
-use acas_outside::{Folder, Sink, emit};
+use acas_outside::{Folder, Line, Sink, emit};
 use acas_table_file::read_table_file;
-use acas_units::Line;
 use std::alloc::Global;
 
 /// Checks a table of a model, and prints how large it is where it is accepted.

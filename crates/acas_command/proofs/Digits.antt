@@ -1,7 +1,7 @@
 -- How many bytes the text of a number has.
 use Rattle.std.proofs.Common.{◌≡◌, ℕ, ◌<◌, ◌≤◌, ◌^◌, ◌/◌, ◌∷◌, ◌++◌, suc, length, length-append, ℤ, pos, negsuc, unsigned_abs, arith, refl}
 use Rattle.std.specs.Fmt.{decimal, signed_decimal}
-use Rattle.acas_units.specs.Printed.{millionths_text, sign_text, six_digits}
+use Rattle.acas_outside.specs.Printed.{millionths_text, sign_text, six_digits}
 use Rattle.std.proofs.lemmas.Fmt.{length-decimal-le, length-decimal-le_wide}
 
 pub length-decimal : (n : ℕ) → n < 2 ^ 64 → length (decimal n) ≤ 20

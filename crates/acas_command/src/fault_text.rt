@@ -10,7 +10,8 @@ use crate::status::Cause;
 use acas_doc::{DocKind, InputFault};
 use acas_grid::AxisFault;
 use acas_model::{AxisName, ModelFault, NamePlace};
-use acas_units::{GREATEST_ENTRIES, GREATEST_TOTAL_WEIGHT, Line};
+use acas_outside::Line;
+use acas_units::{GREATEST_ENTRIES, GREATEST_TOTAL_WEIGHT};
 
 /// The line of what is printed of a cause behind the name or the key that it is about.
 pub(crate) fn tail_of(cause: &Cause) -> Line

@@ -1,9 +1,9 @@
 //! Fields of a line, with room for several of them.
 ghost use Rattle.std.specs.Prelude.{◌≡◌, ◌+◌, ◌≤◌, ◌++◌, ◌∷◌, [], length};
 ghost use Rattle.std.specs.Fmt.{decimal, signed_decimal};
-ghost use Rattle.acas_units.specs.Printed.{millionths_text};
+ghost use Rattle.acas_outside.specs.Printed.{millionths_text};
 
-use acas_units::{LINE_BYTES, Line};
+use acas_outside::{LINE_BYTES, Line};
 
 /// Appends a text.
 pub fn put_text(line: &mut Line, text: &str)

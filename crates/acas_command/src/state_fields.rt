@@ -2,13 +2,14 @@
 ghost use Rattle.std.specs.Prelude.{◌≡◌, ◌+◌, ◌≤◌, ◌<◌, ◌++◌, length};
 ghost use Rattle.std.specs.Fmt.{decimal, signed_decimal};
 ghost use Rattle.acas_grid.specs.Grid.{IsVertex};
-ghost use Rattle.acas_units.specs.Printed.{millionths_text};
+ghost use Rattle.acas_outside.specs.Printed.{millionths_text};
 ghost use Rattle.acas_command.specs.Fields.{field, state_fields};
 
 use crate::line_fields::{put_count, put_millionths, put_number, put_text};
 use acas_grid::Vertex;
 use acas_model::Model;
-use acas_units::{GREATEST_NAME_BYTES, LINE_BYTES, Line, TICKS_PER_FOOT};
+use acas_outside::{LINE_BYTES, Line};
+use acas_units::{GREATEST_NAME_BYTES, TICKS_PER_FOOT};
 
 /// Appends the fields of a state: the name of the present advisory, the altitude in feet, the own rate and the intruder's rate.
 #[tactic(auto, unfolding(crate::specs::Fields::state_fields))]

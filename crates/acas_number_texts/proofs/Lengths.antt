@@ -2,7 +2,7 @@
 use Rattle.std.proofs.Common.{◌≡◌, ℕ, ◌/◌, ◌^◌, ◌≤◌, ℤ, pos, negsuc, unsigned_abs, ◌∷◌, ◌++◌, length, refl, arith, length-append}
 use Rattle.std.specs.Fmt.{decimal}
 use Rattle.std.proofs.lemmas.Fmt.{length-decimal-le_wide}
-use Rattle.acas_units.specs.Printed.{millionths_text, sign_text, six_digits}
+use Rattle.acas_outside.specs.Printed.{millionths_text, sign_text, six_digits}
 
 length_sign_text_le : (z : ℤ) → length (sign_text z) ≤ 1
 length_sign_text_le (pos n) = omega arith

@@ -2,9 +2,9 @@
 ghost use Rattle.std.specs.Prelude.{◌≡◌, ◌≤◌, ◌^◌, ◌++◌, ◌∷◌, unsigned_abs, OnOk, OnErr};
 ghost use Rattle.std.specs.Io.{StartsWith};
 ghost use Rattle.std.specs.Fmt.{decimal};
-ghost use Rattle.acas_units.specs.Printed.{millionths_text, sign_text, six_digits};
+ghost use Rattle.acas_outside.specs.Printed.{millionths_text, sign_text, six_digits};
 
-use acas_units::last_six;
+use acas_outside::last_six;
 use itoa::Buffer;
 use std::alloc::AllocError;
 

@@ -4,3 +4,4 @@ pub mod Appended
 pub mod Grown
 pub mod ReadSoFar
 pub mod PrintedPieces
+pub mod Lengths

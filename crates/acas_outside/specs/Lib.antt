@@ -8,3 +8,4 @@ pub mod Calls
 pub mod Stored
 pub mod MemoryFolder
 pub mod Printing
+pub mod Printed

@@ -3,9 +3,9 @@ ghost use Rattle.std.specs.Prelude.{◌≡◌, ◌≤◌, [], ◌++◌, length, 
 ghost use Rattle.acas_outside.specs.Bytes.{Appends, AppendsPart};
 ghost use Rattle.acas_outside.specs.Frame.{Emits};
 
+use crate::line::{LINE_BYTES, Line};
 use crate::print_buffer::PrintBuffer;
 use crate::sink::{Failed, Sink};
-use acas_units::{LINE_BYTES, Line};
 use std::alloc::{AllocError, Global};
 
 /// A line to build in, and the bytes that wait to be written. Its memory is taken when it is made.

@@ -7,7 +7,8 @@ ghost use Rattle.acas_replay.specs.Replay.{counts_line, line_of};
 use crate::progress::Found;
 use crate::state::EncounterState;
 use acas_base::Model;
-use acas_units::{GREATEST_NAME_BYTES, LINE_BYTES, Line};
+use acas_outside::{LINE_BYTES, Line};
+use acas_units::GREATEST_NAME_BYTES;
 
 /// Room for a whole number: a sign and 39 digits.
 const NUMBER_BYTES: usize = 40;

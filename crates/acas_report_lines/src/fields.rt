@@ -5,7 +5,8 @@ ghost use Rattle.acas_frac.specs.Fraction.{fraction_text};
 ghost use Rattle.acas_report_lines.specs.Text.{field};
 
 use acas_frac::Frac;
-use acas_units::{GREATEST_NAME_BYTES, LINE_BYTES, Line};
+use acas_outside::{LINE_BYTES, Line};
+use acas_units::GREATEST_NAME_BYTES;
 
 /// The greatest number of bytes of a fraction: a sign and 25 digits, a stroke and 14 digits.
 pub const FRAC_BYTES: usize = 41;

@@ -3,7 +3,7 @@ use Rattle.std.specs.Prelude.{ℕ, ◌<◌, List, [], ◌∷◌, ◌++◌, codes
 use Rattle.std.specs.Fmt.{decimal}
 use Rattle.acas_spec.specs.Model.{ModelData, states}
 use Rattle.acas_spec.specs.Table.{Policy}
-use Rattle.acas_units.specs.Printed.{millionths_text}
+use Rattle.acas_outside.specs.Printed.{millionths_text}
 use Rattle.acas_units.specs.declared.pair.Pair.{Pair}
 use Rattle.acas_outside.specs.Printing.{below}
 use Rattle.acas_grid.specs.States.{state_present, state_vertex}

@@ -12,7 +12,8 @@ use acas_command::{
     put_count, put_millionths, put_millionths_field, put_state_fields, put_text, put_text_field,
 };
 use acas_grid::{state_present, state_vertex};
-use acas_units::{LINE_BYTES, Line, Pair};
+use acas_outside::{LINE_BYTES, Line};
+use acas_units::Pair;
 
 /// The greatest number of bytes of two bounds behind a word: two spaces and two numbers.
 const BOUNDS_BYTES: usize = 48;

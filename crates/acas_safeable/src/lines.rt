@@ -7,7 +7,8 @@ ghost use Rattle.acas_safeable.specs.Walk.{IsNamed, head_text};
 use crate::counts::SafeCounts;
 use crate::outlook::{ClearCell, Outlook};
 use acas_base::Model;
-use acas_units::{GREATEST_NAME_BYTES, LINE_BYTES, Line};
+use acas_outside::{LINE_BYTES, Line};
+use acas_units::GREATEST_NAME_BYTES;
 
 /// Room for a space and a whole number: a sign and 39 digits.
 const NUMBER_BYTES: usize = 41;

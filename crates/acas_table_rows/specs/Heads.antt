@@ -1,7 +1,7 @@
 -- What the lines of neighbouring states begin with.
 use Rattle.std.specs.Prelude.{◌≡◌, ◌≢◌, ℕ, ◌≤◌, ℤ, List, [], ◌∷◌, ◌++◌, length}
 use Rattle.std.specs.Fmt.{decimal, signed_decimal}
-use Rattle.acas_units.specs.Printed.{millionths_text}
+use Rattle.acas_outside.specs.Printed.{millionths_text}
 use Rattle.acas_spec.specs.Axis.{place_value}
 use Rattle.acas_spec.specs.Model.{ModelData, advisory_at}
 use Rattle.acas_command.specs.Fields.{feet, field}

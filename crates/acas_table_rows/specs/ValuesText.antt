@@ -2,7 +2,7 @@
 use Rattle.std.specs.Prelude.{ℕ, nat_lt, ◌+◌, ◌&&◌, if◌then◌else◌, ℤ, List, [], ◌∷◌, ◌++◌, get_or}
 use Rattle.std.specs.Fmt.{decimal}
 use Rattle.acas_spec.specs.Model.{ModelData, advisory_at, states}
-use Rattle.acas_units.specs.Printed.{millionths_text}
+use Rattle.acas_outside.specs.Printed.{millionths_text}
 use Rattle.acas_command.specs.Fields.{field, state_fields}
 use Rattle.acas_outside.specs.Printing.{below}
 use Rattle.acas_grid.specs.States.{state_present, state_vertex}

@@ -7,7 +7,8 @@ ghost use Rattle.acas_table_rows.specs.ValuesText.{advice_text};
 use acas_base::Model;
 use acas_command::{put_count_field, put_millionths_field, put_name_field, put_number_field};
 use acas_grid::Vertex;
-use acas_units::{GREATEST_NAME_BYTES, LINE_BYTES, Line, Pair, TICKS_PER_FOOT};
+use acas_outside::{LINE_BYTES, Line};
+use acas_units::{GREATEST_NAME_BYTES, Pair, TICKS_PER_FOOT};
 
 /// Makes what the lines of a vertex, and of those beside it on the axis of intruder rate, begin with.
 #[tactic(auto, unfolding(crate::specs::Heads::line_head))]

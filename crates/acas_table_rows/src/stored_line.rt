@@ -9,8 +9,7 @@ ghost use Rattle.acas_table_rows.specs.StoredLine.{stored_line};
 
 use acas_command::{put_count, put_text};
 use acas_grid::Grid;
-use acas_outside::{Failed, Sink, emit};
-use acas_units::Line;
+use acas_outside::{Failed, Line, Sink, emit};
 
 /// Prints the line that says, behind what was done, how large the stored table over a grid is, which has so many bytes. It takes
 /// no memory.

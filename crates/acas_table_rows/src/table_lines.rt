@@ -11,8 +11,8 @@ ghost use Rattle.acas_table_rows.specs.ValuesText.{listed_line, listed_lines};
 use crate::entry_lines::{write_entry, write_head};
 use acas_base::Model;
 use acas_grid::{state_present, state_vertex};
-use acas_outside::{Failed, PrintBuffer, Sink};
-use acas_units::{LINE_BYTES, Line, Pair};
+use acas_outside::{Failed, LINE_BYTES, Line, PrintBuffer, Sink};
+use acas_units::Pair;
 use std::alloc::{AllocError, Global};
 
 /// What printing takes: what the lines of neighbouring states begin with, a line to build in, and the bytes that wait to be written. Its

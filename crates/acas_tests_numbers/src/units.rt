@@ -2,7 +2,8 @@
 ghost use Rattle.std.specs.Prelude.{◌≤◌, ◌^◌, unsigned_abs};
 
 use acas_number_texts::print_millionths;
-use acas_units::{Line, Span, feet_to_ticks};
+use acas_outside::Line;
+use acas_units::{Span, feet_to_ticks};
 use std::alloc::Global;
 
 // 10^30.

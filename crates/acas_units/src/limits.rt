@@ -131,6 +131,3 @@ pub const LEAST_DRILL_NUMBER: u32 = 0;
 
 /// The greatest number of a drill.
 pub const GREATEST_DRILL_NUMBER: u32 = 999_999_999;
-
-/// The greatest number of bytes of a line that is built in a buffer.
-pub const LINE_BYTES: usize = 1_024;

@@ -2,7 +2,7 @@ use Rattle.std.proofs.Common.{◌≡◌, ◌≤◌, ◌^◌, length, arith, leng
 use Rattle.std.proofs.lemmas.Int.{ints, to_z-of_z}
 use mir.Val.{SFits}
 use mir.Syntax.{w128}
-use Rattle.acas_units.specs.Printed.{millionths_text}
+use Rattle.acas_outside.specs.Printed.{millionths_text}
 use Rattle.acas_command.proofs.Digits.{length-wide_millionths}
 use Rattle.acas_command.proofs.line_fields.put_wide_millionths.Goals as goal
 

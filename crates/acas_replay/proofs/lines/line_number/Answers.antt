@@ -3,7 +3,7 @@ use Rattle.std.specs.Fmt.{signed_decimal}
 use Rattle.std.proofs.lemmas.Int.{ints, to_z-of_z}
 use mir.Val.{SFits}
 use mir.Syntax.{w128}
-use Rattle.acas_units.proofs.Lengths.{length_signed_decimal_le}
+use Rattle.acas_outside.proofs.Lengths.{length_signed_decimal_le}
 use Rattle.acas_replay.proofs.lines.line_number.Goals as goal
 
 pub number-requires : goal.number-requires

@@ -3,7 +3,7 @@ use Rattle.std.specs.Fmt.{signed_decimal}
 use Rattle.std.proofs.lemmas.Int.{ints, to_z-of_z}
 use mir.Val.{Fits, SFits}
 use mir.Syntax.{w128}
-use Rattle.acas_units.proofs.Lengths.{length_signed_decimal_le}
+use Rattle.acas_outside.proofs.Lengths.{length_signed_decimal_le}
 use Rattle.acas_safeable.proofs.lines.line_number.Goals as goal
 
 length_number : (n : ℕ) (z : ℤ) → n < 2 ^ 64 → z ≡ pos n → length (signed_decimal (to_z w128 (of_z w128 z))) ≤ 40

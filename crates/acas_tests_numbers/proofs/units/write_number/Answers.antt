@@ -2,7 +2,7 @@ use Rattle.std.proofs.Common.{◌<◌, ◌^◌, length, unsigned_abs, ap, arith}
 use Rattle.std.proofs.lemmas.Int.{ints, to_z-of_z}
 use mir.Val.{SFits}
 use mir.Syntax.{w128}
-use Rattle.acas_units.proofs.Lengths.{length_signed_decimal_le}
+use Rattle.acas_outside.proofs.Lengths.{length_signed_decimal_le}
 use Rattle.acas_tests_numbers.proofs.units.write_number.Goals as goal
 
 pub number-requires : goal.number-requires

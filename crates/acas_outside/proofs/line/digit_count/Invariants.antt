@@ -1,6 +1,6 @@
 use Rattle.std.proofs.Common.{◌+◌, ◌≡◌, length}
 use Rattle.std.specs.Fmt.{decimal}
-use Rattle.acas_units.proofs.line.digit_count.Given as goal
+use Rattle.acas_outside.proofs.line.digit_count.Given as goal
 
 -- the digits that were counted, and those of what is left
 abbrev pub invariant-loop-left : goal.invariant-loop-left

@@ -1,7 +1,7 @@
 use Rattle.std.proofs.Common.{◌+◌, ◌/◌, ◌≤◌, ◌<◌, ◌≡◌, ◌∙◌, ap, sym, arith, length, ℕ}
 use Rattle.std.specs.Fmt.{decimal}
 use Rattle.itoa.proofs.Decimal.{length_one, length_two, length_pair}
-use Rattle.acas_units.proofs.line.short_count.Goals as goal
+use Rattle.acas_outside.proofs.line.short_count.Goals as goal
 
 -- the digits below a hundred, and the two above
 three : (n : ℕ) → 100 ≤ n → n < 1000 → length (decimal n) ≡ 3

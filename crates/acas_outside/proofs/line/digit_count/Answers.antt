@@ -2,7 +2,7 @@ use Rattle.std.proofs.Common.{◌≤◌, ◌<◌, ◌^◌, arith, length, ℕ}
 use Rattle.std.specs.Fmt.{decimal}
 use Rattle.std.proofs.lemmas.Fmt.{length-decimal-le}
 use Rattle.itoa.proofs.Decimal.{length_four}
-use Rattle.acas_units.proofs.line.digit_count.Goals as goal
+use Rattle.acas_outside.proofs.line.digit_count.Goals as goal
 
 -- a number of 64 bits has at most 20 digits
 few : (n : ℕ) → n < 2 ^ 64 → length (decimal n) ≤ 20

@@ -1,12 +1,14 @@
 //! Lines that are built in themselves: none takes memory.
 ghost use Rattle.std.specs.Prelude.{◌≡◌, ◌+◌, ◌/◌, ◌^◌, ◌<◌, ◌≤◌, [], ◌++◌, length, unsigned_abs};
 ghost use Rattle.std.specs.Fmt.{decimal, signed_decimal};
-ghost use Rattle.acas_units.specs.Printed.{millionths_text};
+ghost use Rattle.acas_outside.specs.Printed.{millionths_text};
 
 use crate::digits::last_six;
-use crate::limits::LINE_BYTES;
 use itoa::{Buffer, write_digits};
 use std::marker::Model;
+
+/// The greatest number of bytes of a line that is built in a buffer.
+pub const LINE_BYTES: usize = 1_024;
 
 /// A line of at most [`LINE_BYTES`] bytes, which contracts see as the list of its bytes. It has its bytes in itself.
 #[derive(Drop)]
@@ -17,7 +19,7 @@ pub struct Line {
 
 impl Model for Line {
     ghost use Rattle.std.specs.Prelude.{List, ℕ, ◌≡◌, ◌≤◌, take, length};
-    ghost use Rattle.acas_units.specs.declared.limits.TheConstants.{LINE_BYTES};
+    ghost use Rattle.acas_outside.specs.declared.line.TheConstants.{LINE_BYTES};
 
     ghost Value = { List ℕ };
 

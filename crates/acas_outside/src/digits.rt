@@ -1,6 +1,6 @@
 //! The last decimal digits of a number.
 ghost use Rattle.std.specs.Prelude.{◌≡◌, ◌+◌, ◌%◌};
-ghost use Rattle.acas_units.specs.Printed.{six_digits};
+ghost use Rattle.acas_outside.specs.Printed.{six_digits};
 
 /// The last six decimal digits of a number, leading zeros included.
 #[tactic(auto, unfolding(crate::specs::Printed::six_digits))]
