@@ -15,8 +15,8 @@ use Rattle.acas_doc.specs.declared.input_fault.InputFault.{InputFault}
 use Rattle.acas_doc.specs.declared.input_fault.InputFault.TheVariants.{NotToml, Doc, UnknownName, Window, Rate, Memory}
 use Rattle.acas_doc.specs.InputAnswers.{Gives}
 use Rattle.acas_doc.specs.Input.{in_doc, version_of}
-use Rattle.acas_input.specs.Named.{advisory_at}
-use Rattle.acas_input.proofs.Faults.{AnyFaultIs, advisory_faults, after_faults, all_faults, document_faults, in_doc_faults, next_faults, version_faults}
+use Rattle.acas_model.specs.Named.{advisory_at}
+use Rattle.acas_model.proofs.InputFaults.{AnyFaultIs, advisory_faults, after_faults, all_faults, document_faults, in_doc_faults, next_faults, version_faults}
 use Rattle.acas_boxes.specs.declared.spans.TheConstants.{SPAN_ENDS}
 use Rattle.acas_boxes.specs.Spans.{altitudes_at, in_ticks, interval, closings_at, ranges_at, rates_at, span_at}
 use Rattle.acas_boxes.specs.OneBox.{box_item, box_of, window}

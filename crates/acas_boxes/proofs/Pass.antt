@@ -17,7 +17,7 @@ use Rattle.acas_flight.specs.State.{Interval}
 use Rattle.acas_rulings.specs.Boxes.{AuditedBox, IsBoxOf, box_at, no_box}
 use Rattle.acas_doc.specs.Input.{in_doc}
 use Rattle.acas_doc.specs.declared.input_fault.InputFault.TheVariants.{NotToml}
-use Rattle.acas_input.proofs.Keys.{advisory_passes, version_passes}
+use Rattle.acas_model.proofs.InputKeys.{advisory_passes, version_passes}
 use Rattle.acas_boxes.specs.declared.spans.TheConstants.{SPAN_ENDS}
 use Rattle.acas_boxes.specs.Spans.{altitudes_at, closings_at, ranges_at, rates_at, span_at}
 use Rattle.acas_boxes.specs.OneBox.{box_item, box_of, window}

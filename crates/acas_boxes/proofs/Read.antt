@@ -23,8 +23,8 @@ use Rattle.acas_rulings.specs.Boxes.{AuditedBox, IsBoxOf, box_at, no_box}
 use Rattle.acas_doc.specs.declared.input_fault.InputFault.{InputFault}
 use Rattle.acas_doc.specs.declared.input_fault.InputFault.TheVariants.{NotToml, Window}
 use Rattle.acas_doc.specs.Input.{in_doc, version_of}
-use Rattle.acas_input.specs.Named.{advisory_at}
-use Rattle.acas_input.proofs.Keys.{advisory_ok, version_ok}
+use Rattle.acas_model.specs.Named.{advisory_at}
+use Rattle.acas_model.proofs.InputKeys.{advisory_ok, version_ok}
 use Rattle.acas_boxes.specs.declared.spans.TheConstants.{SPAN_ENDS}
 use Rattle.acas_boxes.specs.Spans.{altitudes_at, closings_at, in_ticks, interval, ranges_at, rates_at, span_at}
 use Rattle.acas_boxes.specs.OneBox.{box_item, box_of, box_with, window}

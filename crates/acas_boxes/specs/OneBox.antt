@@ -12,7 +12,7 @@ use Rattle.acas_rulings.specs.Boxes.{AuditedBox}
 use Rattle.acas_doc.specs.declared.input_fault.InputFault.{InputFault}
 use Rattle.acas_doc.specs.declared.input_fault.InputFault.TheVariants.{Window}
 use Rattle.acas_doc.specs.Input.{in_doc}
-use Rattle.acas_input.specs.Named.{advisory_at}
+use Rattle.acas_model.specs.Named.{advisory_at}
 use Rattle.acas_boxes.specs.Spans.{ranges_at, closings_at, altitudes_at, rates_at}
 
 -- at the least closing speed, the greatest range and the radius are flown within the window

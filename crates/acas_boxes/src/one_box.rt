@@ -6,14 +6,14 @@ ghost use Rattle.acas_areas.specs.Limits.{IsFlownInTime, interval_of};
 ghost use Rattle.acas_model.specs.View.{item_at};
 ghost use Rattle.acas_rulings.specs.Boxes.{IsBoxOf, audited};
 ghost use Rattle.acas_doc.specs.InputAnswers.{Gives};
-ghost use Rattle.acas_input.specs.Named.{advisory_at};
+ghost use Rattle.acas_model.specs.Named.{advisory_at};
 ghost use Rattle.acas_boxes.specs.OneBox as rules;
 
 use crate::spans::{altitudes_at, closings_at, ranges_at, rates_at};
 use acas_areas::BoxState;
 use acas_base::Model;
 use acas_doc::{InputFault, only_keys, path_of_item, table_item, text};
-use acas_input::advisory_named;
+use acas_model::advisory_named;
 use acas_rulings::AuditBox;
 use acas_units::{
     GREATEST_BOX_RANGE, GREATEST_CLOSING, LEAST_BOX_RANGE, LEAST_CLOSING, Span, WINDOW_SECONDS,
@@ -54,7 +54,7 @@ fn window(model: &Model, place: u32, range: &Span, closing: &Span) -> Result<(),
 }
 
 /// The advisory that a table names.
-#[tactic(auto, unfolding(acas_input::specs::Named::advisory_at))]
+#[tactic(auto, unfolding(acas_model::specs::Named::advisory_at))]
 fn advisory_at(
     alloc: Global,
     model: &Model,

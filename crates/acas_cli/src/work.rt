@@ -4,7 +4,7 @@ ghost use Rattle.acas_cli.specs.Work.{HasRoom};
 
 use acas_audit_blocks::Decisions;
 use acas_plane::Turned;
-use acas_step_choices::Backups;
+use acas_sweep::Backups;
 
 /// The most that a count may be before a run: 2^63.
 const GREATEST_COUNT: u64 = 1 << 63;

@@ -8,3 +8,4 @@ pub mod Noise
 pub mod View
 pub mod Whole
 pub mod Text
+pub mod Named

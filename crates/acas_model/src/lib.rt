@@ -1,4 +1,5 @@
-//! The text of a model, and the model that it says.
+//! The text of a model, and the model that it says. It has also what the readers of the texts beside a model share over it: the advisory
+//! that such a text names, and lemmas of what its keys hold and of the faults that its rules give.
 //!
 //! A model is a TOML document. Its rules are looked at in a fixed order, and the first that fails is the fault.
 #![tactic(auto)]
@@ -9,6 +10,7 @@ mod choices;
 mod document;
 mod fault;
 mod laws;
+mod named;
 mod noise;
 mod numbers;
 mod whole;
@@ -18,5 +20,6 @@ pub use acas_doc::{DocFault, DocKind};
 pub use acas_spec::{Advisory, Choice, Name, SigmaPoint, Text};
 pub use fault::{AxisName, ModelFault, NamePlace};
 pub use laws::texts_say_their_models;
+pub use named::advisory_named;
 pub use numbers::DELAY_VERSION;
 pub use whole::read_model;

@@ -12,7 +12,7 @@ use acas_frac::Rounding;
 use acas_means::Side;
 use acas_spec::Choice;
 use acas_step::{LedTo, mean_by};
-use acas_step_choices::{Backups, MeanSource, value_over};
+use acas_sweep::{Backups, MeanSource, value_over};
 use acas_step_stencils::Stencils;
 use acas_units::Pair;
 

@@ -2,7 +2,7 @@
 ghost use Rattle.std.specs.Prelude.{◌≡◌, ◌+◌, ◌<◌, ◌^◌, length};
 ghost use Rattle.acas_spec.specs.Model.{states, vertices};
 ghost use Rattle.acas_grid.specs.States.{vertex_at};
-ghost use Rattle.acas_step_choices.specs.Best.{AreVertexEntries};
+ghost use Rattle.acas_sweep.specs.Best.{AreVertexEntries};
 ghost use Rattle.acas_means.specs.Choices.{choice_count};
 ghost use Rattle.acas_means.specs.Layer.{AreWithin};
 ghost use Rattle.acas_means.specs.declared.layer.Side.{Side};
@@ -10,7 +10,7 @@ ghost use Rattle.acas_means.specs.declared.layer.Side.{Side};
 use crate::means::means_at;
 use acas_base::Model;
 use acas_means::VertexMeans;
-use acas_step_choices::{Backups, VertexEntries, VertexMeansSource, entries_over};
+use acas_sweep::{Backups, VertexEntries, VertexMeansSource, entries_over};
 use acas_units::Pair;
 
 /// The means at a vertex, by one search for each advisory.

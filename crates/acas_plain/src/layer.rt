@@ -8,8 +8,7 @@ ghost use Rattle.acas_sweep.specs.Layers.{layer_backups};
 use crate::entries::entries_at;
 use crate::vertex::fill_vertex;
 use acas_base::Model;
-use acas_step_choices::Backups;
-use acas_sweep::{terminal_entry, vertex_after};
+use acas_sweep::{Backups, terminal_entry, vertex_after};
 use acas_units::Pair;
 
 /// Writes the layer with no second to go.

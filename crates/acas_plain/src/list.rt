@@ -6,7 +6,7 @@ ghost use Rattle.acas_sweep.specs.Layers.{AreLayers, backup_count, layer_backups
 
 use crate::layer::{fill_first, fill_over};
 use acas_base::{Layers, Model};
-use acas_step_choices::Backups;
+use acas_sweep::Backups;
 use acas_units::Pair;
 use std::alloc::{AllocError, Global};
 

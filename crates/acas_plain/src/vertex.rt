@@ -4,7 +4,7 @@ ghost use Rattle.acas_spec.specs.Model.{states, vertices};
 ghost use Rattle.acas_sweep.specs.Entries.{AreWritten, SameElsewhere};
 
 use acas_base::Model;
-use acas_step_choices::VertexEntries;
+use acas_sweep::VertexEntries;
 use acas_units::Pair;
 
 /// Writes the entries of a vertex under all present advisories.

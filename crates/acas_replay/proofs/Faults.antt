@@ -11,8 +11,8 @@ use Rattle.acas_doc.specs.declared.input_fault.InputFault.{InputFault}
 use Rattle.acas_doc.specs.declared.input_fault.InputFault.TheVariants.{NotToml, Doc, UnknownName, Window, Rate, Memory}
 use Rattle.acas_doc.specs.InputAnswers.{Gives}
 use Rattle.acas_doc.specs.Input.{in_doc, version_of}
-use Rattle.acas_input.specs.Named.{advisory_at}
-use Rattle.acas_input.proofs.Faults.{AnyFaultIs, advisory_faults, after_faults, document_faults, in_doc_faults, next_faults, version_faults}
+use Rattle.acas_model.specs.Named.{advisory_at}
+use Rattle.acas_model.proofs.InputFaults.{AnyFaultIs, advisory_faults, after_faults, document_faults, in_doc_faults, next_faults, version_faults}
 use Rattle.acas_replay.specs.declared.limits.TheConstants.{LEAST_START_RANGE, GREATEST_START_RANGE}
 use Rattle.acas_replay.specs.Encounter.{EncounterData}
 use Rattle.acas_replay.specs.Start.{number_at, start_of}

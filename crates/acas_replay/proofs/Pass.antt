@@ -15,7 +15,7 @@ use Rattle.acas_doc.proofs.LeastUnknown.{only_known_passes}
 use Rattle.acas_model.specs.Text.{HoldsList, HoldsWhole}
 use Rattle.acas_model.proofs.Wholes.{wholes_pass}
 use Rattle.acas_doc.specs.declared.input_fault.InputFault.TheVariants.{NotToml}
-use Rattle.acas_input.proofs.Keys.{advisory_passes, version_passes}
+use Rattle.acas_model.proofs.InputKeys.{advisory_passes, version_passes}
 use Rattle.acas_replay.specs.declared.limits.TheConstants.{LEAST_START_RANGE, GREATEST_START_RANGE, LEAST_ACCELERATION, GREATEST_ACCELERATION}
 use Rattle.acas_replay.specs.declared.start.Start.{Start}
 use Rattle.acas_replay.specs.Encounter.{EncounterData, IsStart}

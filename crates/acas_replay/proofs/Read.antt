@@ -22,8 +22,8 @@ use Rattle.acas_doc.specs.declared.input.TheConstants.{INPUT_VERSION}
 use Rattle.acas_doc.specs.declared.input_fault.InputFault.{InputFault}
 use Rattle.acas_doc.specs.declared.input_fault.InputFault.TheVariants.{NotToml}
 use Rattle.acas_doc.specs.Input.{in_doc, version_of}
-use Rattle.acas_input.specs.Named.{advisory_at}
-use Rattle.acas_input.proofs.Keys.{advisory_ok, version_ok}
+use Rattle.acas_model.specs.Named.{advisory_at}
+use Rattle.acas_model.proofs.InputKeys.{advisory_ok, version_ok}
 use Rattle.acas_replay.specs.declared.limits.TheConstants.{LEAST_START_RANGE, GREATEST_START_RANGE, LEAST_ACCELERATION, GREATEST_ACCELERATION}
 use Rattle.acas_replay.specs.declared.start.Start.{Start}
 use Rattle.acas_replay.specs.Encounter.{EncounterData, IsStart}

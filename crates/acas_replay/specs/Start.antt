@@ -8,7 +8,7 @@ use Rattle.acas_spec.specs.Steps.{◌>>=◌}
 use Rattle.acas_doc.specs.Keys.{whole_at}
 use Rattle.acas_doc.specs.declared.input_fault.InputFault.{InputFault}
 use Rattle.acas_doc.specs.Input.{in_doc}
-use Rattle.acas_input.specs.Named.{advisory_at}
+use Rattle.acas_model.specs.Named.{advisory_at}
 use Rattle.acas_replay.specs.declared.limits.TheConstants.{LEAST_START_RANGE, GREATEST_START_RANGE}
 use Rattle.acas_replay.specs.declared.start.Start.{Start}
 

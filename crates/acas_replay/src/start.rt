@@ -3,13 +3,13 @@ ghost use Rattle.std.specs.Prelude.{◌≡◌, ◌<◌, [], IfOk};
 ghost use Rattle.toml.specs.View.{table_view};
 ghost use Rattle.acas_spec.specs.Axis.{IsBetween};
 ghost use Rattle.acas_doc.specs.InputAnswers.{Gives};
-ghost use Rattle.acas_input.specs.Named.{advisory_at};
+ghost use Rattle.acas_model.specs.Named.{advisory_at};
 ghost use Rattle.acas_replay.specs.Start as rules;
 
 use crate::limits::{GREATEST_START_RANGE, LEAST_START_RANGE};
 use acas_base::Model;
 use acas_doc::{InputFault, text, whole};
-use acas_input::advisory_named;
+use acas_model::advisory_named;
 use acas_units::{
     GREATEST_ALTITUDE, GREATEST_CLOSING, GREATEST_RATE, LEAST_ALTITUDE, LEAST_CLOSING, LEAST_RATE,
     feet_to_ticks,
@@ -45,7 +45,7 @@ fn number_at(
 }
 
 /// The present advisory that a document names.
-#[tactic(auto, unfolding(acas_input::specs::Named::advisory_at))]
+#[tactic(auto, unfolding(acas_model::specs::Named::advisory_at))]
 fn present_in(alloc: Global, model: &Model, document: &Table) -> Result<u8, InputFault>
     ensures value { Gives (λ a. a) result (advisory_at model.now (table_view document.now) [] 0) }
     ensures known { IfOk result (λ a. a < model.now.grid.advisories) }

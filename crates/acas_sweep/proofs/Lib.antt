@@ -1,3 +1,5 @@
+pub mod LeastSoFar
+pub mod BestEntries
 mod CompiledLaws
 pub mod Below
 pub mod Over

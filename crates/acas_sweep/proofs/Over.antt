@@ -6,7 +6,7 @@ use Rattle.acas_grid.specs.Grid.{state_number}
 use Rattle.acas_grid.specs.States.{vertex_at}
 use Rattle.acas_units.specs.declared.pair.Entry.{Entry}
 use Rattle.acas_units.specs.declared.pair.Pair.{Pair}
-use Rattle.acas_step_choices.specs.Best.{AreVertexEntries, IsOver, entry_at}
+use Rattle.acas_sweep.specs.Best.{AreVertexEntries, IsOver, entry_at}
 use Rattle.acas_means.specs.Layer.{AreWithin}
 use Rattle.acas_means.specs.declared.layer.Side.{Side}
 use Rattle.acas_means.specs.declared.layer.Side.TheVariants.{Upper, Lower}

@@ -11,7 +11,7 @@ use Rattle.acas_units.specs.declared.pair.Entry.{Entry}
 use Rattle.acas_units.specs.declared.pair.Pair.{Pair}
 use Rattle.acas_process.specs.Compiled.{compiled}
 use Rattle.acas_means.specs.Entries.{IsEntryOf, IsStateEntry}
-use Rattle.acas_step_choices.specs.Best.{entry_at}
+use Rattle.acas_sweep.specs.Best.{entry_at}
 use Rattle.acas_sweep.specs.Entries.{AreWritten, SameElsewhere, listed_entry}
 use Rattle.acas_sweep.specs.Turns.{turn}
 use Rattle.acas_sweep.proofs.Turns.{turn-same}

@@ -6,7 +6,7 @@ use Rattle.acas_grid.specs.Grid.{state_number}
 use Rattle.acas_grid.specs.States.{state_present, state_vertex}
 use Rattle.acas_units.specs.declared.pair.Entry.{Entry}
 use Rattle.acas_units.specs.declared.pair.Pair.{Pair}
-use Rattle.acas_step_choices.specs.Best.{IsOver, entry_at}
+use Rattle.acas_sweep.specs.Best.{IsOver, entry_at}
 use Rattle.acas_means.specs.Layer.{AreWithin, pair_at}
 use Rattle.acas_means.specs.declared.layer.Side.TheVariants.{Upper, Lower}
 use Rattle.acas_sweep.specs.Turns.{turn}

@@ -1,3 +1,6 @@
+pub mod Backups
+pub mod Best
+pub mod Priced
 pub mod Layers
 pub mod Turns
 pub mod Entries

@@ -3,7 +3,7 @@
 ghost use Rattle.std.specs.Prelude.{◌≡◌, ℕ, ◌+◌, ◌*◌, ◌<◌, ◌≤◌, ◌^◌, length};
 ghost use Rattle.acas_spec.specs.Model.{states, vertices};
 ghost use Rattle.acas_process.specs.Compiled.{compiled};
-ghost use Rattle.acas_step_choices.specs.Best.{AreColumnEntries};
+ghost use Rattle.acas_sweep.specs.Best.{AreColumnEntries};
 ghost use Rattle.acas_means.specs.Columns.{columns};
 ghost use Rattle.acas_means.specs.Entries.{IsStateEntry};
 ghost use Rattle.acas_sweep.specs.Entries.{AreOver, AreWritten, IsWhole, SameElsewhere, listed_entry};
@@ -11,12 +11,13 @@ ghost use Rattle.acas_sweep.specs.Filled.{IsFilledTo, pairs_in};
 ghost use Rattle.acas_sweep.specs.Layers.{layer_backups};
 ghost use Rattle.acas_sweep.specs.Turns.{turn};
 
+use crate::backups::Backups;
 use crate::ending::terminal_entry;
+use crate::entries::{ColumnEntries, VertexEntries, fill_entries};
 use crate::order::vertex_after;
 use acas_base::Model;
 use acas_means::{ColumnMeans, LayerMeans, column_count, reach_of, state_among, vertex_in_column};
 use acas_plane::PlaneBlock;
-use acas_step_choices::{Backups, ColumnEntries, VertexEntries, fill_entries};
 use acas_units::GREATEST_ADVISORIES;
 
 /// Writes the layer with no second to go.

@@ -4,13 +4,13 @@ ghost use Rattle.acas_spec.specs.Model.{states};
 ghost use Rattle.acas_sweep.specs.Room.{IsRoomFor};
 ghost use Rattle.acas_sweep.specs.Sweeping.{HandsTable, RaisesCounts};
 
+use crate::backups::Backups;
 use crate::laws::backups_are_few;
 use crate::sink::LayerSink;
 use crate::stream::{self, SweepFault};
 use acas_base::Model;
 use acas_means::LayerMeans;
 use acas_plane::{PlaneBlock, Turned};
-use acas_step_choices::Backups;
 use std::alloc::{AllocError, Global};
 
 /// What a sweep of a model takes beside what forms the means: a block of two planes, and a byte for the advice of each state.

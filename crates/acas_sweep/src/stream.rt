@@ -8,12 +8,13 @@ ghost use Rattle.acas_sweep.specs.Handed.{plane_layer};
 ghost use Rattle.acas_sweep.specs.Layers.{backup_count};
 ghost use Rattle.acas_sweep.specs.Sweeping.{HandsTable, RaisesCounts};
 
+use crate::backups::Backups;
+use crate::entries::blank_entries;
 use crate::plane::{put_first, put_over};
 use crate::sink::{LayerFailed, LayerSink};
 use acas_base::Model;
 use acas_means::{LayerMeans, blank_means};
 use acas_plane::{PlaneBlock, Turned};
-use acas_step_choices::{Backups, blank_entries};
 
 /// Why a sweep ended before its last layer.
 #[derive(Clone, Copy)]

@@ -14,8 +14,7 @@ use acas_command::{Cause, ModelFile, read_model_file};
 use acas_means::LayerMeans;
 use acas_outside::{Folder, Sink};
 use acas_plane::Turned;
-use acas_step_choices::Backups;
-use acas_sweep::Sweep;
+use acas_sweep::{Backups, Sweep};
 use acas_table_rows::{Pen, print_table};
 use std::alloc::Global;
 

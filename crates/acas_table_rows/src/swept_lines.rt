@@ -13,8 +13,7 @@ use acas_base::Model;
 use acas_means::LayerMeans;
 use acas_outside::{Failed, Sink};
 use acas_plane::Turned;
-use acas_step_choices::Backups;
-use acas_sweep::{Sweep, SweepFault, sweep_to};
+use acas_sweep::{Backups, Sweep, SweepFault, sweep_to};
 
 /// Prints all lines of the compiled table of a model, with a pen that has printed nothing. It takes no memory. It counts the backups and
 /// the turned pairs of the sweep.

@@ -17,8 +17,7 @@ use acas_command::ModelFile;
 use acas_means::LayerMeans;
 use acas_outside::{Failed, Folder};
 use acas_plane::Turned;
-use acas_step_choices::Backups;
-use acas_sweep::{Sweep, SweepFault, sweep_to};
+use acas_sweep::{Backups, Sweep, SweepFault, sweep_to};
 use acas_table_writer::TableWriter;
 
 /// Stores the compiled table of a model, layer by layer as the sweep goes, and answers its length. Where it fails, the

@@ -13,7 +13,7 @@ use acas_means::{
 };
 use acas_plain::{backup, mean, means_at};
 use acas_step::{Corner, corners, moved};
-use acas_step_choices::Backups;
+use acas_sweep::Backups;
 use acas_step_columns::StencilMeans;
 use acas_step_stencils::Stencils;
 use acas_tests_data::model_of;

@@ -1,8 +1,7 @@
 //! Compiled tables of small models, and how many backups they take.
 use crate::models::{FOUR, NOISY, TIED};
 use acas_plain::sweep_list;
-use acas_step_choices::Backups;
-use acas_sweep::Layers;
+use acas_sweep::{Backups, Layers};
 use acas_tests_data::model_of;
 use std::alloc::Global;
 

@@ -2,7 +2,7 @@ use Rattle.std.proofs.Common.{◌≡◌, ◌<◌, ap, ◌∙◌, arith}
 use Rattle.acas_spec.specs.Model.{GridData, states}
 use Rattle.acas_grid.specs.Grid.{state_number}
 use Rattle.acas_units.specs.declared.pair.Entry.{Entry}
-use Rattle.acas_step_choices.specs.Best.{entry_at}
+use Rattle.acas_sweep.specs.Best.{entry_at}
 use Rattle.acas_sweep.proofs.Over.{elsewhere_next, written_next}
 use Rattle.acas_plain.proofs.vertex.fill_vertex.Goals as goal
 

@@ -2,7 +2,7 @@ use Rattle.std.proofs.Common.{◌≡◌, ℕ, ◌+◌, ◌*◌, ◌<◌, length,
 use Rattle.std.proofs.lemmas.Grind.{common_steps}
 use Rattle.acas_spec.specs.Model.{GridData}
 use Rattle.acas_grid.specs.States.{vertex_at}
-use Rattle.acas_step_choices.specs.Best.{AreVertexEntries, entries_in}
+use Rattle.acas_sweep.specs.Best.{AreVertexEntries, entries_in}
 use Rattle.acas_means.specs.Columns.{vertex_in}
 use Rattle.acas_sweep.specs.Entries.{AreOver}
 use Rattle.acas_sweep.specs.Filled.{IsFilledTo, pairs_in}

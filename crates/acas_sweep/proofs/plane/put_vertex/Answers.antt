@@ -4,7 +4,7 @@ use Rattle.acas_spec.specs.Model.{GridData, states}
 use Rattle.acas_grid.specs.Grid.{state_number}
 use Rattle.acas_units.specs.declared.pair.Entry.{Entry}
 use Rattle.acas_plane.specs.Plane.{Plane, with_pair}
-use Rattle.acas_step_choices.specs.Best.{entry_at}
+use Rattle.acas_sweep.specs.Best.{entry_at}
 use Rattle.acas_sweep.specs.Filled.{pairs_in}
 use Rattle.acas_sweep.proofs.Filled.{filled_next, length-pairs_in, next_free, pairs_in-set}
 use Rattle.acas_sweep.proofs.Over.{elsewhere_next, written_next}

@@ -1,2 +1,0 @@
-pub mod LeastSoFar
-pub mod BestEntries

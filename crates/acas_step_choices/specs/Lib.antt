@@ -1,3 +1,0 @@
-pub mod Backups
-pub mod Best
-pub mod Priced
