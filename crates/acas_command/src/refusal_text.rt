@@ -5,9 +5,9 @@ ghost use Rattle.acas_outside.specs.Printed.{millionths_text};
 ghost use Rattle.acas_command.specs.RefusalText.{bound_text, byte_text, digest_text, form_text, layer_digest_text, model_text, refusal_text, shape_text, state_text};
 
 use crate::line_fields::{put_count, put_counts, put_millionths, put_text, put_wide_millionths};
+use acas_outside::Line;
 use acas_spec::BoundFault;
 use acas_table_text::{TableFault, TableRefusal};
-use acas_outside::Line;
 
 /// Makes a line of what is printed of a refusal.
 pub(crate) fn write_refusal(line: &mut Line, refusal: &TableRefusal)

@@ -7,8 +7,8 @@ ghost use Rattle.acas_drill.specs.Text.{drill_line, drill_lines};
 
 use acas_command::{put_count, put_text};
 use acas_grid::Grid;
-use acas_report_lines::{Counts, line_counts};
 use acas_outside::{LINE_BYTES, Line};
+use acas_report_lines::{Counts, line_counts};
 
 /// The greatest number of bytes of the line that says how large the table is.
 const SIZE_BYTES: usize = 120;

@@ -1,11 +1,10 @@
 //! The text of a fraction.
 ghost use Rattle.std.specs.Prelude.{◌≡◌, ◌++◌, OnErr, OnOk};
-ghost use Rattle.std.specs.Fmt.{signed_decimal};
 ghost use Rattle.std.specs.Io.{StartsWith};
 ghost use Rattle.acas_frac.specs.Fraction.{fraction_text};
 
+use crate::whole::{append_number, or_as_before};
 use acas_frac::Frac;
-use itoa::Buffer;
 use std::alloc::AllocError;
 
 /// Appends `n`, where the denominator is 1, and else `n/d`. Where memory is refused, `out` is as before.
@@ -14,11 +13,7 @@ pub fn print_frac(out: &mut Vec<u8>, value: &Frac) -> Result<(), AllocError>
     ensures err { OnErr result (out.new.items ≡ out.old.items) }
 {
     let start = out.len();
-    let printed = append_frac(out, value);
-    if printed.is_err() {
-        out.truncate(start);
-    }
-    printed
+    or_as_before(append_frac(out, value), out, start)
 }
 
 fn append_frac(out: &mut Vec<u8>, value: &Frac) -> Result<(), AllocError>
@@ -30,14 +25,5 @@ fn append_frac(out: &mut Vec<u8>, value: &Frac) -> Result<(), AllocError>
         out.push(b'/')?;
         append_number(out, value.den())?;
     }
-    Ok(())
-}
-
-fn append_number(out: &mut Vec<u8>, number: i128) -> Result<(), AllocError>
-    ensures ok { OnOk result (out.new.items ≡ out.old.items ++ signed_decimal number) }
-    ensures err { OnErr result (out.new.items ≡ out.old.items) }
-{
-    let mut buffer = Buffer::new();
-    out.extend_from_slice(buffer.format(number).as_bytes())?;
     Ok(())
 }

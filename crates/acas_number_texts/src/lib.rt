@@ -3,6 +3,7 @@
 
 mod fraction;
 mod millionths;
+mod whole;
 
 pub use fraction::print_frac;
 pub use millionths::print_millionths;

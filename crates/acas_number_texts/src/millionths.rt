@@ -1,11 +1,10 @@
 //! The text of a number of millionths.
 ghost use Rattle.std.specs.Prelude.{◌≡◌, ◌≤◌, ◌^◌, ◌++◌, ◌∷◌, unsigned_abs, OnOk, OnErr};
 ghost use Rattle.std.specs.Io.{StartsWith};
-ghost use Rattle.std.specs.Fmt.{decimal};
 ghost use Rattle.acas_outside.specs.Printed.{millionths_text, sign_text, six_digits};
 
+use crate::whole::{append_number, or_as_before};
 use acas_outside::last_six;
-use itoa::Buffer;
 use std::alloc::AllocError;
 
 /// Appends the text of a number of millionths: a `-` where it is below 0, the whole units without leading zeros, a point
@@ -16,11 +15,7 @@ pub fn print_millionths(out: &mut Vec<u8>, value: i128) -> Result<(), AllocError
     ensures err { OnErr result (out.new.items ≡ out.old.items) }
 {
     let start = out.len();
-    let printed = append_millionths(out, value);
-    if printed.is_err() {
-        out.truncate(start);
-    }
-    printed
+    or_as_before(append_millionths(out, value), out, start)
 }
 
 fn append_millionths(out: &mut Vec<u8>, value: i128) -> Result<(), AllocError>
@@ -29,7 +24,7 @@ fn append_millionths(out: &mut Vec<u8>, value: i128) -> Result<(), AllocError>
 {
     append_sign(out, value)?;
     let magnitude = value.unsigned_abs();
-    append_whole(out, magnitude / 1_000_000)?;
+    append_number(out, magnitude / 1_000_000)?;
     append_places(out, magnitude)?;
     Ok(())
 }
@@ -41,15 +36,6 @@ fn append_sign(out: &mut Vec<u8>, value: i128) -> Result<(), AllocError>
     if value < 0 {
         out.push(b'-')?;
     }
-    Ok(())
-}
-
-fn append_whole(out: &mut Vec<u8>, whole: u128) -> Result<(), AllocError>
-    ensures ok { OnOk result (out.new.items ≡ out.old.items ++ decimal whole) }
-    ensures err { OnErr result (out.new.items ≡ out.old.items) }
-{
-    let mut buffer = Buffer::new();
-    out.extend_from_slice(buffer.format(whole).as_bytes())?;
     Ok(())
 }
 

@@ -12,8 +12,8 @@ use acas_frac::Rounding;
 use acas_means::Side;
 use acas_spec::Choice;
 use acas_step::{LedTo, mean_by};
-use acas_sweep::{Backups, MeanSource, value_over};
 use acas_step_stencils::Stencils;
+use acas_sweep::{Backups, MeanSource, value_over};
 use acas_units::Pair;
 
 /// The means by what gives the corners.

@@ -3,7 +3,6 @@ ghost use Rattle.std.specs.Prelude.{◌≡◌, ◌<◌, [], IfOk};
 ghost use Rattle.toml.specs.View.{table_view};
 ghost use Rattle.acas_spec.specs.Axis.{IsBetween};
 ghost use Rattle.acas_doc.specs.InputAnswers.{Gives};
-ghost use Rattle.acas_model.specs.Named.{advisory_at};
 ghost use Rattle.acas_replay.specs.Start as rules;
 
 use crate::limits::{GREATEST_START_RANGE, LEAST_START_RANGE};
@@ -44,23 +43,14 @@ fn number_at(
     Ok(whole(alloc, document, b"", key, least, greatest)?)
 }
 
-/// The present advisory that a document names.
-#[tactic(auto, unfolding(acas_model::specs::Named::advisory_at))]
-fn present_in(alloc: Global, model: &Model, document: &Table) -> Result<u8, InputFault>
-    ensures value { Gives (λ a. a) result (advisory_at model.now (table_view document.now) [] 0) }
-    ensures known { IfOk result (λ a. a < model.now.grid.advisories) }
-{
-    let name = text(alloc, document, b"", "advisory")?;
-    advisory_named(model, name.as_bytes(), 0)
-}
-
 /// The start that a document says.
-#[tactic(auto, unfolding(crate::specs::Start::start_of))]
+#[tactic(auto, unfolding(crate::specs::Start::start_of, acas_model::specs::Named::advisory_at))]
 pub(crate) fn start_of(alloc: Global, model: &Model, document: &Table) -> Result<Start, InputFault>
     ensures value { Gives (λ s. s) result (rules.start_of model.now (table_view document.now)) }
     ensures known { IfOk result (λ s. s.advisory < model.now.grid.advisories) }
 {
-    let advisory = present_in(alloc, model, document)?;
+    let name = text(alloc, document, b"", "advisory")?;
+    let advisory = advisory_named(model, name.as_bytes(), 0)?;
     let range = number_at(
         alloc,
         document,

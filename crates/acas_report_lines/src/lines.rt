@@ -7,8 +7,8 @@ use crate::fields::{line_count, line_name};
 use crate::said::Said;
 use acas_base::Model;
 use acas_cells::CellName;
-use acas_rulings::Ruling;
 use acas_outside::{LINE_BYTES, Line};
+use acas_rulings::Ruling;
 use acas_units::GREATEST_NAME_BYTES;
 
 /// The greatest number of bytes with which a line begins: a word, four numbers and two names.

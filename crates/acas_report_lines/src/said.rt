@@ -4,8 +4,8 @@ ghost use Rattle.acas_report_lines.specs.Meetings as meetings;
 ghost use Rattle.acas_report_lines.specs.Text as rulings;
 
 use crate::witness_fields::{MEETING_BYTES, line_meeting, line_witness};
-use acas_rulings::{MeetVerdict, Ruling};
 use acas_outside::{LINE_BYTES, Line};
+use acas_rulings::{MeetVerdict, Ruling};
 
 /// The greatest number of bytes of what is said: a word, a meeting and the end of the line.
 pub const SAID_BYTES: usize = MEETING_BYTES + 10;

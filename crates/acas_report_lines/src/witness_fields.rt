@@ -9,8 +9,8 @@ ghost use Rattle.acas_report_lines.specs.Text.{labelled, parts_text, response_te
 
 use crate::fields::{FRAC_BYTES, line_frac};
 use acas_frac::Frac;
-use acas_rulings::{Flight, Meeting, Segment, Witness};
 use acas_outside::{LINE_BYTES, Line};
+use acas_rulings::{Flight, Meeting, Segment, Witness};
 
 /// The greatest number of bytes of a segment: two fractions and an `@`.
 const SEGMENT_BYTES: usize = 2 * FRAC_BYTES + 1;

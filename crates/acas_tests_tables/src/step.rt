@@ -13,9 +13,9 @@ use acas_means::{
 };
 use acas_plain::{backup, mean, means_at};
 use acas_step::{Corner, corners, moved};
-use acas_sweep::Backups;
 use acas_step_columns::StencilMeans;
 use acas_step_stencils::Stencils;
+use acas_sweep::Backups;
 use acas_tests_data::model_of;
 use acas_units::{GREATEST_ADVISORIES, GREATEST_VERTICES, Pair};
 use std::alloc::Global;
