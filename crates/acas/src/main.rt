@@ -1,8 +1,9 @@
 //! The program `acas`: the top call over the files, the words and the streams of the system.
 #![tactic(auto)]
 
-use acas_cli::run_on_system;
+use acas_cli::ended;
 use acas_cli_words::{NoWords, given_words};
+use acas_outside::{RealFolder, RealSink};
 use std::process::ExitCode;
 
 /// The exit code where the words find no memory.
@@ -17,5 +18,8 @@ fn main(rt: HostRuntime) -> ExitCode {
         Err(NoWords::Memory) => return ExitCode::from(NO_MEMORY),
         Err(NoWords::Refused) => return ExitCode::from(NO_WORDS),
     };
-    run_on_system(&rt, &words)
+    let mut folder = RealFolder::new(&rt);
+    let mut out = RealSink::new(rt.stdout());
+    let mut err = RealSink::new(rt.stderr());
+    ended(rt.alloc(), &words, &mut folder, &mut out, &mut err)
 }

@@ -10,6 +10,6 @@ pub use acas_accept::{AcceptFault, accept};
 pub use acas_command::{Cause, FileRole, Status};
 pub use acas_table_text::TableRefusal;
 pub use drill_call::drill;
-pub use exit::{ended, run_on_system};
+pub use exit::ended;
 pub use top_call::run;
 pub use work::Work;

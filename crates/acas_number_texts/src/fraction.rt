@@ -3,7 +3,7 @@ ghost use Rattle.std.specs.Prelude.{◌≡◌, ◌++◌, OnErr, OnOk};
 ghost use Rattle.std.specs.Io.{StartsWith};
 ghost use Rattle.acas_frac.specs.Fraction.{fraction_text};
 
-use crate::whole::{append_number, or_as_before};
+use crate::appending::{append_number, or_as_before};
 use acas_frac::Frac;
 use std::alloc::AllocError;
 

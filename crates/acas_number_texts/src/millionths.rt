@@ -3,7 +3,7 @@ ghost use Rattle.std.specs.Prelude.{◌≡◌, ◌≤◌, ◌^◌, ◌++◌, ◌
 ghost use Rattle.std.specs.Io.{StartsWith};
 ghost use Rattle.acas_outside.specs.Printed.{millionths_text, sign_text, six_digits};
 
-use crate::whole::{append_number, or_as_before};
+use crate::appending::{append_number, or_as_before};
 use acas_outside::last_six;
 use std::alloc::AllocError;
 

@@ -1,4 +1,4 @@
-//! What both texts are printed by.
+//! Numbers appended to a list of bytes, and the list as it was where that fails.
 ghost use Rattle.std.specs.Prelude.{◌≡◌, ◌≤◌, ◌++◌, length, take, OnErr, OnOk};
 
 use itoa::{Buffer, Integer};
