@@ -11,7 +11,8 @@ use Rattle.acas_doc.specs.declared.input.TheConstants.{INPUT_VERSION}
 use Rattle.acas_doc.specs.declared.input_fault.InputFault.{InputFault}
 use Rattle.acas_doc.specs.declared.input_fault.InputFault.TheVariants.{NotToml, Doc, UnknownName}
 use Rattle.acas_doc.specs.Input.{in_doc, version_of}
-use Rattle.acas_model.specs.Named.{advisory_at, named, or_unknown}
+use Rattle.acas_model.specs.Choices.{named}
+use Rattle.acas_model.specs.Named.{advisory_at, or_unknown}
 
 -- the fault, if there is one, is such
 abbrev pub AnyFaultIs : {A : Type 0} → (InputFault → Type 0) → Result A InputFault → Type 0
@@ -54,7 +55,7 @@ or_unknown_faults Is place unknown (Some a) = tt
 pub advisory_faults : (Is : InputFault → Type 0) → ((f : DocFault) → Is (Doc f)) → (m : ModelData) (table : Members) (path : List ℕ) (place : ℕ) → Is (UnknownName place) → AnyFaultIs Is (advisory_at m table path place)
 unfolding advisory_at
 advisory_faults Is doc m table path place unknown =
-    next_faults Is (in_doc (text_at table path (codes "advisory"))) _ (in_doc_faults Is doc _) (λ name. or_unknown_faults Is place unknown (named m name))
+    next_faults Is (in_doc (text_at table path (codes "advisory"))) _ (in_doc_faults Is doc _) (λ name. or_unknown_faults Is place unknown (named m.advisories name))
 
 pub version_faults : (Is : InputFault → Type 0) → ((f : DocFault) → Is (Doc f)) → (doc : Members) → AnyFaultIs Is (version_of doc)
 unfolding version_of

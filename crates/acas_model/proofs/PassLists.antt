@@ -115,7 +115,7 @@ advisories_pass doc m says valid =
 
 -- ---- choices
 
-named_is : (m : ModelData) → IsModel m → (a : ℕ) → a < length m.advisories → named m.advisories (name_of m.advisories a) ≡ Some a
+pub named_is : (m : ModelData) → IsModel m → (a : ℕ) → a < length m.advisories → named m.advisories (name_of m.advisories a) ≡ Some a
 named_is m valid a within =
     position_is (λ b. bytes_eq b.name (name_of m.advisories a)) m.advisories a no_advisory within (equal_bytes (name_of m.advisories a) (name_of m.advisories a) refl)
     (λ k above. other_bytes _ _ (names_apart m valid k a above within))

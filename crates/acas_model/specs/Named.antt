@@ -1,6 +1,5 @@
 -- The advisory that a key names.
-use Rattle.std.specs.Prelude.{ℕ, List, codes, Option, Some, None, Result, Ok, Err, position}
-use Rattle.std.specs.Str.{bytes_eq}
+use Rattle.std.specs.Prelude.{ℕ, List, codes, Option, Some, None, Result, Ok, Err}
 use Rattle.toml.specs.Data.{Members}
 use Rattle.acas_spec.specs.Steps.{◌>>=◌}
 use Rattle.acas_spec.specs.Model.{ModelData}
@@ -8,10 +7,7 @@ use Rattle.acas_doc.specs.Keys.{text_at}
 use Rattle.acas_doc.specs.declared.input_fault.InputFault.{InputFault}
 use Rattle.acas_doc.specs.declared.input_fault.InputFault.TheVariants.{UnknownName}
 use Rattle.acas_doc.specs.Input.{in_doc}
-
--- the number of the advisory of this name
-abbrev pub named : ModelData → List ℕ → Option ℕ
-named m name = position (λ a. bytes_eq a.name name) m.advisories
+use Rattle.acas_model.specs.Choices.{named}
 
 -- the number of an advisory, unless there is none
 abbrev pub or_unknown : ℕ → Option ℕ → Result ℕ InputFault
@@ -22,4 +18,4 @@ or_unknown place (Some a) = Ok a
 unfoldable pub advisory_at : ModelData → Members → List ℕ → ℕ → Result ℕ InputFault
 advisory_at m table path place = do
   name ← in_doc (text_at table path (codes "advisory"))
-  or_unknown place (named m name)
+  or_unknown place (named m.advisories name)

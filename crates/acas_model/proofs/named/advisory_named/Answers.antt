@@ -1,6 +1,6 @@
 use Rattle.std.proofs.Common.{bytes_eq, sym, arith}
 use Rattle.std.proofs.lemmas.List.Quantifiers.{position-Some}
-use Rattle.acas_model.proofs.InputKeys.{no_advisory}
+use Rattle.acas_model.proofs.ReadAdvisories.{no_advisory}
 use Rattle.acas_model.proofs.named.advisory_named.Goals as goal
 
 pub returns-in-Some-clause-range : goal.returns-in-Some-clause-range
