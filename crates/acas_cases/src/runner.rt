@@ -34,7 +34,11 @@ pub fn cases_of(rt: &impl Abort, alloc: Global, text: &str) -> Value {
 /// Reports each way in which one of the cases of an item does not end as it is to end.
 pub fn try_each(rt: &impl Abort, keys: &Table, report: &mut Report) {
     let alloc = report.alloc;
-    let files = files_beneath(rt, keys, report);
+    // the files of the forms, where an item is of them
+    let files = match keys.get("forms") {
+        Some(_) => form_files(rt, report),
+        None => Vec::new(alloc),
+    };
     let bare = Case {
         keys,
         row: &[],
@@ -58,19 +62,15 @@ pub fn try_each(rt: &impl Abort, keys: &Table, report: &mut Report) {
     }
 }
 
-// The files of the forms, where an item is of them.
-fn files_beneath(rt: &impl Abort, keys: &Table, report: &mut Report) -> Vec<File> {
-    match keys.get("forms") {
-        Some(_) => form_files(rt, report),
-        None => Vec::new(report.alloc),
-    }
-}
-
 // The values of each case, in their order: the number, those of the row, and those of the form. Where a key of these is left out, there
 // is one row of no values.
 fn rows_of(rt: &impl Abort, alloc: Global, bare: Case<'_>) -> Vec<Vec<String>> {
     let numbers = number_rows(rt, alloc, bare);
-    let rows = own_rows(rt, alloc, bare);
+    let rows = if bare.has("rows") {
+        bare.lists(rt, alloc, "rows")
+    } else {
+        empty_row(rt, alloc)
+    };
     let fronts = each_with(rt, alloc, &numbers, &rows);
     each_with(rt, alloc, &fronts, &rows_beneath(rt, alloc, bare))
 }
@@ -85,15 +85,13 @@ fn number_rows(rt: &impl Abort, alloc: Global, bare: Case<'_>) -> Vec<Vec<String
         return empty_row(rt, alloc);
     }
     let numbers = bare.text_or(rt, alloc, "numbers", "");
-    counted(rt, alloc, &numbers)
-}
-
-fn own_rows(rt: &impl Abort, alloc: Global, bare: Case<'_>) -> Vec<Vec<String>> {
-    if bare.has("rows") {
-        bare.lists(rt, alloc, "rows")
-    } else {
-        empty_row(rt, alloc)
+    let mut all = Vec::new(alloc);
+    for number in 0..numbers.parse::<u32>().expect(rt, "no number of cases") {
+        let number = number.to_string(alloc).expect(rt, "memory");
+        let row = vec![in alloc; number].expect(rt, "memory");
+        all.push(row).expect(rt, "memory");
     }
+    all
 }
 
 fn rows_beneath(rt: &impl Abort, alloc: Global, bare: Case<'_>) -> Vec<Vec<String>> {
@@ -102,16 +100,6 @@ fn rows_beneath(rt: &impl Abort, alloc: Global, bare: Case<'_>) -> Vec<Vec<Strin
     }
     let sort = bare.text_or(rt, alloc, "forms", "");
     form_rows(rt, alloc, bare.files, &sort)
-}
-
-fn counted(rt: &impl Abort, alloc: Global, numbers: &str) -> Vec<Vec<String>> {
-    let mut all = Vec::new(alloc);
-    for number in 0..numbers.parse::<u32>().expect(rt, "no number of cases") {
-        let number = number.to_string(alloc).expect(rt, "memory");
-        let row = vec![in alloc; number].expect(rt, "memory");
-        all.push(row).expect(rt, "memory");
-    }
-    all
 }
 
 // Each front with each row behind it.

@@ -60,7 +60,14 @@ fn change(
         "held" => push(bytes, held(files, rest)?),
         "compiled" => push_compiled(rt, alloc, held(files, rest)?, bytes),
         "replace" => replace(alloc, bytes, rest),
-        "cut" => cut(bytes, number(rest)?),
+        "cut" => {
+            let length = number(rest)?;
+            if bytes.len() < length {
+                return None;
+            }
+            bytes.truncate(length);
+            Some(())
+        }
         "put" => {
             let (at, digits) = rest.split_once(' ')?;
             put_digits(alloc, bytes, number(at)?, 1, digits)
@@ -112,14 +119,6 @@ fn push_compiled(rt: &impl Abort, alloc: Global, model: &[u8], bytes: &mut Vec<u
 fn replace(alloc: Global, bytes: &mut Vec<u8>, rest: &str) -> Option<()> {
     let text = std::str::from_utf8(bytes).ok()?;
     *bytes = changed(alloc, text, rest)?.into_bytes();
-    Some(())
-}
-
-fn cut(bytes: &mut Vec<u8>, length: usize) -> Option<()> {
-    if bytes.len() < length {
-        return None;
-    }
-    bytes.truncate(length);
     Some(())
 }
 
@@ -182,14 +181,12 @@ fn set_part(alloc: Global, table: &mut [u8], part: &str, rest: &str) -> Option<(
     match part {
         "upper" => put_value(table, at, value),
         "lower" => put_value(table, at.saturating_add(8), value),
-        "advice" => put_byte(table, at.saturating_add(16), value),
+        "advice" => {
+            *table.get_mut(at.saturating_add(16))? = value.parse::<u8>().ok()?;
+            Some(())
+        }
         _ => put_digits(alloc, table, at.saturating_add(16), ENTRY, value),
     }
-}
-
-fn put_byte(table: &mut [u8], at: usize, value: &str) -> Option<()> {
-    *table.get_mut(at)? = value.parse::<u8>().ok()?;
-    Some(())
 }
 
 fn put_value(table: &mut [u8], at: usize, value: &str) -> Option<()> {
