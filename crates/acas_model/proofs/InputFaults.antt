@@ -12,7 +12,7 @@ use Rattle.acas_doc.specs.declared.input_fault.InputFault.{InputFault}
 use Rattle.acas_doc.specs.declared.input_fault.InputFault.TheVariants.{NotToml, Doc, UnknownName}
 use Rattle.acas_doc.specs.Input.{in_doc, version_of}
 use Rattle.acas_model.specs.Choices.{named}
-use Rattle.acas_model.specs.Named.{advisory_at, or_unknown}
+use Rattle.acas_model.specs.Named.{advisory_at}
 
 -- the fault, if there is one, is such
 abbrev pub AnyFaultIs : {A : Type 0} → (InputFault → Type 0) → Result A InputFault → Type 0
@@ -40,22 +40,18 @@ pub in_doc_faults : {A : Type 0} (Is : InputFault → Type 0) → ((f : DocFault
 in_doc_faults Is doc (Ok x) = tt
 in_doc_faults Is doc (Err f) = doc f
 
-or_not_toml_faults : (Is : InputFault → Type 0) → Is NotToml → (o : Option Members) → AnyFaultIs Is (or_fault NotToml o)
-or_not_toml_faults Is not_toml None = not_toml
-or_not_toml_faults Is not_toml (Some ms) = tt
+or_fault_faults : {A : Type 0} (Is : InputFault → Type 0) (fault : InputFault) → Is fault → (o : Option A) → AnyFaultIs Is (or_fault fault o)
+or_fault_faults Is fault is None = is
+or_fault_faults Is fault is (Some x) = tt
 
 pub document_faults : (Is : InputFault → Type 0) → Is NotToml → (bytes : List ℕ) → AnyFaultIs Is (document_of NotToml bytes)
 unfolding document_of
-document_faults Is not_toml bytes = or_not_toml_faults Is not_toml (document_in bytes)
-
-or_unknown_faults : (Is : InputFault → Type 0) (place : ℕ) → Is (UnknownName place) → (o : Option ℕ) → AnyFaultIs Is (or_unknown place o)
-or_unknown_faults Is place unknown None = unknown
-or_unknown_faults Is place unknown (Some a) = tt
+document_faults Is not_toml bytes = or_fault_faults Is NotToml not_toml (document_in bytes)
 
 pub advisory_faults : (Is : InputFault → Type 0) → ((f : DocFault) → Is (Doc f)) → (m : ModelData) (table : Members) (path : List ℕ) (place : ℕ) → Is (UnknownName place) → AnyFaultIs Is (advisory_at m table path place)
 unfolding advisory_at
 advisory_faults Is doc m table path place unknown =
-    next_faults Is (in_doc (text_at table path (codes "advisory"))) _ (in_doc_faults Is doc _) (λ name. or_unknown_faults Is place unknown (named m.advisories name))
+    next_faults Is (in_doc (text_at table path (codes "advisory"))) _ (in_doc_faults Is doc _) (λ name. or_fault_faults Is (UnknownName place) unknown (named m.advisories name))
 
 pub version_faults : (Is : InputFault → Type 0) → ((f : DocFault) → Is (Doc f)) → (doc : Members) → AnyFaultIs Is (version_of doc)
 unfolding version_of

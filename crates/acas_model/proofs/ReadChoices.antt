@@ -1,5 +1,5 @@
 -- The choices that a document says.
-use Rattle.std.proofs.Common.{◌≡◌, ◌≢◌, ℕ, zero, suc, ◌-◌, ◌^◌, ◌<◌, true, false, ◌==◌, List, [], ◌∷◌, length, map, take, get_or, codes, ℤ, pos, bytes_eq, Option, Some, None, Ok, refl, sym, subst, ap, ◌∙◌, arith}
+use Rattle.std.proofs.Common.{◌≡◌, ◌≢◌, ℕ, zero, suc, ◌-◌, ◌^◌, ◌<◌, true, false, ◌==◌, List, [], ◌∷◌, length, map, take, get_or, codes, ℤ, pos, bytes_eq, Some, Ok, refl, sym, subst, ap, ◌∙◌, arith}
 use Rattle.std.specs.List.{list_any}
 use Rattle.std.proofs.lemmas.Bool.{false≢true}
 use Rattle.std.proofs.lemmas.List.{get_or-map, get_or-take, length-map, length-take}
@@ -12,22 +12,19 @@ use Rattle.acas_spec.specs.Limits.{IsChoiceList, AreDistinct}
 use Rattle.acas_spec.specs.declared.parts.Advisory.{Advisory}
 use Rattle.acas_spec.specs.declared.parts.Choice.{Choice}
 use Rattle.acas_spec.proofs.Each.{bind_ok, same_ok}
+use Rattle.acas_doc.specs.Values.{or_fault}
 use Rattle.acas_doc.specs.Keys.{list_at, text_item, table_item}
 use Rattle.acas_doc.specs.Paths.{key_path, item_path}
-use Rattle.acas_doc.proofs.Holds.{fault_as_ok, list_at_ok, text_item_ok, table_item_ok}
+use Rattle.acas_doc.proofs.Holds.{or_fault_ok, fault_as_ok, list_at_ok, text_item_ok, table_item_ok}
 use Rattle.acas_model.specs.declared.fault.ModelFault.{ModelFault}
-use Rattle.acas_model.specs.declared.fault.ModelFault.TheVariants.{NoChoice, RepeatedName}
+use Rattle.acas_model.specs.declared.fault.ModelFault.TheVariants.{NoChoice, UnknownName, RepeatedName}
 use Rattle.acas_model.specs.Document.{in_doc}
-use Rattle.acas_model.specs.Choices.{named, or_unknown, choice_item, choice_items, choices_from, some_choice, costs_of, choices_of, choices_item, choice_lists}
+use Rattle.acas_model.specs.Choices.{named, choice_item, choice_items, choices_from, some_choice, costs_of, choices_of, choices_item, choice_lists}
 use Rattle.acas_model.specs.Text.{HoldsList}
 use Rattle.acas_model.proofs.Places.{ReadAt, each_places, none_at, same_lists}
 use Rattle.acas_model.proofs.Wholes.{wholes_ok}
 use Rattle.acas_model.proofs.ReadNumbers.{step_ok}
 use Rattle.acas_model.proofs.ReadAdvisories.{untest_ok, no_advisory}
-
-or_unknown_ok : (advisory place : ℕ) (o : Option ℕ) (a : ℕ) → or_unknown advisory place o ≡ Ok a → o ≡ Some a
-or_unknown_ok advisory place None a e = absurd cc
-or_unknown_ok advisory place (Some b) a e = ap Some (same_ok {E = ModelFault} b a e)
 
 -- the name of an advisory by its number
 abbrev pub name_of : List Advisory → ℕ → List ℕ
@@ -43,9 +40,10 @@ choice_ok : (advisories : List Advisory) (path : List ℕ) (advisory : ℕ) (bef
 unfolding choice_item
 choice_ok advisories path advisory before d a e =
     let t = bind_ok (in_doc (text_item path (length before) d)) _ a e in
-    let n = bind_ok (or_unknown advisory (length before) (named advisories t.0)) _ a t.2 in
+    let unknown = UnknownName (record { advisory = advisory; choice = Some (length before) }) in
+    let n = bind_ok (or_fault unknown (named advisories t.0)) _ a t.2 in
     let f = untest_ok (list_any (λ b. b == n.0) before) n.0 a (RepeatedName (record { advisory = advisory; choice = Some (length before) })) n.2 in
-    let found = position-Some (λ b. bytes_eq b.name t.0) advisories n.0 no_advisory (or_unknown_ok advisory (length before) (named advisories t.0) n.0 n.1) in
+    let found = position-Some (λ b. bytes_eq b.name t.0) advisories n.0 no_advisory (or_fault_ok unknown (named advisories t.0) n.0 n.1) in
     let name : name_of advisories n.0 ≡ t.0 = (bytes_eq-Decides _ _).0 found.1 in
     subst (IsReadChoice advisories before d) f.1 (record {
       there = text_item_ok path (length before) d t.0 (fault_as_ok _ _ t.0 t.1) ∙ ap string (sym name);

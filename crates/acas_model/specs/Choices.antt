@@ -1,5 +1,5 @@
 -- The lists `choices` and `costs` of each advisory.
-use Rattle.std.specs.Prelude.{ℕ, ◌-◌, ◌^◌, List, [], length, map, codes, ℤ, ◌==◌, if◌then◌else◌, Option, Some, None, Result, Ok, Err, position, zip}
+use Rattle.std.specs.Prelude.{ℕ, ◌-◌, ◌^◌, List, [], length, map, codes, ℤ, ◌==◌, if◌then◌else◌, Option, Some, Result, Ok, Err, position, zip}
 use Rattle.std.specs.List.{list_any}
 use Rattle.std.specs.Str.{bytes_eq}
 use Rattle.toml.specs.Data.{Data, Members}
@@ -8,7 +8,7 @@ use Rattle.acas_spec.specs.Steps.{◌>>=◌, ◌>>◌, each}
 use Rattle.acas_spec.specs.declared.parts.Advisory.{Advisory}
 use Rattle.acas_spec.specs.declared.parts.Choice.{Choice}
 use Rattle.acas_doc.specs.Keys.{list_at, whole_items, text_item, table_item}
-use Rattle.acas_doc.specs.Values.{data_at}
+use Rattle.acas_doc.specs.Values.{or_fault, data_at}
 use Rattle.acas_doc.specs.Paths.{key_path, item_path}
 use Rattle.acas_model.specs.declared.fault.ModelFault.{ModelFault}
 use Rattle.acas_model.specs.declared.fault.ModelFault.TheVariants.{NoChoice, UnknownName, RepeatedName}
@@ -18,11 +18,6 @@ use Rattle.acas_model.specs.Advisories.{advisory_items, distinct, name_place}
 -- the number of the advisory of this name
 abbrev pub named : List Advisory → List ℕ → Option ℕ
 named advisories name = position (λ a. bytes_eq a.name name) advisories
-
--- the number of an advisory, unless the choice at this place names none
-abbrev pub or_unknown : ℕ → ℕ → Option ℕ → Result ℕ ModelFault
-or_unknown advisory place None = Err (UnknownName (name_place advisory (Some place)))
-or_unknown advisory place (Some a) = Ok a
 
 -- a choice that does not stand before it in the list
 abbrev pub first_time : ℕ → List ℕ → ℕ → Result ℕ ModelFault
@@ -34,7 +29,7 @@ first_time advisory before a =
 unfoldable pub choice_item : List Advisory → List ℕ → ℕ → List ℕ → Data → Result ℕ ModelFault
 choice_item advisories path advisory before d = do
   name ← in_doc (text_item path (length before) d)
-  a ← or_unknown advisory (length before) (named advisories name)
+  a ← or_fault (UnknownName (name_place advisory (Some (length before)))) (named advisories name)
   first_time advisory before a
 
 -- the choice of a list after those before it

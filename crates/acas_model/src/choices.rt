@@ -1,11 +1,14 @@
 //! The lists `choices` and `costs` of each advisory.
-ghost use Rattle.std.specs.Prelude.{◌≡◌, ◌==◌, ◌<◌, ◌≤◌, ◌^◌, length, IfOk};
+ghost use Rattle.std.specs.Prelude.{◌≡◌, ◌==◌, ◌<◌, ◌≤◌, ◌^◌, length, Some, IfOk};
 ghost use Rattle.std.specs.List.{list_any};
 ghost use Rattle.std.specs.Str.{bytes_eq};
 ghost use Rattle.toml.specs.View.{table_view};
 ghost use Rattle.acas_model.specs.Answers.{Gives};
 ghost use Rattle.acas_base.specs.View.{lists_of};
 ghost use Rattle.acas_model.specs.View.{advised_view, data_of, item_at};
+ghost use Rattle.acas_doc.specs.Values.{or_fault};
+ghost use Rattle.acas_model.specs.declared.fault.ModelFault.TheVariants.{UnknownName};
+ghost use Rattle.acas_model.specs.Advisories.{name_place};
 ghost use Rattle.acas_model.specs.Choices as rules;
 
 use crate::advisories::{advisory_items, distinct};
@@ -49,7 +52,7 @@ fn known_name(
     place: u32,
 ) -> Result<u8, ModelFault>
     requires { length advisories.now ≤ GREATEST_ADVISORIES }
-    ensures value { result ≡ rules.or_unknown advisory place (rules.named advisories.now name.now) }
+    ensures value { result ≡ or_fault (UnknownName (name_place advisory (Some place))) (rules.named advisories.now name.now) }
     ensures range { IfOk result (λ a. a < length advisories.now) }
 {
     match position_of(advisories, name) {
