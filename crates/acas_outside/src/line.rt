@@ -18,14 +18,14 @@ pub struct Line {
 }
 
 impl Model for Line {
-    ghost use Rattle.std.specs.Prelude.{List, ℕ, ◌≡◌, ◌≤◌, take, length};
+    ghost use Rattle.std.specs.Prelude.{List, ℕ, ◌≤◌, take};
     ghost use Rattle.acas_outside.specs.declared.line.TheConstants.{LINE_BYTES};
 
     ghost Value = { List ℕ };
 
     ghost view = { λ line. take line.filled line.room };
 
-    ghost invariant = { λ line. (line.filled ≤ LINE_BYTES) × (length line.room ≡ LINE_BYTES) };
+    ghost invariant = { λ line. line.filled ≤ LINE_BYTES };
 }
 
 // How many decimal digits a number below 10,000 has.
