@@ -5,6 +5,7 @@ The model has the advisories clear, climb and descend, each of which may follow 
 stands below, and any other may stand in its place.
 """
 import importlib.util
+import os
 import sys
 from pathlib import Path
 
@@ -28,6 +29,7 @@ def rule(model):
 
 
 def main(words):
+    os.stat(words[0])
     if importlib.util.find_spec("numpy") is None:
         raise use.Lacking("the Python package numpy: apt-get install python3-numpy")
     from acas_table import Fault, read_model, table_of_advice, write_table
