@@ -238,8 +238,9 @@ def make_bare(where, group):
                 kept[module] = set(TYPE.findall(types))
             if not kept.get(module, True):
                 os.remove(path)
-        for file in os.listdir(os.path.join(crate, "proofs")):
-            path = os.path.join(crate, "proofs", file)
+        proofs = os.path.join(crate, "proofs")
+        for file in os.listdir(proofs) if os.path.isdir(proofs) else []:
+            path = os.path.join(proofs, file)
             if os.path.isfile(path):
                 os.remove(path)
             elif file not in ["laws", "examples"]:
