@@ -1,23 +1,24 @@
 //! The models of drills.
 use acas_base::{Choice, Model, SigmaPoint};
 use acas_drill_model::drill_model;
-use acas_grid::{Axis, Grid};
+use acas_grid::Axis;
+use acas_tests_data::numbers;
 use acas_units::GREATEST_DRILL_NUMBER;
 use std::alloc::Global;
 
-// How many numbers an axis has, and the first, the second and the last of them.
-type Ends = (u32, i64, i64, i64);
-
-// Whether an axis has so many numbers, of which these are the first, the second and the last.
-fn has_ends(axis: &Axis, (count, first, second, last): Ends) -> bool {
-    let len = axis.len();
-    let lower = axis.value(0) == first && axis.value(1) == second;
-    lower && len == count && axis.value(len - 1) == last
+// Whether these words are the numbers that were found.
+fn says(alloc: Global, words: &str, found: &[i64]) -> bool {
+    match numbers(alloc, words) {
+        Some(wanted) => wanted.as_slice() == found,
+        None => false,
+    }
 }
 
-// Whether the altitudes, the own rates and the intruder's have these ends.
-fn has_axes(grid: &Grid, h: Ends, v0: Ends, v1: Ends) -> bool {
-    has_ends(&grid.h, h) && has_ends(&grid.v0, v0) && has_ends(&grid.v1, v1)
+// How many numbers an axis has, and the first, the second and the last of them.
+fn ends_of(axis: &Axis) -> [i64; 4] {
+    let len = axis.len();
+    let last = axis.value(len - 1);
+    [i64::from(len), axis.value(0), axis.value(1), last]
 }
 
 // What a second under each advisory costs.
@@ -45,53 +46,57 @@ fn asks(model: &Model, a: u8, name: &str, lo: i64, hi: i64) -> bool {
     named && found.lo == lo && found.hi == hi && are_all(model.choices(a))
 }
 
-// A number; the ends of the altitudes, the own rates and the intruder's; the horizon, and the cost of contact. 12345 is 7 * 1763 + 4,
+// A number; the horizon and the cost of contact; the ends of the altitudes, the own rates and the intruder's. 12345 is 7 * 1763 + 4,
 // 1763 is 4 * 440 + 3, 440 is 4 * 110, and 110 is 31 * 3 + 17. 999999999 is 7 * 142857142 + 5, 142857142 is 4 * 35714285 + 2, 35714285
 // is 4 * 8928571 + 1, 8928571 is 31 * 288018 + 13, and 999999999 is 9000 * 111111 + 999.
-const GRIDS: [(u32, (Ends, Ends, Ends), u32, i64); 2] = [
-    (
-        12_345,
-        (
-            (21, -120_000, -108_000, 120_000),
-            (11, -2_500, -2_000, 2_500),
-            (5, -1_000, -500, 1_000),
-        ),
-        27,
-        4_345,
-    ),
-    (
-        999_999_999,
-        (
-            (23, -132_000, -120_000, 132_000),
-            (9, -2_000, -1_500, 2_000),
-            (7, -1_500, -1_000, 1_500),
-        ),
-        23,
-        1_999,
-    ),
+const GRIDS: [&str; 2] = [
+    "12345 : 27 4345 : 21 -120000 -108000 120000 : 11 -2500 -2000 2500 : 5 -1000 -500 1000",
+    "999999999 : 23 1999 : 23 -132000 -120000 132000 : 9 -2000 -1500 2000 : 7 -1500 -1000 1500",
 ];
 
-// Whether the model of a number has these ends of its axes, this horizon and this cost of contact.
-fn has_grid(
-    alloc: Global,
-    number: u32,
-    (h, v0, v1): (Ends, Ends, Ends),
-    horizon: u32,
-    contact: i64,
-) -> Option<bool> {
+// The parts of a row.
+#[derive(Clone, Copy)]
+struct Row<'r> {
+    number: &'r str,
+    costs: &'r str,
+    h: &'r str,
+    v0: &'r str,
+    v1: &'r str,
+}
+
+fn row_of(text: &str) -> Option<Row<'_>> {
+    let mut parts = text.split(" : ");
+    Some(Row {
+        number: parts.next()?,
+        costs: parts.next()?,
+        h: parts.next()?,
+        v0: parts.next()?,
+        v1: parts.next()?,
+    })
+}
+
+// Whether the model of a row's number is as the row says.
+fn has_grid(alloc: Global, text: &str) -> Option<bool> {
+    let row = row_of(text)?;
+    let number = row.number.parse::<u32>().ok()?;
     if number > GREATEST_DRILL_NUMBER {
         return None;
     }
     let model = drill_model(alloc, number).ok()?;
     let grid = model.grid();
-    Some(has_axes(grid, h, v0, v1) && grid.horizon == horizon && model.contact() == contact)
+    let costs = says(
+        alloc,
+        row.costs,
+        &[i64::from(grid.horizon), model.contact()],
+    );
+    let rates = says(alloc, row.v0, &ends_of(&grid.v0)) && says(alloc, row.v1, &ends_of(&grid.v1));
+    Some(costs && says(alloc, row.h, &ends_of(&grid.h)) && rates)
 }
 
 #[test]
 fn the_grids_of_drills(rt: HostRuntime) {
-    for (number, axes, horizon, contact) in GRIDS {
-        let met = has_grid(rt.alloc(), number, axes, horizon, contact);
-        assert!(rt; met == Some(true), "{number}");
+    for text in GRIDS {
+        assert!(rt; has_grid(rt.alloc(), text) == Some(true), "{text}");
     }
 }
 
