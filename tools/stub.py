@@ -53,6 +53,11 @@ case $ENDS in
 esac
 exit "${ENDS:-0}"
 """
+# What gives a part of a table its name; DATES are seconds that it takes.
+DATE = """#!/bin/sh
+[ -z "$DATES" ] || { echo date >"$CALLS.date"; sleep "$DATES"; }
+exec /bin/date "$@"
+"""
 SUM = """#!/bin/sh
 echo sum >>"$CALLS.sums"
 exec /usr/bin/sha256sum "$@"
@@ -75,7 +80,7 @@ class Place:
             os.mkdir(os.path.join(self.top, name))
         for name in ("acas", "tools/build", "tools/crates.py", "tools/use.py", "python/acas_use.py"):
             shutil.copy(os.path.join(TOP, name), os.path.join(self.top, name))
-        for name, text in (("rt", RT), ("rattle", RATTLE), ("rattle-link", LINK), ("sha256sum", SUM), ("program", PROGRAM)):
+        for name, text in (("rt", RT), ("rattle", RATTLE), ("rattle-link", LINK), ("sha256sum", SUM), ("date", DATE), ("program", PROGRAM)):
             self.write(f"../kit/bin/{name}", text)
             os.chmod(os.path.join(self.kit, name), 0o755)
 
