@@ -28,6 +28,10 @@ Reads file at result into =
     (λ n. IsSomeAnd file (λ bytes. TakesFrom bytes at n into))
     (λ miss. miss ≡ Absent → file ≡ None)
 
+-- a read writes nothing behind the bytes that it gives, and nothing where it gives none
+abbrev pub LeavesRest : Result ℕ ReadMiss → List ℕ → List ℕ → Type 0
+LeavesRest result old new = MatchResult result (λ n. drop n new ≡ drop n old) (λ miss. new ≡ old)
+
 -- a name holds these bytes, and all other names are as before
 abbrev pub Stores : Option Files → Option Files → List ℕ → List ℕ → Type 0
 Stores old new name bytes = new ≡ option_map (λ files. insert files name bytes) old

@@ -1,7 +1,7 @@
 //! A folder of files by name, which may fail.
 ghost use Rattle.std.specs.Prelude.{◌≡◌, ◌<◌, ◌≤◌, Bool, [], List, ℕ, Option, length, take, IsSome, IfOk, OnOk, OnErr, IsErrOf, IsTrue};
 ghost use Rattle.acas_outside.specs.Counts.{Rose, raised};
-ghost use Rattle.acas_outside.specs.Files.{Files, Given, Grows, Reads, Stores};
+ghost use Rattle.acas_outside.specs.Files.{Files, Given, Grows, LeavesRest, Reads, Stores};
 
 use crate::sink::Failed;
 
@@ -31,13 +31,14 @@ pub trait Folder {
     /// The names that a caller may use. No call changes them.
     ghost serves: { Self → List ℕ → Bool };
 
-    /// Reads bytes of a file from the place `at` on, and says how many. What stands in `into` behind them is not known.
+    /// Reads bytes of a file from the place `at` on, and says how many. What stands in `into` behind them is as before.
     ///
     /// No bytes for an `into` that is not empty are the end of the file.
     fn read(&mut self, name: &str, at: u64, into: &mut [u8]) -> Result<usize, ReadMiss>
         requires { IsTrue (serves self.old name.now) }
         ensures bound { IfOk result (λ n. n ≤ length into.new) }
         ensures given { Given (holds self.old) name.now (λ file. Reads file at result into.new) }
+        ensures rest { LeavesRest result into.old into.new }
         ensures holds { holds self.new ≡ holds self.old }
         ensures serves { serves self.new ≡ serves self.old }
         ensures taken { IfOk result (λ n. taken self.new ≡ raised (taken self.old) n) }

@@ -105,7 +105,7 @@ impl MemoryFolder {
 impl Folder for MemoryFolder {
     ghost use Rattle.std.specs.Prelude.{◌≡◌, ◌<◌, ◌≤◌, [], min, length, take, drop, IfOk, OnOk, OnErr, IsErrOf, IsSome, Some, true};
     ghost use Rattle.acas_outside.specs.Counts.{Rose, raised};
-    ghost use Rattle.acas_outside.specs.Files.{Given, Grows, Reads, Stores};
+    ghost use Rattle.acas_outside.specs.Files.{Given, Grows, LeavesRest, Reads, Stores};
     ghost use Rattle.acas_outside.specs.MemoryFolder.{folder_state, faults_of, AppendsInMemory, CreatesInMemory, ReadsInMemory};
 
     ghost holds = { λ folder. Some (folder_state folder).files };
@@ -122,6 +122,7 @@ impl Folder for MemoryFolder {
         ensures bound { IfOk result (λ n. n ≤ length into.new) }
         ensures given { let files = (folder_state self.old).files in
             Given (Some files) name.now (λ file. Reads file at result into.new) }
+        ensures rest { LeavesRest result into.old into.new }
         ensures holds { (folder_state self.new).files ≡ (folder_state self.old).files }
         ensures taken { IfOk result (λ n.
             (folder_state self.new).taken ≡ raised (folder_state self.old).taken n) }
@@ -211,6 +212,7 @@ impl Folder for MemoryFolder {
 fn copy_piece(bytes: &[u8], at: u64, most: u32, into: &mut [u8]) -> usize
     requires { 1 ≤ most }
     ensures takes { TakesFrom bytes.now at result into.new }
+    ensures rest { drop result into.new ≡ drop result into.old }
     ensures count { result ≡ min (min (length bytes.now - at) (length into.old)) most }
 {
     let from = bytes.len().min(at as usize);

@@ -8,6 +8,9 @@ use std::fs::{self, OpenOptions};
 use std::io::{self, ErrorKind, Read, Seek, SeekFrom, Write};
 use std::rt::Files;
 
+/// How many bytes one read asks for at most.
+const PIECE: usize = 65_536;
+
 /// The files of the system, which a runtime opens. A read of a name that the system does not find is a miss, and
 /// each other call that fails is a fault.
 #[derive(Drop)]
@@ -58,8 +61,11 @@ impl<R: Files> Folder for RealFolder<'_, R> {
                 return Err(ReadMiss::Failed);
             }
         };
-        match read_at(&mut file, at, into) {
+        let mut piece = [0u8; PIECE];
+        let asked = into.len().min(PIECE);
+        match read_at(&mut file, at, &mut piece[..asked]) {
             Ok(count) => {
+                into[..count].copy_from_slice(&piece[..count]);
                 self.taken = self.taken.saturating_add(count as u64);
                 Ok(count)
             }
