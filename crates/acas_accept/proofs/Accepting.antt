@@ -1,5 +1,5 @@
 -- A table that is accepted or refused, from its header to its end.
-use Rattle.std.proofs.Common.{◌≡◌, ◌∙◌, ℕ, ◌+◌, ◌-◌, ◌≤◌, List, Option, None, Some, Result, Ok, Err, refl, sym, subst, arith}
+use Rattle.std.proofs.Common.{◌≡◌, ◌∙◌, ℕ, ◌+◌, ◌-◌, ◌≤◌, List, [], ◌∷◌, Option, None, Some, Result, Ok, Err, refl, sym, subst, arith}
 use Rattle.std.specs.Prelude.{IfSome}
 use Rattle.std.specs.FinMap.{get}
 use Rattle.acas_spec.specs.Limits.{IsModel}
@@ -8,9 +8,10 @@ use Rattle.acas_base.specs.Advices.{AdvicesData}
 use Rattle.acas_outside.specs.Bytes.{IsBytes}
 use Rattle.acas_outside.specs.Counts.{raised}
 use Rattle.acas_outside.specs.Files.{Files, Given}
+use Rattle.acas_outside.specs.Once.{TakesOnce, length_of_file}
 use Rattle.acas_outside.specs.declared.folder.Folder.{Ghosts as FolderMeanings}
 use Rattle.acas_table.specs.Reader.{Starts, TakesAtMost, Told, reader_state}
-use Rattle.acas_table.specs.Source.{Takes}
+use Rattle.acas_table.specs.Source.{StaysWithin, Takes}
 use Rattle.acas_table.specs.declared.reader.TableReader.{TableReader}
 use Rattle.acas_table_text.specs.Shape.{shape_of}
 use Rattle.acas_table_text_laws.proofs.FieldFaults.{advice_small}
@@ -24,7 +25,7 @@ use Rattle.acas_table.proofs.Told.{told_both, told_map}
 use Rattle.acas_accept.specs.Answers.{AreAllowed, Gives, ReadsOnce}
 use Rattle.acas_accept.specs.Checking.{HasAccepted, HasNoRefusal, IsAnswer}
 use Rattle.acas_accept.specs.Keeping.{AreAllowedBelow}
-use Rattle.acas_accept.specs.Reading.{ReadsOn}
+use Rattle.acas_accept.specs.Reading.{ReadsOn, TakesLeft}
 use Rattle.acas_accept.specs.declared.check.TableCheck.{TableCheck}
 use Rattle.acas_accept.specs.declared.refusal.AcceptFault.{AcceptFault}
 use Rattle.acas_accept.specs.declared.refusal.AcceptFault.TheVariants.{Refused, Absent, Failed, Memory}
@@ -43,7 +44,9 @@ text_is_bytes m digest bytes v small whole =
 pub record Begins {F : Type 0} (d : FolderMeanings F) (old new : F) (name : List ℕ) (m : ModelData) (digest : List ℕ) (r : TableReader) : Type 0 where
   pub starts : Given (d.holds old) name (λ file. Starts digest (shape_of m.grid) file (Ok r))
   pub shape : r.shape ≡ shape_of m.grid
+  pub holds : d.holds new ≡ d.holds old
   pub taken : Takes d old new 0 (reader_state r).taken
+  pub within : StaysWithin (d.holds old) name 0 (reader_state r).taken
 
 module _ {X : Type 0} (IsOf : List ℕ → X → Type 0) (m : ModelData) (digest : List ℕ) where
   fault_given : (bytes : List ℕ) (fault : AcceptFault) → IsAnswer m digest bytes fault → Gives IsOf m digest (Some bytes) (Err fault)
@@ -105,16 +108,33 @@ file_expected P m digest (Some files) name t format same begins long = of_file (
     of_file None begins = tt
     of_file (Some bytes) begins = subst (λ (f : Format). P (length_of f (shape_of m.grid))) (same ∙ sym begins.format) long
 
+-- of a file that is read from its front on, no byte is taken twice
+once_read : (holds mid new : Option Files) (name : List ℕ) (first all a c last : ℕ) → mid ≡ holds → new ≡ mid → StaysWithin holds name 0 first → StaysWithin mid name first all → TakesLeft new name all c last
+    → c ≤ raised a all → TakesOnce (name ∷ []) holds a last
+once_read None mid new name first all a c last one two begins reads left taken = tt
+once_read (Some files) mid new name first all a c last one two begins reads left taken =
+    let on = subst (λ (h : Option Files). StaysWithin h name first all) one reads in
+    let rest = subst (λ (h : Option Files). TakesLeft h name all c last) (two ∙ one) left in
+    let so_far : all ≤ length_of_file (get files name) = on.told (begins.told (omega arith)) in
+    omega (arith, so_far, rest.told so_far, taken)
+
+-- nothing more is taken
+pub none_left : (holds : Option Files) (name : List ℕ) (so_far before : ℕ) → TakesLeft holds name so_far before before
+none_left None name so_far before = record { told = tt }
+none_left (Some files) name so_far before = record { told = λ inside. omega arith }
+
 length_most : (f : Format) (s : TableShape) → length_of f s ≤ length_of Layered s
 length_most Whole s = omega arith
 length_most Layered s = omega arith
 
 module _ {F X : Type 0} (d : FolderMeanings F) (old mid new last : F) (name : List ℕ) (m : ModelData) (digest : List ℕ) (t all : TableCheck) (result : Result X AcceptFault)
-    (begins : Begins d old mid name m digest t.reader) (reads : ReadsOn d mid new t all result) where
+    (begins : Begins d old mid name m digest t.reader) (reads : ReadsOn d mid new name t all result) (left : TakesLeft (d.holds new) name (reader_state all.reader).taken (d.taken new) (d.taken last)) where
   at_most_read : d.taken last ≤ raised (d.taken old) (length_of all.reader.format (shape_of m.grid) + 1) → TakesAtMost d old last name (shape_of m.grid)
   at_most_read most = record {
     most_taken = omega (arith, most, length_most all.reader.format (shape_of m.grid));
     most_of_file = file_expected (λ n. d.taken last ≤ raised (d.taken old) (n + 1)) m digest (d.holds old) name t all.reader.format reads.format begins.starts most;
+    once = once_read (d.holds old) (d.holds mid) (d.holds new) name (reader_state t.reader).taken (reader_state all.reader).taken (d.taken old) (d.taken new) (d.taken last)
+        begins.holds reads.frame.holds begins.within reads.within left (omega (arith, begins.taken.taken, reads.taken.later, reads.taken.taken));
   }
 
   -- a fault behind the header

@@ -1,9 +1,10 @@
 -- Calls that only read, one after another.
-use Rattle.std.proofs.Common.{◌≡◌, Result, Ok, Err, refl, ◌∙◌, arith}
+use Rattle.std.proofs.Common.{◌≡◌, ℕ, List, Result, Ok, Err, refl, ◌∙◌, arith}
 use Rattle.std.specs.Prelude.{IsErrOf}
 use Rattle.acas_outside.specs.Frame.{OnlyReads}
 use Rattle.acas_outside.specs.declared.folder.Folder.{Ghosts as FolderMeanings}
 use Rattle.acas_table.specs.Reader.{reader_state}
+use Rattle.acas_table.proofs.Within.{within_same, within_then}
 use Rattle.acas_accept.specs.Reading.{ReadsOn}
 use Rattle.acas_accept.specs.declared.check.TableCheck.{TableCheck}
 use Rattle.acas_accept.specs.declared.refusal.AcceptFault.{AcceptFault}
@@ -40,21 +41,23 @@ module _ {F : Type 0} (d : FolderMeanings F) where
   -- ---- in a table in check
 
   -- no byte
-  pub stays : {X : Type 0} (a : F) (before now : TableCheck) (x : X) → (reader_state now.reader).shape ≡ (reader_state before.reader).shape → (reader_state now.reader).format ≡ (reader_state before.reader).format
-      → (reader_state now.reader).taken ≡ (reader_state before.reader).taken → ReadsOn d a a before now (Ok x)
-  stays a before now x shape format taken = record {
+  pub stays : {X : Type 0} (a : F) (name : List ℕ) (before now : TableCheck) (x : X) → (reader_state now.reader).shape ≡ (reader_state before.reader).shape → (reader_state now.reader).format ≡ (reader_state before.reader).format
+      → (reader_state now.reader).taken ≡ (reader_state before.reader).taken → ReadsOn d a a name before now (Ok x)
+  stays a name before now x shape format taken = record {
     shape = shape;
     format = format;
     taken = record { later = omega (arith, taken); taken = omega (arith, taken) };
+    within = within_same (d.holds a) name _ _ taken;
     kind = tt;
     frame = record { holds = refl; serves = refl; faults = omega arith; misses = omega arith; taken = omega arith; fault = λ is. cc; miss = λ is. cc };
   }
 
-  pub reads_on : {X : Type 0} (a b c : F) (before mid now : TableCheck) (x : X) (result : Result X AcceptFault) → ReadsOn d a b before mid (Ok x) → ReadsOn d b c mid now result → ReadsOn d a c before now result
-  reads_on a b c before mid now x result first second = record {
+  pub reads_on : {X : Type 0} (a b c : F) (name : List ℕ) (before mid now : TableCheck) (x : X) (result : Result X AcceptFault) → ReadsOn d a b name before mid (Ok x) → ReadsOn d b c name mid now result → ReadsOn d a c name before now result
+  reads_on a b c name before mid now x result first second = record {
     shape = second.shape ∙ first.shape;
     format = second.format ∙ first.format;
     taken = record { later = omega (arith, first.taken.later, second.taken.later); taken = omega (arith, first.taken.later, first.taken.taken, second.taken.later, second.taken.taken) };
+    within = within_then (d.holds a) (d.holds b) name _ _ _ first.frame.holds first.within second.within;
     kind = second.kind;
     frame = reads_both a b c _ _ _ _ first.frame second.frame;
   }

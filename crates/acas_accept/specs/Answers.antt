@@ -54,7 +54,7 @@ Gives IsOf m digest file (Err Failed) = ⊤
 Gives IsOf m digest file (Err Memory) = ⊤
 
 -- an accepted table is read once: just as many bytes as it has in one of the versions, and where the file is told, in that
--- which it names; of no file is more read than one byte more than a table has
+-- which it names; of no file is more read than one byte more than a table has, nor than it has itself
 pub record ReadsOnce {F X : Type 0} (d : FolderMeanings F) (old new : F) (name : List ℕ) (s : TableShape)
     (result : Result X AcceptFault) : Type 0 where
   pub all_taken : OnOk result ((f : Format) × (d.taken new ≡ raised (d.taken old) (length_of f s)))

@@ -12,7 +12,7 @@ ghost use Rattle.acas_bounds.specs.Planes.{IsPlane};
 ghost use Rattle.acas_accept.specs.Checking.{HasAccepted, HasNoRefusal, IsAnswer, IsAt, IsBeforeLayer, IsCheckOf, IsInLayer};
 ghost use Rattle.acas_accept.specs.Faults.{IsAnswerable};
 ghost use Rattle.acas_accept.specs.Leasts.{AreFound, HaveLeasts};
-ghost use Rattle.acas_accept.specs.Reading.{ReadsOn};
+ghost use Rattle.acas_accept.specs.Reading.{ReadsOn, TakesLeft};
 
 use crate::keeping::KeepsLayers;
 use crate::leasts::Leasts;
@@ -132,7 +132,7 @@ impl TableCheck {
         ensures check { OnOk result (IsCheckOf model.now self.new n (state + 1)) }
         ensures means { self.new.means ≡ self.old.means }
         ensures leasts { self.new.leasts ≡ self.old.leasts }
-        ensures reads { ReadsOn F.Folder folder.old folder.new self.old self.new result }
+        ensures reads { ReadsOn F.Folder folder.old folder.new name.now self.old self.new result }
     {
         let entry = match self.reader.entry(folder, name) {
             Ok(entry) => entry,
@@ -216,7 +216,7 @@ impl TableCheck {
             (IsAnswer model.now digest bytes)) }
         ensures check { OnOk result
             (IsCheckOf model.now self.new n (state_number model.now.grid (plane.now.present + 1) 0)) }
-        ensures reads { ReadsOn F.Folder folder.old folder.new self.old self.new result }
+        ensures reads { ReadsOn F.Folder folder.old folder.new name.now self.old self.new result }
     {
         let vertices = model.grid().vertices();
         let found = self.find_leasts(model, n, plane);
@@ -248,7 +248,7 @@ impl TableCheck {
             (λ _. IsInLayer model.now digest self.new n (states model.now.grid) bytes)
             (IsAnswer model.now digest bytes)) }
         ensures check { OnOk result (IsCheckOf model.now self.new n (states model.now.grid)) }
-        ensures reads { ReadsOn F.Folder folder.old folder.new self.old self.new result }
+        ensures reads { ReadsOn F.Folder folder.old folder.new name.now self.old self.new result }
     {
         self.begin_layer(model, layer_means, n);
         for present in 0..model.grid().advisories as u8 {
@@ -279,7 +279,7 @@ impl TableCheck {
             (IsAnswer model.now digest bytes)) }
         ensures check { OnOk result (IsCheckOf model.now self.new (model.now.grid.horizon + 1) 0) }
         ensures kept { OnOk result (K.was_given kept.new model.now (model.now.grid.horizon + 1)) }
-        ensures reads { ReadsOn F.Folder folder.old folder.new self.old self.new result }
+        ensures reads { ReadsOn F.Folder folder.old folder.new name.now self.old self.new result }
     {
         for n in 0..model.grid().horizon + 1 {
             self.layer(model, layer_means, n, folder, name)?;
@@ -302,6 +302,8 @@ impl TableCheck {
         ensures most_taken { let old = reader_state self.old.reader in
             let most = length_of old.format old.shape + 1 in
             F.taken folder.new ≤ raised (F.taken folder.old) (most - old.taken) }
+        ensures left { TakesLeft (F.holds folder.old) name.now (reader_state self.old.reader).taken
+            (F.taken folder.old) (F.taken folder.new) }
         ensures kind { IfErr result IsAnswerable }
         ensures frame { OnlyReads F.Folder folder.old folder.new
             (IsErrOf result AcceptFault.Failed) (IsErrOf result AcceptFault.Absent) }

@@ -51,7 +51,7 @@ fn accept_keeping<M: LayerMeans, K: KeepsLayers, F: Folder>(
 /// advices of the layers from 1 on.
 ///
 /// Over every folder, an accepted table is read once, and of no file is more read than one byte more than the length of
-/// a table of the version that it names.
+/// a table of the version that it names. Where the folder tells the file, no more is read than it has.
 pub fn accept<M: LayerMeans, F: Folder>(
     alloc: Global,
     model: &Model,

@@ -3,5 +3,6 @@ mod StoredFiles
 pub mod Appended
 pub mod Grown
 pub mod ReadSoFar
+pub mod Once
 pub mod PrintedPieces
 pub mod Lengths

@@ -3,6 +3,7 @@ pub mod Bytes
 pub mod Files
 pub mod Frame
 pub mod Whole
+pub mod Once
 pub mod Outside
 pub mod Calls
 pub mod Stored

@@ -1,9 +1,10 @@
 //! Files that are read whole.
-ghost use Rattle.std.specs.Prelude.{◌≡◌, ◌≤◌, ◌<◌, ◌^◌, ◌+◌, IsTrue, IfOk, IsErrOf, length};
+ghost use Rattle.std.specs.Prelude.{◌≡◌, ◌≤◌, ◌<◌, ◌^◌, ◌+◌, ◌-◌, [], ◌∷◌, IsTrue, IfOk, IsErrOf, length};
 ghost use Rattle.acas_outside.specs.Counts.{raised};
 ghost use Rattle.acas_outside.specs.Bytes.{IsBytes};
 ghost use Rattle.acas_outside.specs.Files.{Given};
 ghost use Rattle.acas_outside.specs.Frame.{OnlyReads};
+ghost use Rattle.acas_outside.specs.Once.{TakesOnce, length_of_file};
 ghost use Rattle.acas_outside.specs.Whole.{ReadsWhole, ReadsOn};
 
 use crate::folder::{Folder, ReadMiss};
@@ -33,7 +34,7 @@ const PIECE: usize = 4096;
 /// Reads all bytes of a file, up to its end, where it has at most `limit` of them.
 ///
 /// It takes the bytes that it gives, and of a file that is too long one byte more than the limit: no byte is read
-/// twice, and none behind that one.
+/// twice, and none behind that one. Whatever it answers, it takes no more bytes than the file has.
 pub fn read_whole<F: Folder>(
     alloc: Global,
     folder: &mut F,
@@ -50,6 +51,7 @@ pub fn read_whole<F: Folder>(
     ensures too_long { IsErrOf result ReadFault.TooLong →
         F.taken folder.new ≡ raised (F.taken folder.old) (limit + 1) }
     ensures most { F.taken folder.new ≤ raised (F.taken folder.old) (limit + 1) }
+    ensures once { TakesOnce (name.now ∷ []) (F.holds folder.old) (F.taken folder.old) (F.taken folder.new) }
     ensures frame { OnlyReads F.Folder folder.old folder.new
         (IsErrOf result ReadFault.Failed) (IsErrOf result ReadFault.Absent) }
 {
@@ -82,6 +84,8 @@ fn read_more<F: Folder>(
     ensures limit { IsErrOf result ReadFault.TooLong → ⊥ }
     ensures taken { IfOk result (λ n. F.taken folder.new ≡ raised (F.taken folder.old) n) }
     ensures most { F.taken folder.new ≤ raised (F.taken folder.old) room }
+    ensures left { Given (F.holds folder.old) name.now (λ file. F.taken folder.new
+        ≤ raised (F.taken folder.old) (length_of_file file - length bytes.old.items)) }
     ensures frame { OnlyReads F.Folder folder.old folder.new
         (IsErrOf result ReadFault.Failed) (IsErrOf result ReadFault.Absent) }
 {

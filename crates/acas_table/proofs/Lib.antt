@@ -7,4 +7,5 @@ pub mod Starts
 pub mod Found
 pub mod Nexts
 pub mod Told
+pub mod Within
 pub mod Answered

@@ -8,6 +8,7 @@ use Rattle.acas_outside.specs.Files.{Files, Given}
 use Rattle.acas_table_text.specs.Faults.{first, unless, end_fault, width_of, fault_in, fault_at, widths, fields_fault}
 use Rattle.acas_table_text.specs.Format.{part}
 use Rattle.acas_table.specs.Source.{IsAt, IsAtFile, Blames, Checks, ReadsTable, Steps, bytes_taken}
+use Rattle.acas_table.proofs.Within.{within_then}
 use Rattle.acas_outside.specs.declared.folder.Folder.{Ghosts as FolderMeanings}
 use Rattle.acas_table_text.proofs.Nones.{first_none, first_one}
 use Rattle.acas_table_text.specs.declared.field.Field.{Field}
@@ -176,6 +177,30 @@ blamed_given {X = X} (Some files) later name i all old mid new fault result is w
     subst (λ (r : Result X TableFault). Checks {X = X} (fields_fault old.expected old.place all) (λ _ _. ⊤) (get files name) new r) (sym is)
     (blamed_file X (get files name) i all old mid new fault within steps (passed stands)
     (subst (λ (h : Option Files). Given h name (λ file. IsAtFile mid file → Checks {X = X} (fault_at mid.expected mid.place (get_or all i fields.Magic)) (λ _ _. ⊤) file new (Err fault))) same checks))
+
+-- a call that reads on behind another, which found no fault
+pub reads_both : {F X Y : Type 0} (d : FolderMeanings F) (a b c : F) (name : List ℕ) (s t u : Source) (y : Y) (result : Result X TableFault)
+    → ReadsTable d a b name s t (Ok y) → ReadsTable d b c name t u result → ReadsTable d a c name s u result
+reads_both d a b c name s t u y result first second = record {
+  memory = second.memory;
+  not_held = λ is. subst (λ (h : Option Files). Given h name (λ file. file ≡ None)) first.frame.holds (second.not_held is);
+  taken = record {
+    limit = second.taken.limit ∙ first.taken.limit;
+    expected = second.taken.expected ∙ first.taken.expected;
+    later = omega (arith, first.taken.later, second.taken.later);
+    taken = omega (arith, first.taken.later, first.taken.taken, second.taken.later, second.taken.taken);
+  };
+  within = within_then (d.holds a) (d.holds b) name (bytes_taken s) (bytes_taken t) (bytes_taken u) first.frame.holds first.within second.within;
+  frame = record {
+    holds = second.frame.holds ∙ first.frame.holds;
+    serves = second.frame.serves ∙ first.frame.serves;
+    faults = omega (arith, first.frame.faults, second.frame.faults);
+    misses = omega (arith, first.frame.misses, second.frame.misses);
+    taken = omega (arith, first.frame.taken, second.frame.taken);
+    fault = λ is. omega (arith, first.frame.faults, second.frame.fault is);
+    miss = λ is. omega (arith, first.frame.misses, second.frame.miss is);
+  };
+}
 
 -- bytes that were read are passed over, and what is answered then tells of no read and of no memory
 pub passed_ok : {F X Y : Type 0} (d : FolderMeanings F) (old new : F) (name : List ℕ) (before mid now : Source) (n : ℕ) (y : Y) (x : X)

@@ -1,14 +1,15 @@
 -- A reader that has read the front of a file.
-use Rattle.std.specs.Prelude.{◌≡◌, ℕ, ◌+◌, ◌≤◌, List, Bool, false, Option, Some, None, IfSome, Result, Ok, Err, IsErrOf, ⊤}
+use Rattle.std.specs.Prelude.{◌≡◌, ℕ, ◌+◌, ◌≤◌, List, [], ◌∷◌, Bool, false, Option, Some, None, IfSome, Result, Ok, Err, IsErrOf, ⊤}
 use Rattle.acas_outside.specs.Counts.{raised}
 use Rattle.acas_outside.specs.Files.{Files, Given}
 use Rattle.acas_outside.specs.Frame.{OnlyReads}
+use Rattle.acas_outside.specs.Once.{TakesOnce}
 use Rattle.acas_outside.specs.declared.folder.Folder.{Ghosts as FolderMeanings}
 use Rattle.acas_units.specs.declared.pair.Entry.{Entry}
 use Rattle.acas_table_text.specs.Format.{expected_length, format_of, length_of}
 use Rattle.acas_table_text.specs.Text.{entry_at, text_of_layers}
 use Rattle.acas_table_text.specs.Faults.{header_fault, entry_fault, first_below, tail_fault, first_fault}
-use Rattle.acas_table.specs.Source.{IsAt, Takes, bytes_taken}
+use Rattle.acas_table.specs.Source.{IsAt, StaysWithin, Takes, bytes_taken}
 use Rattle.acas_table_text.specs.Tables.{layers_at}
 use Rattle.acas_table_text.specs.declared.format.Format.{Format}
 use Rattle.acas_table_text.specs.declared.format.Format.TheVariants.{Layered}
@@ -61,11 +62,12 @@ abbrev pub Told : Option Files → List ℕ → (List ℕ → Type 0) → Type 0
 Told holds name P = Given holds name (λ file. IfSome file P)
 
 -- of the file under a name is at most one byte more read than a table of a shape has in version 2, and where the file is
--- told, in the version that it names
+-- told, in the version that it names, and no more than the file has
 pub record TakesAtMost {F : Type 0} (d : FolderMeanings F) (old new : F) (name : List ℕ) (s : TableShape) : Type 0 where
   pub most_taken : d.taken new ≤ raised (d.taken old) (length_of Layered s + 1)
   pub most_of_file : Told (d.holds old) name (λ bytes.
       d.taken new ≤ raised (d.taken old) (expected_length s bytes + 1))
+  pub once : TakesOnce (name ∷ []) (d.holds old) (d.taken old) (d.taken new)
 
 -- `start`, at the file under the name
 abbrev pub Starts : List ℕ → TableShape → Option (List ℕ) → Result TableReader TableFault → Type 0
@@ -110,7 +112,8 @@ kept (Ok x) = None
 kept (Err fault) = Some fault
 
 -- what a call of a reader leaves: it keeps the fault of its answer and answers it again, it takes at most one byte more
--- than the table's length, it takes no memory, and says that the file is not held only where it is not
+-- than the table's length, and no more than the file has, it takes no memory, and says that the file is not held only where
+-- it is not
 pub record Leaves {F X : Type 0} (d : FolderMeanings F) (old new : F) (name : List ℕ) (before now : ReaderState)
     (result : Result X TableFault) : Type 0 where
   pub fault : now.fault ≡ kept result
@@ -119,6 +122,7 @@ pub record Leaves {F X : Type 0} (d : FolderMeanings F) (old new : F) (name : Li
   pub format : now.format ≡ before.format
   pub taken : Takes d old new before.taken now.taken
   pub most : now.taken ≤ length_of now.format now.shape + 1
+  pub within : StaysWithin (d.holds old) name before.taken now.taken
   pub memory : FindsNow before result Memory → ⊥
   pub not_held : FindsNow before result Absent → Given (d.holds old) name (λ file. file ≡ None)
   pub frame : OnlyReads d old new (FindsNow before result Failed) (FindsNow before result Absent)

@@ -4,8 +4,9 @@ use Rattle.std.specs.Option.{option_map}
 use Rattle.sha2.specs.Hashers.{Holds256}
 use Rattle.acas_outside.specs.Bytes.{IsBytes}
 use Rattle.acas_outside.specs.Counts.{raised}
-use Rattle.acas_outside.specs.Files.{Given}
+use Rattle.acas_outside.specs.Files.{Files, Given}
 use Rattle.acas_outside.specs.Frame.{OnlyReads}
+use Rattle.acas_outside.specs.Once.{length_of_file}
 use Rattle.acas_outside.specs.declared.folder.Folder.{Ghosts as FolderMeanings}
 use Rattle.acas_table_text.specs.Format.{format_of, length_of, part}
 use Rattle.acas_table_text.specs.declared.format.Format.{Format}
@@ -39,6 +40,10 @@ pub record TakesMore {F : Type 0} (d : FolderMeanings F) (old new : F) (before n
   pub later : bytes_taken before ≤ bytes_taken now
   pub taken : d.taken new ≡ raised (d.taken old) (bytes_taken now - bytes_taken before)
 
+-- where the file under a name is told, a count of bytes that were taken of it from its front on has stayed within its length
+pub record StaysWithin (holds : Option Files) (name : List ℕ) (before now : ℕ) : Type 0 where
+  pub told : Given holds name (λ file. before ≤ length_of_file file → now ≤ length_of_file file)
+
 -- a call that reads on in the file under a name: it takes no memory, says that the file is not held only where it is
 -- not, and tells of a read that failed or missed
 pub record ReadsTable {F X : Type 0} (d : FolderMeanings F) (old new : F) (name : List ℕ) (before now : Source)
@@ -46,6 +51,7 @@ pub record ReadsTable {F X : Type 0} (d : FolderMeanings F) (old new : F) (name 
   pub memory : IsErrOf result faults.Memory → ⊥
   pub not_held : IsErrOf result faults.Absent → Given (d.holds old) name (λ file. file ≡ None)
   pub taken : TakesMore d old new before now
+  pub within : StaysWithin (d.holds old) name (bytes_taken before) (bytes_taken now)
   pub frame : OnlyReads d old new (IsErrOf result faults.Failed) (IsErrOf result faults.Absent)
 
 -- the source is at its place in these bytes, and has in its buffer their next ones, behind those that the digest lacks

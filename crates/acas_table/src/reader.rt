@@ -20,7 +20,7 @@ use std::alloc::Global;
 ///
 /// It counts the bytes that it takes of its file, from 0 on. Over every folder each call raises the folder's count by
 /// just as much as its own. Its own is at most one more than the length of a table of the version that was read, and
-/// just that length where `finish` answers `Ok`: no byte is read twice.
+/// just that length where `finish` answers `Ok`, and it is never more than the file has: no byte is read twice.
 #[derive(Drop)]
 pub struct TableReader {
     shape: TableShape,
@@ -48,7 +48,7 @@ impl TableReader {
     ghost use Rattle.acas_table_text.specs.Format.{length_of};
     ghost use Rattle.acas_units.specs.declared.pair.Entry.{Entry as EntryData};
     ghost use Rattle.acas_table.specs.AtHand.{IsNext};
-    ghost use Rattle.acas_table.specs.Source.{Takes};
+    ghost use Rattle.acas_table.specs.Source.{StaysWithin, Takes};
     ghost use Rattle.acas_table.specs.Reader.{reader_state, IsNew, HasRead, Leaves, TakesAtMost, Told, Starts, GivesEntry, Finishes};
 
     /// Reads the header of a table for a model, whose text has this digest.
@@ -66,6 +66,8 @@ impl TableReader {
         ensures taken { IfOk result (λ r. Takes F.Folder folder.old folder.new 0 (reader_state r).taken) }
         ensures most { IfOk result (λ r.
             (reader_state r).taken ≤ length_of (reader_state r).format (shape_of model.now.grid) + 1) }
+        ensures within { IfOk result (λ r.
+            StaysWithin (F.holds folder.old) name.now 0 (reader_state r).taken) }
         ensures at_most { TakesAtMost F.Folder folder.old folder.new name.now (shape_of model.now.grid) }
         ensures frame { OnlyReads F.Folder folder.old folder.new
             (IsErrOf result TableFault.Failed) (IsErrOf result TableFault.Absent) }
@@ -88,6 +90,8 @@ impl TableReader {
         ensures taken { IfOk result (λ r. Takes F.Folder folder.old folder.new 0 (reader_state r).taken) }
         ensures most { IfOk result (λ r.
             (reader_state r).taken ≤ length_of (reader_state r).format shape + 1) }
+        ensures within { IfOk result (λ r.
+            StaysWithin (F.holds folder.old) name.now 0 (reader_state r).taken) }
         ensures at_most { TakesAtMost F.Folder folder.old folder.new name.now shape }
         ensures frame { OnlyReads F.Folder folder.old folder.new
             (IsErrOf result TableFault.Failed) (IsErrOf result TableFault.Absent) }

@@ -1,7 +1,7 @@
 use Rattle.std.specs.Prelude.{⊤}
-use Rattle.std.proofs.Common.{◌∙◌, arith}
-use Rattle.std.proofs.lemmas.Grind.{common_steps}
+use Rattle.std.proofs.Common.{◌∙◌}
 use Rattle.acas_table.proofs.Looks.{end_given}
+use Rattle.acas_table.proofs.Passed.{reads_both}
 use Rattle.acas_table.proofs.body.read_end.Goals as goal
 
 pub returns-clause-given : goal.returns-clause-given
@@ -11,4 +11,4 @@ returns-clause-given g c =
     done.reads.frame.holds c.last_group-last.ensures (done.reads.taken.expected ∙ c.requires.stands.expected) done.given c.ends.ensures.given
 
 pub returns-clause-reads : goal.returns-clause-reads
-returns-clause-reads g c = grind (arith, common_steps)
+returns-clause-reads g c = reads_both g.F.Folder _ _ _ _ _ _ _ tt _ c.in_ok-check_digest.ensures.reads c.ends.ensures.reads

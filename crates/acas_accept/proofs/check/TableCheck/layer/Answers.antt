@@ -16,7 +16,7 @@ loop-present-init g c =
     rw none (record {
       check = c.begin_layer.ensures.check;
       given = λ digest. told_all _ c.args.name.now _ (λ bytes before. c.begin_layer.ensures.given digest bytes before);
-      reads = stays g.F.Folder _ _ _ _ (ap (λ (r : TableReader). r.shape) c.begin_layer.ensures.reader) (ap (λ (r : TableReader). r.format) c.begin_layer.ensures.reader) (ap (λ (r : TableReader). (reader_state r).taken) c.begin_layer.ensures.reader);
+      reads = stays g.F.Folder _ _ _ _ _ (ap (λ (r : TableReader). r.shape) c.begin_layer.ensures.reader) (ap (λ (r : TableReader). r.format) c.begin_layer.ensures.reader) (ap (λ (r : TableReader). (reader_state r).taken) c.begin_layer.ensures.reader);
     })
 
 pub returns-in_err-plane : goal.returns-in_err-plane
@@ -28,7 +28,7 @@ returns-in_err-plane g c =
           told_then _ c.args.name.now (λ bytes. IsBeforeLayer c.args.model.now digest c.args.self.now c.args.n bytes) (λ bytes. IsInLayer c.args.model.now digest c.loop-present.self c.args.n (state_number c.args.model.now.grid c.loop-present.present 0) bytes) _
           (c.loop-present.invariant.given digest) (told_at _ _ c.args.name.now _ c.loop-present.invariant.reads.frame.holds (rw is at (c.in_err-plane.ensures.given digest)));
       check = tt;
-      reads = reads_on g.F.Folder _ _ _ _ _ _ _ _ c.loop-present.invariant.reads c.in_err-plane.ensures.reads;
+      reads = reads_on g.F.Folder _ _ _ _ _ _ _ _ _ c.loop-present.invariant.reads c.in_err-plane.ensures.reads;
     })
 
 pub loop-present-preserved : goal.loop-present-preserved
@@ -38,7 +38,7 @@ loop-present-preserved g c =
       given = λ digest.
           told_then _ c.args.name.now (λ bytes. IsBeforeLayer c.args.model.now digest c.args.self.now c.args.n bytes) (λ bytes. IsInLayer c.args.model.now digest c.loop-present.self c.args.n (state_number c.args.model.now.grid c.loop-present.present 0) bytes) _
           (c.loop-present.invariant.given digest) (told_at _ _ c.args.name.now _ c.loop-present.invariant.reads.frame.holds (rw is at (c.in_ok-plane.ensures.given digest)));
-      reads = reads_on g.F.Folder _ _ _ _ _ _ _ _ c.loop-present.invariant.reads c.in_ok-plane.ensures.reads;
+      reads = reads_on g.F.Folder _ _ _ _ _ _ _ _ _ c.loop-present.invariant.reads c.in_ok-plane.ensures.reads;
     }
 
 pub returns : goal.returns

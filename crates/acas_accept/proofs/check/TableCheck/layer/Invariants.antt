@@ -9,5 +9,5 @@ abbrev pub invariant-loop-present : goal.invariant-loop-present
 invariant-loop-present g l = record {
   check : IsCheckOf l.model l.self l.n (state_number l.model.grid l.present 0);
   given : (digest : List ℕ) → Told (g.F.Folder.holds l.fn.folder) l.name (λ bytes. IsBeforeLayer l.model digest l.fn.self l.n bytes → IsInLayer l.model digest l.self l.n (state_number l.model.grid l.present 0) bytes);
-  reads : ReadsOn {X = Unit {0}} g.F.Folder l.fn.folder l.folder l.fn.self l.self (Ok tt);
+  reads : ReadsOn {X = Unit {0}} g.F.Folder l.fn.folder l.folder l.name l.fn.self l.self (Ok tt);
 }

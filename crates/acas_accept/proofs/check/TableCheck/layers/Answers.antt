@@ -25,7 +25,7 @@ returns-in_err-layer g c =
           (told_both _ c.args.name.now _ _ (c.loop-n.invariant.given digest) (told_at _ _ c.args.name.now _ c.loop-n.invariant.reads.frame.holds (c.in_err-layer.ensures.given digest)));
       check = tt;
       kept = tt;
-      reads = reads_on g.F.Folder _ _ _ _ _ _ _ _ c.loop-n.invariant.reads c.in_err-layer.ensures.reads;
+      reads = reads_on g.F.Folder _ _ _ _ _ _ _ _ _ c.loop-n.invariant.reads c.in_err-layer.ensures.reads;
     })
 
 pub keep-requires : goal.keep-requires
@@ -49,7 +49,7 @@ loop-n-preserved g c = record {
         c.keep.ensures.of bytes read before.1,
       ))
       (told_both _ c.args.name.now _ _ (c.loop-n.invariant.given digest) (told_at _ _ c.args.name.now _ c.loop-n.invariant.reads.frame.holds (c.in_ok-layer.ensures.given digest)));
-  reads = reads_on g.F.Folder _ _ _ _ _ _ _ _ c.loop-n.invariant.reads c.in_ok-layer.ensures.reads;
+  reads = reads_on g.F.Folder _ _ _ _ _ _ _ _ _ c.loop-n.invariant.reads c.in_ok-layer.ensures.reads;
 }
 
 pub returns : goal.returns

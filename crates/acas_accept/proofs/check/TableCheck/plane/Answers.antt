@@ -17,7 +17,7 @@ loop-vertex-init g c = record {
   check = c.find_leasts-found.ensures.check _ c.requires.check;
   given = λ digest. told_all _ c.args.name.now _ (λ bytes within. c.find_leasts-found.ensures.given digest _ bytes within);
   found = c.find_leasts-found.ensures.found;
-  reads = stays g.F.Folder _ _ _ _ (ap (λ (r : TableReader). r.shape) c.find_leasts-found.ensures.reader) (ap (λ (r : TableReader). r.format) c.find_leasts-found.ensures.reader) (ap (λ (r : TableReader). (reader_state r).taken) c.find_leasts-found.ensures.reader);
+  reads = stays g.F.Folder _ _ _ _ _ (ap (λ (r : TableReader). r.shape) c.find_leasts-found.ensures.reader) (ap (λ (r : TableReader). r.format) c.find_leasts-found.ensures.reader) (ap (λ (r : TableReader). (reader_state r).taken) c.find_leasts-found.ensures.reader);
 }
 
 pub quick_entry-requires : goal.quick_entry-requires
@@ -53,7 +53,7 @@ loop-vertex-preserved-then-quick_entry g c =
           (subst (λ (s : ℕ). Told (g.F.Folder.holds c.args.folder.now) c.args.name.now (λ bytes. IsInLayer c.args.model.now digest c.args.self.now c.args.n (state_number c.args.model.now.grid c.args.plane.now.present 0) bytes → IsInLayer c.args.model.now digest c.loop-vertex.self c.args.n s bytes)) (sym number) (c.loop-vertex.invariant.given digest))
           (told_all _ c.args.name.now _ (λ bytes within. c.if-quick_entry.ensures.given refl digest bytes within)));
       found = λ yes. rw (c.quick_entry.ensures.means, c.quick_entry.ensures.leasts) (c.loop-vertex.invariant.found yes);
-      reads = reads_on g.F.Folder _ _ _ _ _ _ _ _ c.loop-vertex.invariant.reads (stays g.F.Folder _ _ _ tt c.quick_entry.ensures.shape c.quick_entry.ensures.format c.quick_entry.ensures.taken);
+      reads = reads_on g.F.Folder _ _ _ _ _ _ _ _ _ c.loop-vertex.invariant.reads (stays g.F.Folder _ _ _ _ tt c.quick_entry.ensures.shape c.quick_entry.ensures.format c.quick_entry.ensures.taken);
     }
 
 pub returns-in_err-entry : goal.returns-in_err-entry
@@ -68,7 +68,7 @@ returns-in_err-entry g c =
           (subst (λ (s : ℕ). Told (g.F.Folder.holds c.args.folder.now) c.args.name.now (λ bytes. IsInLayer c.args.model.now digest c.args.self.now c.args.n (state_number c.args.model.now.grid c.args.plane.now.present 0) bytes → IsInLayer c.args.model.now digest c.loop-vertex.self c.args.n s bytes)) (sym number) (c.loop-vertex.invariant.given digest)))
           (told_at _ _ c.args.name.now _ c.loop-vertex.invariant.reads.frame.holds (c.in_err-entry.ensures.given digest));
       check = tt;
-      reads = reads_on g.F.Folder _ _ _ _ _ _ _ _ c.loop-vertex.invariant.reads (subst (λ (t : TableCheck). ReadsOn {X = Unit {0}} g.F.Folder c.loop-vertex.folder c.entry.new.folder t c.entry.new.self (Err c.in_err-entry.field-0.0)) (c.if-quick_entry.ensures.none refl) c.in_err-entry.ensures.reads);
+      reads = reads_on g.F.Folder _ _ _ _ _ _ _ _ _ c.loop-vertex.invariant.reads (subst (λ (t : TableCheck). ReadsOn {X = Unit {0}} g.F.Folder c.loop-vertex.folder c.entry.new.folder c.args.name.now t c.entry.new.self (Err c.in_err-entry.field-0.0)) (c.if-quick_entry.ensures.none refl) c.in_err-entry.ensures.reads);
     })
 
 pub loop-vertex-preserved : goal.loop-vertex-preserved
@@ -85,7 +85,7 @@ loop-vertex-preserved g c =
           (subst (λ (s : ℕ). Told (g.F.Folder.holds c.args.folder.now) c.args.name.now (λ bytes. IsInLayer c.args.model.now digest c.args.self.now c.args.n (state_number c.args.model.now.grid c.args.plane.now.present 0) bytes → IsInLayer c.args.model.now digest c.loop-vertex.self c.args.n s bytes)) (sym number) (c.loop-vertex.invariant.given digest)))
           (told_at _ _ c.args.name.now _ c.loop-vertex.invariant.reads.frame.holds (c.in_ok-entry.ensures.given digest)));
       found = λ yes. rw (c.entry.ensures.means, c.entry.ensures.leasts, c.quick_entry.ensures.means, c.quick_entry.ensures.leasts) (c.loop-vertex.invariant.found yes);
-      reads = reads_on g.F.Folder _ _ _ _ _ _ _ _ c.loop-vertex.invariant.reads (subst (λ (t : TableCheck). ReadsOn {X = Unit {0}} g.F.Folder c.loop-vertex.folder c.entry.new.folder t c.entry.new.self (Ok tt)) (c.if-quick_entry.ensures.none refl) c.in_ok-entry.ensures.reads);
+      reads = reads_on g.F.Folder _ _ _ _ _ _ _ _ _ c.loop-vertex.invariant.reads (subst (λ (t : TableCheck). ReadsOn {X = Unit {0}} g.F.Folder c.loop-vertex.folder c.entry.new.folder c.args.name.now t c.entry.new.self (Ok tt)) (c.if-quick_entry.ensures.none refl) c.in_ok-entry.ensures.reads);
     }
 
 pub returns : goal.returns

@@ -11,5 +11,5 @@ invariant-loop-vertex g l = record {
   check : IsCheckOf l.model l.self l.n (state_number l.model.grid l.plane.present l.vertex);
   given : (digest : List ℕ) → Told (g.F.Folder.holds l.fn.folder) l.name (λ bytes. IsInLayer l.model digest l.fn.self l.n (state_number l.model.grid l.plane.present 0) bytes → IsInLayer l.model digest l.self l.n (state_number l.model.grid l.plane.present l.vertex) bytes);
   found : IsTrue l.found → AreFound l.model l.n l.plane.present l.self.means.items l.self.leasts;
-  reads : ReadsOn {X = Unit {0}} g.F.Folder l.fn.folder l.folder l.fn.self l.self (Ok tt);
+  reads : ReadsOn {X = Unit {0}} g.F.Folder l.fn.folder l.folder l.name l.fn.self l.self (Ok tt);
 }

@@ -2,6 +2,7 @@ use Rattle.std.proofs.Common.{◌<◌, length, arith}
 use Rattle.std.proofs.lemmas.Grind.{common_steps}
 use Rattle.acas_table.proofs.Passed.{widths_next, widths_fit, next_given, blamed_given}
 use Rattle.acas_table.proofs.Answered.{answered}
+use Rattle.acas_table.proofs.Within.{within_then}
 use Rattle.acas_table.proofs.source.Source.check_all.Goals as goal
 
 pub check-requires-clause-limit : goal.check-requires-clause-limit
@@ -30,5 +31,6 @@ loop-field-preserved g c =
           next_given _ _ _ c.args.name.now c.loop-field.field-index c.args.fields.now c.args.self.now c.loop-field.self c.check.new.self within
           c.loop-field.invariant.frame.holds c.loop-field.invariant.steps c.loop-field.invariant.given c.in_ok-check.ensures.given;
       taken = grind (arith, common_steps);
+      within = within_then _ _ _ _ _ _ c.loop-field.invariant.frame.holds c.loop-field.invariant.within c.in_ok-check.ensures.reads.within;
       frame = grind arith;
     }
