@@ -1,6 +1,6 @@
 //! What an advisory of a model asks of a pilot, and the lowest and highest climbs under it.
 ghost use Rattle.std.specs.Prelude.{◌≡◌, ◌<◌, ◌≤◌, pos, ◌*ℤ◌, unsigned_abs, int_lt, if◌then◌else◌};
-ghost use Rattle.acas_frac.specs.Fraction.{Fraction, whole_of};
+ghost use Rattle.acas_frac.specs.Fraction.{Fraction, IsFrac, whole_of};
 ghost use Rattle.acas_flight.specs.Response.{demand_of};
 ghost use Rattle.acas_flight.specs.Values.{IsHeld, IsHighestClimb, IsLowestClimb};
 ghost use Rattle.acas_areas.specs.Limits.{IsRate, IsStart};
@@ -35,7 +35,8 @@ fn toward(v: &Frac, aim: i64, pull: u64, hold: u64, t: &Frac) -> Frac
     requires pull { pull ≤ GREATEST_LIMIT }
     requires hold { hold ≤ GREATEST_DELAY }
     requires start { IsStart v.now t.now }
-    ensures { IsHeld v.now (whole_of aim) (whole_of (pos pull)) (whole_of (pos hold)) t.now result }
+    ensures climb { IsHeld v.now (whole_of aim) (whole_of (pos pull)) (whole_of (pos hold)) t.now result }
+    ensures lowest { IsFrac result }
 {
     held(
         v,
@@ -50,8 +51,9 @@ fn toward(v: &Frac, aim: i64, pull: u64, hold: u64, t: &Frac) -> Frac
 fn climb_to(asked: &Asked, aim: i64, is_past: bool, v: &Frac, t: &Frac) -> Frac
     requires aim { unsigned_abs aim ≤ unsigned_abs GREATEST_RATE }
     requires start { IsStart v.now t.now }
-    ensures { let a = asked.now in let pull = if is_past then a.pull else a.limit in let hold = if is_past then a.delay else 0 in
+    ensures climb { let a = asked.now in let pull = if is_past then a.pull else a.limit in let hold = if is_past then a.delay else 0 in
         IsHeld v.now (whole_of aim) (whole_of (pos pull)) (whole_of (pos hold)) t.now result }
+    ensures lowest { IsFrac result }
 {
     if is_past {
         toward(v, aim, asked.pull, asked.delay, t)
@@ -83,7 +85,8 @@ fn is_over(rate: &Frac, bound: i64) -> bool
 // The least climb under what an advisory asks.
 fn lowest_of(asked: &Asked, v: &Frac, t: &Frac) -> Frac
     requires { IsStart v.now t.now }
-    ensures { IsLowestClimb (demand_in asked.now) v.now t.now result }
+    ensures climb { IsLowestClimb (demand_in asked.now) v.now t.now result }
+    ensures lowest { IsFrac result }
 {
     climb_to(asked, asked.lo, is_under(v, asked.lo), v, t)
 }
@@ -91,7 +94,8 @@ fn lowest_of(asked: &Asked, v: &Frac, t: &Frac) -> Frac
 // The greatest climb under it.
 fn highest_of(asked: &Asked, v: &Frac, t: &Frac) -> Frac
     requires { IsStart v.now t.now }
-    ensures { IsHighestClimb (demand_in asked.now) v.now t.now result }
+    ensures climb { IsHighestClimb (demand_in asked.now) v.now t.now result }
+    ensures lowest { IsFrac result }
 {
     climb_to(asked, asked.hi, is_over(v, asked.hi), v, t)
 }
@@ -102,7 +106,8 @@ fn highest_of(asked: &Asked, v: &Frac, t: &Frac) -> Frac
 pub fn lowest(model: &Model, advisory: u8, v: &Frac, t: &Frac) -> Frac
     requires advisory { advisory < model.now.grid.advisories }
     requires start { IsStart v.now t.now }
-    ensures { IsLowestClimb (demand_of model.now advisory) v.now t.now result }
+    ensures climb { IsLowestClimb (demand_of model.now advisory) v.now t.now result }
+    ensures lowest { IsFrac result }
 {
     lowest_of(&asked_by(model, advisory), v, t)
 }
@@ -112,7 +117,8 @@ pub fn lowest(model: &Model, advisory: u8, v: &Frac, t: &Frac) -> Frac
 pub fn highest(model: &Model, advisory: u8, v: &Frac, t: &Frac) -> Frac
     requires advisory { advisory < model.now.grid.advisories }
     requires start { IsStart v.now t.now }
-    ensures { IsHighestClimb (demand_of model.now advisory) v.now t.now result }
+    ensures climb { IsHighestClimb (demand_of model.now advisory) v.now t.now result }
+    ensures lowest { IsFrac result }
 {
     highest_of(&asked_by(model, advisory), v, t)
 }

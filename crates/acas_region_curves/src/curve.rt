@@ -1,6 +1,6 @@
 //! The curve of an approach, as an exact fraction.
 ghost use Rattle.std.specs.Prelude.{◌≡◌, ◌+◌, ◌-◌, ◌*◌, ◌^◌, ◌<◌, ◌≤◌, pos, ◌-ℤ◌, ◌*ℤ◌, unsigned_abs, min};
-ghost use Rattle.acas_frac.specs.Fraction.{Fraction};
+ghost use Rattle.acas_frac.specs.Fraction.{Fraction, IsFrac};
 ghost use Rattle.acas_flight.specs.Curves.{held};
 ghost use Rattle.acas_flight.specs.Values.{IsApproach, IsHeld, all_lost, less_or_more};
 ghost use Rattle.acas_areas.specs.Limits.{IsCurve, IsHeldCurve, IsHold, IsPull, IsRate, IsTime};
@@ -182,7 +182,8 @@ fn over_common(v: &Frac, aim: &Frac, pull: &Frac, hold: &Frac, t: &Frac) -> Scal
 /// 5000 at most and at most one of the three is not whole. A hold that is not whole asks for both.
 pub fn held(v: &Frac, aim: &Frac, pull: &Frac, hold: &Frac, t: &Frac) -> Frac
     requires { IsHeldCurve v.now aim.now pull.now hold.now t.now }
-    ensures { IsHeld v.now aim.now pull.now hold.now t.now result }
+    ensures climb { IsHeld v.now aim.now pull.now hold.now t.now result }
+    ensures lowest { IsFrac result }
 {
     let s = over_common(v, aim, pull, hold, t);
     Frac::new(
@@ -208,7 +209,8 @@ pub fn held_ratio(v: &Frac, aim: &Frac, pull: &Frac, hold: &Frac, t: &Frac) -> R
 /// hold.
 pub fn approach(v: &Frac, aim: &Frac, pull: &Frac, t: &Frac) -> Frac
     requires { IsCurve v.now aim.now pull.now t.now }
-    ensures { IsApproach v.now aim.now pull.now t.now result }
+    ensures climb { IsApproach v.now aim.now pull.now t.now result }
+    ensures lowest { IsFrac result }
 {
     held(v, aim, pull, &Frac::whole(0), t)
 }

@@ -10,5 +10,5 @@ overflow_cast-hold c = search rules
 pub held-requires : goal.held-requires
 held-requires c = search rules
 
-pub returns : goal.returns
-returns c = search rules
+pub returns-clause-climb : goal.returns-clause-climb
+returns-clause-climb c = search rules

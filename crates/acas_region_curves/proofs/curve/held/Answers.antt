@@ -12,8 +12,8 @@ new-requires-clause-within c =
     let lower : to_z w128 c.over_common-s.result.den ≡ pos c.over_common-s.result.den = omega (arith, ints, c.over_common-s.ensures.den_small) in
     rw (up ∙ value, lower) c.over_common-s.ensures.reduces
 
-pub returns : goal.returns
-returns c =
+pub returns-clause-climb : goal.returns-clause-climb
+returns-clause-climb c =
     let up : to_z w128 (of_z w128 c.numerator.result) ≡ c.numerator.result = omega (arith, ints, c.numerator.ensures.size) in
     let v : to_z w64 (of_z w64 c.over_common-s.result.start) ≡ c.over_common-s.result.start = omega (arith, ints, c.over_common-s.ensures.start) in
     let k : to_z w64 (of_z w64 c.over_common-s.result.aim) ≡ c.over_common-s.result.aim = omega (arith, ints, c.over_common-s.ensures.aim) in
