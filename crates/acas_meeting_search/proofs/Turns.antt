@@ -8,7 +8,7 @@ use Rattle.acas_witness_plans.specs.declared.plan.Plan.{Plan}
 use Rattle.acas_witness_plans.proofs.Overs.{whole_over}
 use Rattle.acas_rulings.specs.Hunt.{Course}
 use Rattle.acas_meeting_search.specs.declared.parts.Turn.{Turn}
-use Rattle.acas_meeting_search.specs.declared.parts.Flown.{Flown}
+use Rattle.acas_meeting_search.specs.declared.parts.Outcome.{Outcome}
 use Rattle.acas_meeting_search.specs.declared.pursuit.Pursuit.{Pursuit}
 use Rattle.acas_meeting_search.specs.Courses.{IsOutcomeOf, unit_of}
 use Rattle.acas_meeting_search.specs.Turns.{CanBeFlownWith, IsTurnFor, IsTurnOf}
@@ -38,11 +38,11 @@ pub curve_whole : (p : Pursuit) (v k : ℤ) (f g t : Fraction) → f ≡ whole_o
 curve_whole p v k f g t ef eg hv hk time = rw (ef, eg) (curve_from v k p.may.accel t hv hk p.may.within.least_accel p.may.within.greatest_accel time)
 
 -- a plan and a turn as flown
-pub outcome_of : (p : Pursuit) (c : Course) (plan : Plan) (turn : Turn) (f : Flown) → f.plan ≡ plan → f.turn ≡ turn →
+pub outcome_of : (p : Pursuit) (c : Course) (plan : Plan) (turn : Turn) (o : Outcome) → o.flown.plan ≡ plan → o.flown.turn ≡ turn →
     IsPlanOf (unit_of p) c.own plan → CanBeFlown plan → IsTurnOf (unit_of p) c turn → CanBeFlownWith p.may.accel turn →
-    IsHeld plan.own plan.aim plan.pull plan.hold plan.time f.climb → 0 < f.climb.den → IsApproach turn.intruder turn.goal (whole_of p.may.accel) turn.time f.ascent → 0 < f.ascent.den → IsOutcomeOf p c f
-outcome_of p c plan turn f e et is can against with h sh l sl = record {
+    IsHeld plan.own plan.aim plan.pull plan.hold plan.time o.climb → 0 < o.climb.den → IsApproach turn.intruder turn.goal (whole_of p.may.accel) turn.time o.ascent → 0 < o.ascent.den → IsOutcomeOf p c o
+outcome_of p c plan turn o e et is can against with h sh l sl = record {
   flown = record { plan = rw e is; turn = rw et against; flown = rw e can; turned = rw et with };
-  same = rw e (value-same (unit_of p) _ p.may.accel c plan turn f.climb f.ascent (unit_positive p) (accel_is p) is against h l);
+  same = rw e (value-same (unit_of p) _ p.may.accel c plan turn o.climb o.ascent (unit_positive p) (accel_is p) is against h l);
   some = mul-pos sh sl;
 }

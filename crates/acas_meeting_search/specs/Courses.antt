@@ -11,6 +11,7 @@ use Rattle.acas_meeting_search.specs.Stages.{pass_in, passes_from}
 use Rattle.acas_meeting_search.specs.Turns.{CanBeFlownWith, IsTurnOf, value_in}
 use Rattle.acas_meeting_search.specs.View.{hunt_of}
 use Rattle.acas_meeting_search.specs.declared.parts.Flown.{Flown}
+use Rattle.acas_meeting_search.specs.declared.parts.Outcome.{Outcome}
 use Rattle.acas_meeting_search.specs.declared.pursuit.Pursuit.{Pursuit}
 use Rattle.acas_meeting_search.specs.declared.stage.Stage.{Stage}
 
@@ -36,10 +37,10 @@ pub record IsFlownOf (p : Pursuit) (f : Flown) (c : Course) : Type 0 where
   pub turned : CanBeFlownWith p.may.accel f.turn
 
 -- it is that of the course, and has its value
-pub record IsOutcomeOf (p : Pursuit) (c : Course) (f : Flown) : Type 0 where
-  pub flown : IsFlownOf p f c
-  pub same : Same (value_in f) (value_at p c)
-  pub some : 0 < (value_in f).den
+pub record IsOutcomeOf (p : Pursuit) (c : Course) (o : Outcome) : Type 0 where
+  pub flown : IsFlownOf p o.flown c
+  pub same : Same (value_in o) (value_at p c)
+  pub some : 0 < (value_in o).den
 
 -- the course as flown is the one that the search finds
 pub record IsFoundCourse (p : Pursuit) (f : Flown) : Type 0 where

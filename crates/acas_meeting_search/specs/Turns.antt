@@ -5,7 +5,7 @@ use Rattle.acas_flight.specs.Values.{IsOver}
 use Rattle.acas_areas.specs.Limits.{IsCurve}
 use Rattle.acas_rulings.specs.Hunt.{Course}
 use Rattle.acas_meeting_search.specs.declared.parts.Turn.{Turn}
-use Rattle.acas_meeting_search.specs.declared.parts.Flown.{Flown}
+use Rattle.acas_meeting_search.specs.declared.parts.Outcome.{Outcome}
 
 -- the turn lasts the time t over q, and goes from the rate w over q^2 to the goal m
 pub record IsTurnFor (q t : ℕ) (w m : ℤ) (turn : Turn) : Type 0 where
@@ -28,5 +28,5 @@ value_of altitude climb ascent =
     record { num = d.num -ℤ altitude *ℤ pos d.den; den = d.den }
 
 -- the value of a course as flown
-abbrev pub value_in : Flown → Fraction
-value_in f = value_of f.plan.altitude f.climb f.ascent
+abbrev pub value_in : Outcome → Fraction
+value_in o = value_of o.flown.plan.altitude o.climb o.ascent

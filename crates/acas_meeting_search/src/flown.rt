@@ -6,12 +6,12 @@ ghost use Rattle.acas_areas.specs.Value.{IsWithinHalf, is_below};
 ghost use Rattle.acas_witness_plans.specs.Plans.{CanBeFlown};
 ghost use Rattle.acas_meeting_search.specs.Turns.{CanBeFlownWith, value_in};
 
-use crate::parts::{Flown, Turn};
+use crate::parts::{Flown, Outcome, Turn};
 use acas_frac::Frac;
 use acas_region_curves::{approach, held};
 use acas_rulings::Manoeuvre;
 use acas_units::{GREATEST_HALF_HEIGHT, TICKS_PER_FOOT};
-use acas_witness_plans::{Plan, difference_parts, known};
+use acas_witness_plans::{Plan, difference_parts};
 
 // The intruder's climb with its greatest acceleration.
 fn ascent_of(turn: &Turn, may: &Manoeuvre) -> Frac
@@ -20,31 +20,32 @@ fn ascent_of(turn: &Turn, may: &Manoeuvre) -> Frac
         IsApproach t.intruder t.goal (whole_of may.now.accel) t.time result }
     ensures lowest { IsFrac result }
 {
-    known(approach(
+    approach(
         &turn.intruder,
         &turn.goal,
         &Frac::whole(may.accel),
         &turn.time,
-    ))
+    )
 }
 
 /// The plan and the turn as flown, with the intruder's greatest acceleration.
-pub(crate) fn fly_against(plan: &Plan, turn: &Turn, may: &Manoeuvre) -> Flown
+pub(crate) fn fly_against(plan: &Plan, turn: &Turn, may: &Manoeuvre) -> Outcome
     requires plan { CanBeFlown plan.now }
     requires turn { CanBeFlownWith may.now.accel turn.now }
-    ensures plan { result.plan ≡ plan.now }
-    ensures turn { result.turn ≡ turn.now }
+    ensures plan { result.flown.plan ≡ plan.now }
+    ensures turn { result.flown.turn ≡ turn.now }
     ensures climb { IsHeld plan.now.own plan.now.aim plan.now.pull plan.now.hold plan.now.time result.climb }
     ensures climb_some { 0 < Fraction.den result.climb }
     ensures ascent { let t = turn.now in
         IsApproach t.intruder t.goal (whole_of may.now.accel) t.time result.ascent }
     ensures ascent_some { 0 < Fraction.den result.ascent }
 {
-    let climb = held(&plan.own, &plan.aim, &plan.pull, &plan.hold, &plan.time);
-    Flown {
-        plan: *plan,
-        turn: *turn,
-        climb: known(climb),
+    Outcome {
+        flown: Flown {
+            plan: *plan,
+            turn: *turn,
+        },
+        climb: held(&plan.own, &plan.aim, &plan.pull, &plan.hold, &plan.time),
         ascent: ascent_of(turn, may),
     }
 }
@@ -60,32 +61,32 @@ fn ticks_over(ticks: i64, den: i128) -> i128
 }
 
 // How far the own climb is above where the intruder ends, and the half height, over a common denominator.
-fn clearance(flown: &Flown, half: u64) -> (i128, i128)
+fn clearance(outcome: &Outcome, half: u64) -> (i128, i128)
     requires { half ≤ TICKS_PER_FOOT * GREATEST_HALF_HEIGHT }
-    ensures value { result.0 ≡ Fraction.num (value_in flown.now) }
+    ensures value { result.0 ≡ Fraction.num (value_in outcome.now) }
     ensures size { unsigned_abs result.0 ≤ 3 * 10 ^ 37 }
-    ensures band { result.1 ≡ pos (half * Fraction.den (value_in flown.now)) }
+    ensures band { result.1 ≡ pos (half * Fraction.den (value_in outcome.now)) }
     ensures band_size { unsigned_abs result.1 ≤ 10 ^ 33 }
 {
-    let (apart, den) = difference_parts(&flown.climb, &flown.ascent);
-    let value = apart - ticks_over(flown.plan.altitude, den);
+    let (apart, den) = difference_parts(&outcome.climb, &outcome.ascent);
+    let value = apart - ticks_over(outcome.flown.plan.altitude, den);
     (value, ticks_over(half as i64, den))
 }
 
 /// Whether the course is below.
-pub(crate) fn is_under(flown: &Flown, half: u64) -> bool
+pub(crate) fn is_under(outcome: &Outcome, half: u64) -> bool
     requires { half ≤ TICKS_PER_FOOT * GREATEST_HALF_HEIGHT }
-    ensures { result ≡ is_below half (value_in flown.now) }
+    ensures { result ≡ is_below half (value_in outcome.now) }
 {
-    let (value, band) = clearance(flown, half);
+    let (value, band) = clearance(outcome, half);
     value < -band
 }
 
 /// Whether the course ends in contact.
-pub(crate) fn is_in_contact(flown: &Flown, half: u64) -> bool
+pub(crate) fn is_in_contact(outcome: &Outcome, half: u64) -> bool
     requires { half ≤ TICKS_PER_FOOT * GREATEST_HALF_HEIGHT }
-    ensures { IsTrue result ↔ IsWithinHalf half (value_in flown.now) }
+    ensures { IsTrue result ↔ IsWithinHalf half (value_in outcome.now) }
 {
-    let (value, band) = clearance(flown, half);
+    let (value, band) = clearance(outcome, half);
     -band <= value && value <= band
 }

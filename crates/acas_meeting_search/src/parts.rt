@@ -13,12 +13,18 @@ pub struct Turn {
     pub goal: Frac,
 }
 
-/// A course as flown: the own plan and the intruder's turn, and the climb of each in ticks.
+/// A course as flown: the own plan and the intruder's turn.
 #[derive(Drop, Clone, Copy)]
 pub struct Flown {
     pub plan: Plan,
     pub turn: Turn,
+}
+
+/// Such a course, and the climb of each aircraft in ticks.
+#[derive(Drop, Clone, Copy)]
+pub(crate) struct Outcome {
+    pub flown: Flown,
     pub climb: Frac,
     pub ascent: Frac,
-    ghost low: { unsigned_abs plan.altitude ≤ altitude_size },
+    ghost low: { unsigned_abs flown.plan.altitude ≤ altitude_size },
 }

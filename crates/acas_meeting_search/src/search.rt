@@ -6,7 +6,7 @@ ghost use Rattle.acas_meeting_search.specs.Courses.{IsEndFrom, IsFlownOf, IsFoun
 ghost use Rattle.acas_meeting_search.specs.View.{hunt_of};
 
 use crate::flown::{fly_against, is_in_contact};
-use crate::parts::Flown;
+use crate::parts::{Flown, Outcome};
 use crate::pursuit::Pursuit;
 use crate::stage::Stage;
 use crate::stage_pass::StagePass;
@@ -27,7 +27,7 @@ fn hit(pursuit: &Pursuit, stage: Stage) -> Option<Flown>
     if pass.is_below(&pass.at(pass.last)) {
         None
     } else {
-        Some(halve(&pass, pass.last))
+        Some(halve(&pass, pass.last).flown)
     }
 }
 
@@ -48,7 +48,7 @@ fn search_from(pursuit: &Pursuit, stage: Stage) -> Flown
 }
 
 // The low course.
-fn lowest(pursuit: &Pursuit) -> Flown
+fn lowest(pursuit: &Pursuit) -> Outcome
     ensures { IsOutcomeOf pursuit.now (low_course (hunt_of pursuit.now)) result }
 {
     let plan = pursuit.survey.low_plan();
@@ -57,7 +57,7 @@ fn lowest(pursuit: &Pursuit) -> Flown
 }
 
 // The high course.
-fn highest(pursuit: &Pursuit) -> Flown
+fn highest(pursuit: &Pursuit) -> Outcome
     ensures { IsOutcomeOf pursuit.now (high_course (hunt_of pursuit.now)) result }
 {
     let survey = &pursuit.survey;
@@ -74,11 +74,11 @@ pub fn meet(pursuit: &Pursuit) -> Flown
 {
     let low = lowest(pursuit);
     if is_in_contact(&low, pursuit.survey.half) {
-        return low;
+        return low.flown;
     }
     let high = highest(pursuit);
     if is_in_contact(&high, pursuit.survey.half) {
-        return high;
+        return high.flown;
     }
     search_from(pursuit, Stage::Of(Quantity::Time))
 }

@@ -3,7 +3,7 @@ ghost use Rattle.acas_meeting_search.specs.Courses.{IsFlownOf, point_of, value_a
 ghost use Rattle.acas_meeting_search.specs.Turns.{value_in};
 
 use crate::flown::{fly_against, is_under};
-use crate::parts::Flown;
+use crate::parts::Outcome;
 use crate::pursuit::Pursuit;
 use crate::stage::Stage;
 use acas_areas::Pass;
@@ -17,11 +17,11 @@ pub(crate) struct StagePass {
 }
 
 impl Pass for StagePass {
-    type Flight = Flown;
+    type Flight = Outcome;
 
     ghost value = { value_in };
 
-    ghost is_at = { λ s i f. IsFlownOf s.pursuit f (point_of s.pursuit s.stage i) };
+    ghost is_at = { λ s i o. IsFlownOf s.pursuit o.flown (point_of s.pursuit s.stage i) };
 
     ghost value_at = { λ s i. value_at s.pursuit (point_of s.pursuit s.stage i) };
 
@@ -29,13 +29,13 @@ impl Pass for StagePass {
 
     ghost half = { λ s. s.pursuit.survey.half };
 
-    fn at(&self, number: u32) -> Flown {
+    fn at(&self, number: u32) -> Outcome {
         let plan = self.pursuit.plan_at(self.stage, number);
         let turn = self.pursuit.turn_at(self.stage, number, &plan);
         fly_against(&plan, &turn, &self.pursuit.may)
     }
 
-    fn is_below(&self, flight: &Flown) -> bool {
+    fn is_below(&self, flight: &Outcome) -> bool {
         is_under(flight, self.pursuit.survey.half)
     }
 }

@@ -50,7 +50,7 @@ fn meet(survey: &Survey) -> Plan
     if is_in_contact(&highest, survey.half) {
         return highest.plan;
     }
-    through(survey).plan
+    through(survey)
 }
 
 /// What the search of an area under an advisory of a model goes through, between two times.

@@ -7,21 +7,21 @@ ghost use Rattle.acas_witness_search.specs.Surveys.{below_in, IsPointOf, pass_of
 
 use crate::quantity::SearchPass;
 use acas_areas::Pass;
-use acas_witness_plans::Outcome;
+use acas_witness_plans::{Outcome, Plan};
 
 /// The flight at which the halving of a pass ends, from the flight of its last point. As its values never fall, that is the first one
 /// that is not below. The search begins at a guess, and goes on beside it in steps that double.
-pub(crate) fn first_from(pass: &SearchPass, last: &Outcome, guess: u32) -> Outcome
+pub(crate) fn first_from(pass: &SearchPass, last: &Outcome, guess: u32) -> Plan
     requires rises { rises pass.now.quantity ≡ true }
     requires first_is_below { below_in pass.now.survey pass.now.quantity 0 ≡ true }
     requires last_is_not { below_in pass.now.survey pass.now.quantity pass.now.last ≡ false }
     requires last_point { IsPointOf pass.now.survey (pass_of pass.now.quantity) pass.now.last last.now.plan }
     requires last_flown { CanBeFlown last.now.plan }
     ensures end { (end : ℕ) × HalvesTo (below_in pass.now.survey pass.now.quantity) 0 pass.now.last end
-        × IsPointOf pass.now.survey (pass_of pass.now.quantity) end result.plan }
-    ensures flown { CanBeFlown result.plan }
+        × IsPointOf pass.now.survey (pass_of pass.now.quantity) end result }
+    ensures flown { CanBeFlown result }
 {
-    let mut found = *last;
+    let mut found = last.plan;
     let mut low: u32 = 0;
     let mut high = pass.last;
     let mut next = guess;
@@ -35,7 +35,7 @@ pub(crate) fn first_from(pass: &SearchPass, last: &Outcome, guess: u32) -> Outco
         } else {
             high = middle;
             next = middle.saturating_sub(step);
-            found = flight;
+            found = flight.plan;
         }
         step = step.saturating_mul(2);
     }

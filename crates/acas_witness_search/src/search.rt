@@ -10,15 +10,15 @@ use crate::first::first_from;
 use crate::quantity::{Quantity, SearchPass};
 use crate::survey::Survey;
 use acas_areas::{Pass, halve};
-use acas_witness_plans::Outcome;
+use acas_witness_plans::Plan;
 
 // The flight at which the halving of a pass ends, if the last flight of the pass is not below. Where the values of a pass never fall, it
 // is searched from a guess.
-fn hit(survey: &Survey, quantity: Quantity) -> Option<Outcome>
+fn hit(survey: &Survey, quantity: Quantity) -> Option<Plan>
     requires { StartsBelow survey.now (pass_of quantity) }
     ensures { MatchOption result
         (IsMissedIn survey.now (pass_of quantity))
-        (λ found. IsHitIn survey.now (pass_of quantity) found.plan) }
+        (λ found. IsHitIn survey.now (pass_of quantity) found) }
 {
     let pass = SearchPass {
         survey: *survey,
@@ -31,15 +31,15 @@ fn hit(survey: &Survey, quantity: Quantity) -> Option<Outcome>
     }
     match survey.guess(quantity, pass.last, &last) {
         Some(guess) => Some(first_from(&pass, &last, guess)),
-        None => Some(halve(&pass, pass.last)),
+        None => Some(halve(&pass, pass.last).plan),
     }
 }
 
 // The flight at which the passes from that over a quantity on end.
-fn search_from(survey: &Survey, quantity: Quantity) -> Outcome
+fn search_from(survey: &Survey, quantity: Quantity) -> Plan
     requires first { StartsBelow survey.now (pass_of quantity) }
     requires last { EndsNotBelow survey.now }
-    ensures { IsEndIn survey.now (passes_from quantity) result.plan }
+    ensures { IsEndIn survey.now (passes_from quantity) result }
 {
     match hit(survey, quantity) {
         Some(found) => found,
@@ -51,11 +51,11 @@ fn search_from(survey: &Survey, quantity: Quantity) -> Outcome
 }
 
 /// The flight at which all passes end. The low flight is below, and the high flight is not.
-pub fn through(survey: &Survey) -> Outcome
+pub fn through(survey: &Survey) -> Plan
     requires first { let low = value (unit (search_of survey.now)) (low_flight (search_of survey.now)) in
         is_below survey.now.half low ≡ true }
     requires last { EndsNotBelow survey.now }
-    ensures { IsEndIn survey.now passes result.plan }
+    ensures { IsEndIn survey.now passes result }
 {
     search_from(survey, Quantity::Time)
 }

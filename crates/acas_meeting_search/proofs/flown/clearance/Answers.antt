@@ -14,7 +14,7 @@ pub returns-clause-value : goal.returns-clause-value
 returns-clause-value c =
     let apart = c.difference_parts-apart in
     let fits : to_z w128 (of_z w128 (to_z w128 (of_z w128 c.difference_parts-apart.result.0) -ℤ to_z w128 (of_z w128 c.ticks_over.result))) ≡ c.difference_parts-apart.result.0 -ℤ c.ticks_over.result = omega (arith, ints, apart.ensures.size, c.ticks_over.ensures.size) in
-    let ticks : to_z w64 (of_z w64 c.args.flown.now.plan.altitude) ≡ c.args.flown.now.plan.altitude = omega (arith, ints, c.args.flown.now.low) in
+    let ticks : to_z w64 (of_z w64 c.args.outcome.now.flown.plan.altitude) ≡ c.args.outcome.now.flown.plan.altitude = omega (arith, ints, c.args.outcome.now.low) in
     let den : to_z w128 (of_z w128 c.difference_parts-apart.result.1) ≡ c.difference_parts-apart.result.1 = omega (arith, ints, apart.ensures.den_size) in
     fits ∙ ap₂ ◌-ℤ◌ apart.ensures.num (c.ticks_over.ensures.value ∙ ap₂ ◌*ℤ◌ ticks (den ∙ apart.ensures.den))
 

@@ -6,7 +6,7 @@ use Rattle.acas_witness_search.proofs.first.first_from.Given as goal
 abbrev pub invariant-loop-high : goal.invariant-loop-high
 invariant-loop-high l = (l.low < l.high) × (l.high ≤ l.pass.last)
     × (below_in l.pass.survey l.pass.quantity l.low ≡ true) × (below_in l.pass.survey l.pass.quantity l.high ≡ false)
-    × IsPointOf l.pass.survey (pass_of l.pass.quantity) l.high l.found.plan × CanBeFlown l.found.plan
+    × IsPointOf l.pass.survey (pass_of l.pass.quantity) l.high l.found × CanBeFlown l.found
 
 abbrev pub decreases-loop-high : goal.decreases-loop-high
 decreases-loop-high l = l.high - l.low
