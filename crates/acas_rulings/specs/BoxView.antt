@@ -1,6 +1,6 @@
 -- What contracts see of boxes.
 use Rattle.std.specs.Prelude.{◌≤◌, List, length, map}
-use Rattle.acas_units.specs.declared.limits.TheConstants.{GREATEST_BOXES}
+use Rattle.acas_units.specs.declared.limits.TheConstants.{LEAST_BOXES, GREATEST_BOXES}
 use Rattle.acas_rulings.specs.Boxes.{AuditedBox, audited}
 use Rattle.acas_rulings.specs.declared.boxes.Boxes.TheInside.{Inside}
 
@@ -8,6 +8,7 @@ use Rattle.acas_rulings.specs.declared.boxes.Boxes.TheInside.{Inside}
 abbrev pub boxes_view : Inside → List AuditedBox
 boxes_view b = map audited b.boxes.items
 
--- there are no more than a file may have
-abbrev pub AreFew : Inside → Type 0
-AreFew b = length (boxes_view b) ≤ GREATEST_BOXES
+-- there are as many as a file may have
+pub record AreOfAFile (b : Inside) : Type 0 where
+  pub some : LEAST_BOXES ≤ length (boxes_view b)
+  pub few : length (boxes_view b) ≤ GREATEST_BOXES

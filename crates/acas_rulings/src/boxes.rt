@@ -1,6 +1,6 @@
 //! Boxes as a value.
 ghost use Rattle.std.specs.Prelude.{◌≡◌, ◌<◌, ◌≤◌, length, map};
-ghost use Rattle.acas_units.specs.declared.limits.TheConstants.{GREATEST_BOXES};
+ghost use Rattle.acas_units.specs.declared.limits.TheConstants.{GREATEST_BOXES, LEAST_BOXES};
 ghost use Rattle.acas_rulings.specs.Boxes.{audited, box_at};
 
 use crate::audit_box::AuditBox;
@@ -16,19 +16,20 @@ pub struct Boxes {
 impl Model for Boxes {
     ghost use Rattle.std.specs.Prelude.{List};
     ghost use Rattle.acas_rulings.specs.Boxes.{AuditedBox};
-    ghost use Rattle.acas_rulings.specs.BoxView.{AreFew, boxes_view};
+    ghost use Rattle.acas_rulings.specs.BoxView.{AreOfAFile, boxes_view};
 
     ghost Value = { List AuditedBox };
 
     ghost view = { boxes_view };
 
-    ghost invariant = { AreFew };
+    ghost invariant = { AreOfAFile };
 }
 
 impl Boxes {
-    /// These boxes. There are no more than [`GREATEST_BOXES`](acas_units::GREATEST_BOXES).
+    /// These boxes. There are from [`LEAST_BOXES`](acas_units::LEAST_BOXES) to [`GREATEST_BOXES`](acas_units::GREATEST_BOXES).
     pub fn new(boxes: Vec<AuditBox>) -> Boxes
-        requires { length boxes.items ≤ GREATEST_BOXES }
+        requires some { LEAST_BOXES ≤ length boxes.items }
+        requires few { length boxes.items ≤ GREATEST_BOXES }
         ensures { result ≡ map audited boxes.items }
     {
         Boxes { boxes }
