@@ -19,7 +19,7 @@ ghost use Rattle.acas_rulings.specs.Race.{high_race, low_race, turned};
 ghost use Rattle.acas_rulings.specs.Apart.{IsApart};
 ghost use Rattle.acas_rulings.specs.Least.{IsFirstLeastTime};
 ghost use Rattle.acas_rulings.specs.Hunt.{CanMeet, Course, Finds, Hunt, IsFlownBy, IsHunt, accel, bottom, high_course, low_course, passes, top, toward, value};
-ghost use Rattle.acas_rulings.specs.PrintedMeetings.{PrintsCourse, meeting_fractions};
+ghost use Rattle.acas_rulings.specs.PrintedMeetings.{PrintsCourse, course_fractions};
 ghost use Rattle.acas_rulings.specs.Verdicts.{IsMeetingInContact, IsMeetingOf, ShowsMeeting, hunt_between};
 ghost use Rattle.acas_rulings.specs.declared.meeting.Meeting.{Meeting};
 
@@ -76,27 +76,29 @@ pub fn areas_that_are_not_apart_are_endangered()
         IsEndangeredDuringBy half h.search.demand h.may h.search.area w }
 {}
 
-/// What is printed of the course that a hunt finds is in contact: over some denominator the printed response and the intruder's printed
-/// segments are those of a meeting of the area in the window. So is the meeting that the rule fixes for an area that is not apart.
+/// What is printed in lowest terms of the course that a hunt finds is in contact: over some denominator the printed response and the
+/// intruder's printed segments are those of a meeting of the area in the window. So is the meeting that the rule fixes for an area that
+/// is not apart.
 pub fn printed_meetings_show_contact()
     ensures found { (half : ℕ) (h : Hunt) (w : Times) (c : Course) (meeting : Meeting) →
         thinnest ≤ 2 * half → IsHunt h → IsTimed h.search w → CanMeet half h → Finds half h c →
-        PrintsCourse (unit h.search) (accel h) c meeting →
+        PrintsCourse (unit h.search) (accel h) c meeting → All IsReduced (course_fractions meeting) →
         IsMeetingInContact half h.search.demand h.may h.search.area w meeting }
     ensures rule { (half : ℕ) (a : Demand) (may : Manoeuvre) (area : Area) (w : Times) (meeting : Meeting)
         (of : IsMeetingOf half a may area w meeting) →
         thinnest ≤ 2 * half → IsHunt (hunt_between a may area of.low of.high) →
-        ¬ IsApart half a may area w → IsMeetingInContact half a may area w meeting }
+        ¬ IsApart half a may area w → All IsReduced (course_fractions meeting) →
+        IsMeetingInContact half a may area w meeting }
 {}
 
-/// A meeting of a box's area in contact, with a range and a speed of the box that are in contact at its time, shows the meeting of the
-/// box; and what shows a meeting endangers the box.
+/// A meeting of a box's area in contact, with a range and a speed in lowest terms that are of the box and in contact at its time, shows
+/// the meeting of the box; and what shows a meeting endangers the box.
 pub fn meetings_in_contact_are_shown()
     ensures shown { (m : ModelData) (may : Manoeuvre) (b : AuditedBox) (w : Times) (meeting : Meeting) →
         IsMeetingInContact m.half (demand_of m b.advisory) may (area_of_box b.states) w meeting →
         let seen = meeting.witness in
         IsContactOfBox m.radius b.states.range b.states.closing seen.flight.time seen.range seen.speed →
-        All IsReduced (meeting_fractions meeting) → ShowsMeeting m may b meeting }
+        IsReduced seen.range → IsReduced seen.speed → ShowsMeeting m may b meeting }
     ensures danger { (m : ModelData) (may : Manoeuvre) (b : AuditedBox) (meeting : Meeting) →
         ShowsMeeting m may b meeting → IsEndangeredBy m b.advisory may b.states }
 {}

@@ -1,6 +1,7 @@
 -- What is printed of a course that is found is a meeting.
 use Rattle.std.proofs.Common.{◌≡◌, ℕ, ◌-◌, ◌*◌, ◌≤◌, sym, ap, ◌∙◌, arith, [], ◌++◌, List, ℤ, pos, ◌*ℤ◌, min}
-use Rattle.acas_frac.specs.Fraction.{Fraction}
+use Rattle.std.specs.List.{All}
+use Rattle.acas_frac.specs.Fraction.{Fraction, IsReduced}
 use Rattle.acas_flight.specs.Response.{Demand, Segment, lasting}
 use Rattle.acas_flight.specs.Parts.{finer}
 use Rattle.acas_flight.specs.Window.{Times}
@@ -18,7 +19,7 @@ use Rattle.acas_rulings.specs.Intruder.{Manoeuvre}
 use Rattle.acas_rulings.specs.Apart.{IsApart}
 use Rattle.acas_rulings.specs.declared.meeting.Meeting.{Meeting}
 use Rattle.acas_rulings.specs.Hunt.{CanMeet, Course, Finds, Hunt, IsFlownBy, IsHunt, accel}
-use Rattle.acas_rulings.specs.PrintedMeetings.{PrintsCourse, against_of}
+use Rattle.acas_rulings.specs.PrintedMeetings.{PrintsCourse, against_of, course_fractions}
 use Rattle.acas_rulings.specs.Verdicts.{IsMeetingInContact, IsMeetingOf, hunt_between}
 use Rattle.acas_hunt_lemmas.proofs.Founds.{found_meets}
 use Rattle.acas_hunt_lemmas.proofs.Verdicts.{can-meet}
@@ -45,7 +46,7 @@ parts_same : (n n' : ℕ) (m : Meeting) (segments : List Segment) → n ≡ n' �
 parts_same n n' m segments e parts = rw e at parts
 
 module _ (half : ℕ) (h : Hunt) (w : Times) (c : Course) (m : Meeting) (thick : thinnest ≤ 2 * half) (is : IsHunt h) (timed : IsTimed h.search w) (can : CanMeet half h)
-    (found : Finds half h c) (p : PrintsCourse (unit h.search) (accel h) c m) where
+    (found : Finds half h c) (p : PrintsCourse (unit h.search) (accel h) c m) (lowest : All IsReduced (course_fractions m)) where
   abbrev q : ℕ
   q = unit h.search
 
@@ -102,12 +103,13 @@ module _ (half : ℕ) (h : Hunt) (w : Times) (c : Course) (m : Meeting) (thick :
     against = parts_same ((q * (q * a)) * b) whole m (finer b p.against.segments) of_against
         (AreParts-finer (q * (q * a)) b p.against.segments (against_of m) p.against.parts);
     contact = found_meets h is w timed half thick can c p.own.hold.segments p.own.segments.segments p.against.segments found by;
+    reduced = lowest;
   }
 
 -- the meeting of the rule is in contact
 pub rule-contact : (half : ℕ) (a : Demand) (may : Manoeuvre) (area : Area) (w : Times) (m : Meeting) (n : IsMeetingOf half a may area w m) → thinnest ≤ 2 * half →
-    IsHunt (hunt_between a may area n.low n.high) → ¬ IsApart half a may area w → IsMeetingInContact half a may area w m
-rule-contact half a may area w m n thick is apart =
+    IsHunt (hunt_between a may area n.low n.high) → ¬ IsApart half a may area w → All IsReduced (course_fractions m) → IsMeetingInContact half a may area w m
+rule-contact half a may area w m n thick is apart lowest =
     printed-contact half (hunt_between a may area n.low n.high) w n.course m thick is
     (record { low_after = n.at_low.first.after; low_before = n.at_low.first.before; high_after = n.at_high.first.after; high_before = n.at_high.first.before })
-    (can-meet (hunt_between a may area n.low n.high) is half w n.at_low.first n.at_high.first apart) n.found n.prints
+    (can-meet (hunt_between a may area n.low n.high) is half w n.at_low.first n.at_high.first apart) n.found n.prints lowest

@@ -1,17 +1,16 @@
 -- A meeting of a box's area in contact, with a range and a speed, shows the meeting of the box.
-use Rattle.std.proofs.Common.{◌*◌, ◌<◌, refl, sym, List, [], ◌∷◌, ◌++◌, pos, ◌*ℤ◌, mul-pos}
-use Rattle.std.specs.List.{All, flat_map}
-use Rattle.std.proofs.lemmas.List.Elements.{All-head, All-tail}
+use Rattle.std.proofs.Common.{◌*◌, refl, sym, [], ◌∷◌, pos, ◌*ℤ◌, mul-pos}
+use Rattle.std.proofs.lemmas.List.Elements.{All-cons}
 use Rattle.acas_spec.specs.Model.{ModelData}
 use Rattle.acas_frac.proofs.IntRing.{at, ◌⊗◌, ring}
-use Rattle.acas_frac.specs.Fraction.{Fraction, IsReduced}
+use Rattle.acas_frac.specs.Fraction.{IsReduced}
 use Rattle.acas_flight.specs.Response.{demand_of, lasting}
 use Rattle.acas_flight.specs.Parts.{finer}
 use Rattle.acas_flight.specs.Window.{Times}
 use Rattle.acas_flight.specs.Clear.{area_of_box}
 use Rattle.acas_flight_lemmas.proofs.Finer.{lasting_finer}
 use Rattle.acas_rulings.specs.Boxes.{AuditedBox}
-use Rattle.acas_rulings.specs.Printed.{flight_fractions, segments_of}
+use Rattle.acas_rulings.specs.Printed.{segments_of}
 use Rattle.acas_rulings.specs.Ranges.{IsContactOfBox}
 use Rattle.acas_areas.proofs.Finer.{IsOver-finer, over_left, over_right}
 use Rattle.acas_rulings.proofs.Parts.{AreParts-finer}
@@ -19,28 +18,19 @@ use Rattle.acas_rulings.specs.Intruder.{Manoeuvre}
 use Rattle.acas_rulings.specs.Meeting.{IsEndangeredBy}
 use Rattle.acas_manoeuvre_lemmas.proofs.Windows.{meets-finer}
 use Rattle.acas_rulings.specs.declared.meeting.Meeting.{Meeting}
-use Rattle.acas_rulings.specs.PrintedMeetings.{against_of, meeting_fractions}
+use Rattle.acas_rulings.specs.PrintedMeetings.{against_of, course_fractions}
 use Rattle.acas_rulings.specs.Verdicts.{IsMeetingInContact, ShowsMeeting}
-
--- what is printed after the range and the speed
-abbrev others : Meeting → List Fraction
-others meeting = flight_fractions meeting.witness.flight ++ flat_map (λ s. s.duration ∷ s.acceleration ∷ []) (against_of meeting)
-
--- the denominator of the range and the speed
-both_some : (range speed : Fraction) (rest : List Fraction) → All IsReduced (range ∷ speed ∷ rest) → 0 < range.den * speed.den
-both_some range speed rest reduced =
-    mul-pos (All-head IsReduced range (speed ∷ rest) reduced).some (All-head IsReduced speed rest (All-tail IsReduced range (speed ∷ rest) reduced)).some
 
 -- the meeting over a denominator over which the range and the speed are whole too
 pub shows-meeting : (m : ModelData) (may : Manoeuvre) (b : AuditedBox) (w : Times) (meeting : Meeting) →
     IsMeetingInContact m.half (demand_of m b.advisory) may (area_of_box b.states) w meeting →
     IsContactOfBox m.radius b.states.range b.states.closing meeting.witness.flight.time meeting.witness.range meeting.witness.speed →
-    All IsReduced (meeting_fractions meeting) → ShowsMeeting m may b meeting
-shows-meeting m may b w meeting f near reduced =
+    IsReduced meeting.witness.range → IsReduced meeting.witness.speed → ShowsMeeting m may b meeting
+shows-meeting m may b w meeting f near range_reduced speed_reduced =
     let range = meeting.witness.range in
     let speed = meeting.witness.speed in
     let n = range.den * speed.den in
-    let met = meets-finer m.half (demand_of m b.advisory) may (area_of_box b.states) w f.q n f.altitude f.own f.intruder f.response f.flight (both_some range speed (others meeting) reduced) f.contact in
+    let met = meets-finer m.half (demand_of m b.advisory) may (area_of_box b.states) w f.q n f.altitude f.own f.intruder f.response f.flight (mul-pos range_reduced.some speed_reduced.some) f.contact in
     let range_over = over_left f.q speed.den range in
     let speed_over = over_right f.q range.den speed in
     let time_over = rw (sym (lasting_finer n f.response)) at (IsOver-finer meeting.witness.flight.time f.q n (pos (lasting f.response)) f.time_over) in
@@ -78,7 +68,7 @@ shows-meeting m may b w meeting f near reduced =
         horizontal = near.contact (f.q * n) (lasting (finer n f.response)) (range.num *ℤ pos (f.q * speed.den)) (speed.num *ℤ pos (f.q * range.den)) met.some time_over range_over speed_over;
         vertical = met.close;
       };
-      reduced = reduced;
+      reduced = All-cons IsReduced range (speed ∷ course_fractions meeting) range_reduced (All-cons IsReduced speed (course_fractions meeting) speed_reduced f.reduced);
     }
 
 -- a meeting that is shown endangers the box

@@ -1,7 +1,8 @@
 -- The meeting of a box.
-use Rattle.std.proofs.Common.{◌≡◌, ℕ, ◌*◌, ◌<◌, refl, inl, arith, ℤ, pos, unsigned_abs}
+use Rattle.std.proofs.Common.{◌≡◌, ℕ, ◌*◌, ◌<◌, ◌∷◌, refl, inl, arith, ℤ, pos, unsigned_abs}
 use Rattle.std.specs.List.{All}
 use Rattle.std.proofs.lemmas.Int.{ints}
+use Rattle.std.proofs.lemmas.List.Elements.{All-head, All-tail}
 use Rattle.acas_spec.specs.Model.{ModelData}
 use Rattle.acas_frac.specs.Fraction.{Fraction, IsReduced, whole_of}
 use Rattle.acas_flight.specs.Response.{demand_of}
@@ -14,7 +15,7 @@ use Rattle.acas_rulings.specs.Ranges.{IsBoxesRange, IsContactOfBox}
 use Rattle.acas_rulings.specs.Intruder.{Manoeuvre}
 use Rattle.acas_rulings.specs.declared.manoeuvre.Manoeuvre as declared
 use Rattle.acas_rulings.specs.Hunt.{Course, accel}
-use Rattle.acas_rulings.specs.PrintedMeetings.{PrintsCourse, meeting_fractions}
+use Rattle.acas_rulings.specs.PrintedMeetings.{PrintsCourse, course_fractions, meeting_fractions}
 use Rattle.acas_rulings.specs.Verdicts.{IsMet, hunt_between}
 use Rattle.acas_rulings.specs.declared.meeting.Meeting.{Meeting}
 use Rattle.acas_hunt_lemmas.proofs.Prints.{printed-contact}
@@ -56,11 +57,15 @@ pub met : (m : ModelData) (may : Manoeuvre) (b : AuditedBox) (w : Times) (f : Fl
     IsBoxesRange m.radius b.states.range b.states.closing meeting.witness.flight.time meeting.witness.range meeting.witness.speed →
     IsContactOfBox m.radius b.states.range b.states.closing meeting.witness.flight.time meeting.witness.range meeting.witness.speed →
     All IsReduced (meeting_fractions meeting) → IsMet m may b meeting
-met m may b w f meeting window n prints range near reduced =
+met m may b w f meeting window n prints ranged near reduced =
     let a = demand_of m b.advisory in
     let area = area_of_box b.states in
-    let contact = printed-contact m.half (hunt_between a may area n.low n.high) w n.found.course meeting n.thick n.fine (timed m.half a may area w f n) n.can n.found.found prints in
-    let shown = shows-meeting m may b w meeting contact near reduced in
+    let range = meeting.witness.range in
+    let speed = meeting.witness.speed in
+    let others = course_fractions meeting in
+    let after = All-tail IsReduced range (speed ∷ others) reduced in
+    let contact = printed-contact m.half (hunt_between a may area n.low n.high) w n.found.course meeting n.thick n.fine (timed m.half a may area w f n) n.can n.found.found prints (All-tail IsReduced speed others after) in
+    let shown = shows-meeting m may b w meeting contact near (All-head IsReduced range (speed ∷ others) reduced) (All-head IsReduced speed others after) in
     record {
       endangered = shown-endangers m may b meeting shown;
       rule = record {
@@ -75,7 +80,7 @@ met m may b w f meeting window n prints range near reduced =
           found = n.found.found;
           prints = prints;
         };
-        range = range;
+        range = ranged;
       };
       shown = shown;
     }

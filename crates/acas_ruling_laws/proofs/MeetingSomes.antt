@@ -35,7 +35,7 @@ use Rattle.acas_ruling_laws.proofs.Ranges.{range_of_box}
 use Rattle.acas_ruling_laws.proofs.RulingSomes.{AreInOrder, flyable_box, in_order_or_empty}
 use Rattle.acas_ruling_laws.proofs.Somes.{IsFlyable, search_of}
 use Rattle.acas_ruling_laws.proofs.LeastTimes.{HasLeastTime, apart_or_not, high_time, low_time}
-use Rattle.acas_ruling_laws.proofs.PrintedCourses.{all_reduced, printed_course, time_in}
+use Rattle.acas_ruling_laws.proofs.PrintedCourses.{course_reduced, printed_course, time_in}
 
 -- the hunt of an area between two times
 hunt_of : (m : ModelData) (advisory : ℕ) (may : Manoeuvre) (area : Area) (low high : Fraction) → IsModel m → advisory < m.grid.advisories → IsFlyable area → 0 < may.accel → may.rate ≤ fastest → RatesFit may area.intruder →
@@ -68,8 +68,8 @@ module _ (m : ModelData) (may : Manoeuvre) (b : AuditedBox) (is : IsModel m) (of
       let r = range_of_box m b.states.range b.states.closing w f.flight.time of.flown order.range order.closing window time in
       let x : Meeting = record { witness = record { range = r.range; speed = r.speed; flight = f.flight }; intruder_first = f.first; intruder_second = f.second } in
       let prints : PrintsCourse (unit h.search) (accel h) c.0 x = record { own = f.own; against = f.against } in
-      let contact = printed-contact m.half h w c.0 x thick hunt timed can c.1 prints in
-      let shown = shows-meeting m may b w x contact r.contact (all_reduced x r.range_reduced r.speed_reduced f.flight_reduced f.against_reduced) in (
+      let contact = printed-contact m.half h w c.0 x thick hunt timed can c.1 prints (course_reduced x f.flight_reduced f.against_reduced) in
+      let shown = shows-meeting m may b w x contact r.contact r.range_reduced r.speed_reduced in (
         x,
         record {
           endangered = shown-endangers m may b x shown;

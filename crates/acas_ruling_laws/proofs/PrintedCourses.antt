@@ -1,8 +1,8 @@
 -- Each course can be printed in lowest terms.
-use Rattle.std.proofs.Common.{◌≡◌, ℕ, ◌-◌, ◌*◌, ◌<◌, arith, Option, List, ◌∷◌, ◌++◌, ℤ, pos, ◌-ℤ◌, unsigned_abs, sym, mul-pos}
+use Rattle.std.proofs.Common.{◌≡◌, ℕ, ◌-◌, ◌*◌, ◌<◌, arith, Option, List, ◌++◌, ℤ, pos, ◌-ℤ◌, unsigned_abs, sym, mul-pos}
 use Rattle.std.proofs.lemmas.Int.{ints}
 use Rattle.std.specs.List.{All}
-use Rattle.std.proofs.lemmas.List.Elements.{All-append, All-cons, All-from_recursion}
+use Rattle.std.proofs.lemmas.List.Elements.{All-append, All-from_recursion}
 use Rattle.acas_frac.specs.Fraction.{Fraction, IsReduced}
 use Rattle.acas_frac.proofs.Reduced.{num_ahead}
 use Rattle.acas_flight.specs.Response.{Segment}
@@ -11,14 +11,14 @@ use Rattle.acas_flight.specs.Window.{IsDuring, Times}
 use Rattle.acas_areas.specs.Responses.{IsApproachFor, acceleration}
 use Rattle.acas_rulings.specs.declared.flight.Flight as printed
 use Rattle.acas_rulings.specs.declared.flight.Segment as part
-use Rattle.acas_rulings.specs.Printed.{AreSegments, Prints, flight_fractions, fractions_of, some_part}
+use Rattle.acas_rulings.specs.Printed.{AreSegments, Prints, flight_fractions, some_part}
 use Rattle.acas_witness.proofs.Contacts.{during_of}
 use Rattle.acas_ruling_laws.proofs.Parts.{AreReduced, parts_fractions}
 use Rattle.acas_ruling_laws.proofs.Printed.{parts_of, printed_flight}
 use Rattle.acas_ruling_laws.proofs.Somes.{HasTime}
 use Rattle.acas_rulings.specs.declared.meeting.Meeting.{Meeting}
 use Rattle.acas_rulings.specs.Hunt.{Course, of_intruder}
-use Rattle.acas_rulings.specs.PrintedMeetings.{against_of, meeting_fractions}
+use Rattle.acas_rulings.specs.PrintedMeetings.{against_of, course_fractions}
 use Rattle.acas_hunt_lemmas.proofs.Founds.{flown_by}
 
 -- the own flight and the intruder's segments of a course, in lowest terms
@@ -57,8 +57,6 @@ time_in w time q t p reduced over during =
     let ahead = num_ahead time (pos t) q p (sym over) (omega (arith, ints)) in
     record { some = reduced.some; ahead = omega (arith, ints, ahead); during = during_of w time q t p ahead over during }
 
--- every fraction of a meeting
-pub all_reduced : (m : Meeting) → IsReduced m.witness.range → IsReduced m.witness.speed → All IsReduced (flight_fractions m.witness.flight) → AreReduced (against_of m) → All IsReduced (meeting_fractions m)
-all_reduced m range speed flight against = All-append IsReduced (fractions_of m.witness) (parts_fractions (against_of m))
-    (All-cons IsReduced m.witness.range (m.witness.speed ∷ flight_fractions m.witness.flight) range (All-cons IsReduced m.witness.speed (flight_fractions m.witness.flight) speed flight))
-    (All-from_recursion IsReduced (parts_fractions (against_of m)) against)
+-- every fraction of the flights of a meeting
+pub course_reduced : (m : Meeting) → All IsReduced (flight_fractions m.witness.flight) → AreReduced (against_of m) → All IsReduced (course_fractions m)
+course_reduced m flight against = All-append IsReduced (flight_fractions m.witness.flight) (parts_fractions (against_of m)) flight (All-from_recursion IsReduced (parts_fractions (against_of m)) against)

@@ -18,7 +18,7 @@ use Rattle.acas_rulings.specs.Least.{IsRaceExtreme}
 use Rattle.acas_rulings.specs.Meeting.{IsEndangeredBy, IsMeeting, MeetsDuring}
 use Rattle.acas_rulings.specs.Race.{high_race, low_race, turned}
 use Rattle.acas_rulings.specs.Hunt.{Course, Finds, Hunt, accel}
-use Rattle.acas_rulings.specs.PrintedMeetings.{PrintsCourse, against_of, meeting_fractions}
+use Rattle.acas_rulings.specs.PrintedMeetings.{PrintsCourse, against_of, course_fractions, meeting_fractions}
 use Rattle.acas_rulings.specs.declared.meeting.Meeting.{Meeting}
 use Rattle.acas_rulings.specs.declared.verdict.MeetVerdict.{MeetVerdict}
 use Rattle.acas_rulings.specs.declared.verdict.MeetVerdict.TheVariants.{Certified, Reported}
@@ -59,7 +59,8 @@ pub record IsMeetingOf (half : ℕ) (a : Demand) (may : Manoeuvre) (area : Area)
   pub prints : PrintsCourse (unit (search_between a area low high)) (accel (hunt_between a may area low high)) course meeting
 
 -- Over some q the meeting has a state of the area; from there its printed response meets the demand, the intruder may fly its printed
--- segments, both last the printed time, which is one of the window, and the two end within the half height.
+-- segments, both last the printed time, which is one of the window, and the two end within the half height; and each printed fraction of
+-- the flights is in lowest terms.
 pub record IsMeetingInContact (half : ℕ) (a : Demand) (may : Manoeuvre) (area : Area) (w : Times) (meeting : Meeting) : Type 0 where
   pub q : ℕ
   pub altitude : ℤ
@@ -74,6 +75,7 @@ pub record IsMeetingInContact (half : ℕ) (a : Demand) (may : Manoeuvre) (area 
   pub flown : AreParts q response (segments_of meeting.witness.flight)
   pub against : AreParts q flight (against_of meeting)
   pub contact : MeetsDuring half a may area w q altitude own intruder response flight
+  pub reduced : All IsReduced (course_fractions meeting)
 
 -- the meeting of a box, by the rule: that of its area in its window, with the range and the speed of the box
 pub record IsMeetingOfBox (m : ModelData) (may : Manoeuvre) (b : AuditedBox) (meeting : Meeting) : Type 0 where

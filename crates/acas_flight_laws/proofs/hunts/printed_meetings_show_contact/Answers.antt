@@ -3,6 +3,6 @@ use Rattle.acas_flight_laws.proofs.hunts.printed_meetings_show_contact.Goals as 
 
 pub returns : goal.returns
 returns c = record {
-  found = λ half h w c meeting thick is timed can found prints. printed-contact half h w c meeting thick is timed can found prints;
+  found = λ half h w c meeting thick is timed can found prints lowest. printed-contact half h w c meeting thick is timed can found prints lowest;
   rule = rule-contact;
 }
