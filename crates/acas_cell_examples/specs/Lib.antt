@@ -1,3 +1,4 @@
 pub mod Tabled
 pub mod Encounters
 pub mod Witnesses
+pub mod ClearCells

@@ -4,6 +4,7 @@
 
 mod blocks;
 mod cells;
+mod clear_cells;
 mod decisions;
 mod issue;
 mod replays;
@@ -14,6 +15,9 @@ pub use blocks::{blocks_are_halved, blocks_have_areas, sets_hold_advices};
 pub use cells::{
     advisory_cells_are_listed, cells_are_listed, cells_are_those_of_a_model_or_not,
     corners_are_advised, names_are_ordered,
+};
+pub use clear_cells::{
+    cells_are_not_safe_by_each_advisory, clear_cells_are_printed, reached_areas_are_worked_out,
 };
 pub use decisions::{blocks_are_decided, decided_numbers_are_one, decisions_are_summed};
 pub use issue::{

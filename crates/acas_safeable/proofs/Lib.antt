@@ -14,3 +14,5 @@ pub mod Numbering
 pub mod Counting
 pub mod Texts
 pub mod Reports
+pub mod Ends
+pub mod ReachedEnds

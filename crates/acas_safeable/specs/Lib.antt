@@ -6,3 +6,4 @@ pub mod SafeableText
 pub mod Firsts
 pub mod Climbs
 pub mod Walk
+pub mod Seconds

@@ -15,7 +15,8 @@ mod report;
 pub use counts::SafeCounts;
 pub use finding::standing;
 pub use laws::{
-    cells_follow_cells, certified_cells_keep_safe, outlooks_are_one, reached_areas_hold,
+    cells_follow_cells, certified_cells_keep_safe, later_contacts_in_numbers, outlooks_are_one,
+    outlooks_in_words, reached_areas_hold, reached_ends_are_reached,
 };
 pub use outlook::{ClearCell, Outlook};
 pub use reaching::reached;
