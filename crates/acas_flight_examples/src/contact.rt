@@ -56,7 +56,8 @@ pub fn flights_end_in_contact_or_not()
 
 /// That flight endangers the cell. In a hold of 1 s at 500 ft/min an aircraft climbs 1000 ticks, a range of 1000 ft at 500 ft/s comes to
 /// the radius, and an intruder that starts at 920 ticks and flies at 100 ft/min is at 1120, half the puck's height above: the box and
-/// its area are endangered. One that starts at 921 is at 1121. An area from 130 ticks below to 100 above is not clear at the start.
+/// its area are endangered. One that starts at 921 is at 1121. An area from 130 ticks below to 100 above is not clear at the start, nor
+/// is one from 100 below to 130 above.
 #[tactic(auto, unfolding(acas_flight::specs::Curves::approach))]
 pub fn areas_are_endangered()
     ensures the_cell { IsEndangeredCell small 1 0 0 0 1 }
@@ -68,5 +69,8 @@ pub fn areas_are_endangered()
     ensures the_area { IsEndangeredDuring 120 climbing near_area (times (over (pos 0) 1) (over (pos 1) 1)) }
     ensures not_clear { IsClear 120 climbing
         (area (from_to (minus 130) (pos 100)) (from_to (pos 500) (pos 500))
+        (from_to (pos 0) (pos 0))) (times (over (pos 0) 1) (over (pos 0) 1)) → ⊥ }
+    ensures not_clear_either { IsClear 120 climbing
+        (area (from_to (minus 100) (pos 130)) (from_to (pos 500) (pos 500))
         (from_to (pos 0) (pos 0))) (times (over (pos 0) 1) (over (pos 0) 1)) → ⊥ }
 {}

@@ -6,6 +6,7 @@ ghost use Rattle.acas_flight.specs.Curves.{approach, held, high_hold, high_pull,
 ghost use Rattle.acas_flight.specs.Values.{IsApproach, IsHeld, IsHighestClimb, IsLowestClimb};
 ghost use Rattle.acas_flight_examples.specs.Flown.{climbing, near_area};
 ghost use Rattle.acas_flight_examples.specs.Numbers.{over};
+ghost use Rattle.acas_flight_examples.specs.Searched.{past_hi};
 
 /// A curve is the climb times the pull. From 500 ft/min at 100 ft/min per second: 800 after 3 s, so 3900 ticks; 1000 after 5 s and
 /// 7500 ticks, and 4000 more in 2 s. From 2500 down: 14,100 in 3 s, and 22,500 in 5 s and 8000 in 2 s. After a hold of 2 s, which
@@ -50,7 +51,8 @@ pub fn climbs_of_curves_are_one()
 
 /// After 7 s the lowest flight from 500 ft/min has climbed 9500 ticks, and the highest intruder, from 1200 at 100 ft/min, is at 2600:
 /// 6900, times the pull of 100. The highest flight from 600 ft/min has climbed 18,200, and the lowest intruder, from 10 at 20 ft/min,
-/// is at 290: 17,910, times 200. Over 2 a gap is 16 times as large.
+/// is at 290: 17,910, times 200. Over 2 a gap is 16 times as large. Where own rates go on to 2500 ft/min, the lowest flight still goes up
+/// from 500 by 100, and the highest comes down from 2500 by 100.
 #[tactic(auto, unfolding(acas_flight::specs::Curves::approach))]
 pub fn gaps_are_worked_out()
     ensures low_pull { low_pull_of 1 climbing near_area ≡ 100 }
@@ -59,4 +61,6 @@ pub fn gaps_are_worked_out()
     ensures greatest { greatest_gap 1 climbing near_area 7 ≡ pos 3_582_000 }
     ensures least_over_two { least_gap 2 climbing near_area 14 ≡ pos 11_040_000 }
     ensures greatest_over_two { greatest_gap 2 climbing near_area 14 ≡ pos 57_312_000 }
+    ensures low_pull_to_2500 { low_pull_of 1 climbing past_hi.area ≡ 100 }
+    ensures high_pull_to_2500 { high_pull_of 1 climbing past_hi.area ≡ 100 }
 {}

@@ -24,8 +24,8 @@ pub use searches::{
     passes_of_a_search_are_worked_out, responses_are_worked_out, searches_are_worked_out,
 };
 pub use states::{
-    fractions_are_compared, rates_are_on_their_own_axes, states_are_in_boxes_or_not,
-    states_are_in_cells_or_not, states_are_seconds_away_or_not,
+    boxes_are_flown_in_time_or_not, fractions_are_compared, rates_are_on_their_own_axes,
+    states_are_in_boxes_or_not, states_are_in_cells_or_not, states_are_seconds_away_or_not,
 };
 pub use windows::{
     other_times_are_no_windows, times_are_during_a_window_or_not, times_are_of_contact_or_not,

@@ -45,7 +45,7 @@ pub fn segments_follow_or_not()
     ensures no_time { Follows climbing (pos 1000) (segment 0 (pos 0)) → ⊥ }
 {}
 
-/// The rate may be held for 2 s, and not for longer, nor later, nor by a segment that changes it.
+/// The rate may be held for 2 s, and not for longer, nor later, nor once more, nor by a segment that changes it.
 pub fn responses_meet_or_not()
     ensures holds { Holds climbing (segment 2 (pos 0)) }
     ensures longer { Holds climbing (segment 3 (pos 0)) → ⊥ }
@@ -54,5 +54,6 @@ pub fn responses_meet_or_not()
     ensures nothing { Meets climbing (pos 500) [] }
     ensures after_a_hold { Meets climbing (pos 500) (segment 2 (pos 0) ∷ segment 5 (pos 100) ∷ []) }
     ensures after_a_long_hold { Meets climbing (pos 500) (segment 3 (pos 0) ∷ segment 5 (pos 100) ∷ []) → ⊥ }
+    ensures hold_once_more { Meets climbing (pos 500) (segment 2 (pos 0) ∷ segment 2 (pos 0) ∷ []) → ⊥ }
     ensures hold_later { Meets climbing (pos 500) (segment 2 (pos 100) ∷ segment 1 (pos 0) ∷ []) → ⊥ }
 {}

@@ -2,6 +2,7 @@
 ghost use Rattle.std.specs.Prelude.{◌≡◌, pos};
 ghost use Rattle.acas_flight.specs.State.{IsInBox, IsInCell, IsInside, IsSecondsAway};
 ghost use Rattle.acas_flight.specs.Values.{IsAtMost, IsOver, negated};
+ghost use Rattle.acas_areas.specs.Limits.{IsFlownInTime};
 ghost use Rattle.acas_flight_examples.specs.Flown.{near_box, slow_intruders, small};
 ghost use Rattle.acas_flight_examples.specs.Numbers.{from_to, minus, over, state};
 
@@ -65,6 +66,17 @@ pub fn states_are_in_boxes_or_not()
     ensures altitude_below { IsInBox near_box 1 (state (pos 1000) (pos 250) (pos 9) (pos 500) (pos 20)) → ⊥ }
     ensures own_below { IsInBox near_box 1 (state (pos 1000) (pos 250) (pos 10) (pos 499) (pos 20)) → ⊥ }
     ensures intruder_below { IsInBox near_box 1 (state (pos 1000) (pos 250) (pos 10) (pos 500) (pos 19)) → ⊥ }
+{}
+
+/// At 250 ft/s or more 150,000 ft are flown in the 600 seconds of a window: the greatest range and the radius of 500 ft. Ranges begin at
+/// 0 and closing speeds at 1 ft/s, and these end at 5000.
+pub fn boxes_are_flown_in_time_or_not()
+    ensures in_time { IsFlownInTime small (from_to (pos 0) (pos 149_500)) (from_to (pos 250) (pos 5000)) }
+    ensures far { IsFlownInTime small (from_to (pos 0) (pos 149_501)) (from_to (pos 250) (pos 5000)) → ⊥ }
+    ensures behind { IsFlownInTime small (from_to (minus 1) (pos 149_500)) (from_to (pos 250) (pos 5000)) → ⊥ }
+    ensures slow { IsFlownInTime small (from_to (pos 0) (pos 100)) (from_to (pos 1) (pos 5000)) }
+    ensures standing { IsFlownInTime small (from_to (pos 0) (pos 100)) (from_to (pos 0) (pos 5000)) → ⊥ }
+    ensures fast { IsFlownInTime small (from_to (pos 0) (pos 149_500)) (from_to (pos 250) (pos 5001)) → ⊥ }
 {}
 
 /// 3 over 6 is 1/2, which is 2/4, and more than 1/3.

@@ -17,3 +17,8 @@ pub returns-clause-not_clear : goal.returns-clause-not_clear
 unfolding approach
 returns-clause-not_clear c (inl above) = omega (arith, ints, above 1 0 (omega arith) (omega (arith, ints), omega (arith, ints)))
 returns-clause-not_clear c (inr below) = omega (arith, ints, below 1 0 (omega arith) (omega (arith, ints), omega (arith, ints)))
+
+pub returns-clause-not_clear_either : goal.returns-clause-not_clear_either
+unfolding approach
+returns-clause-not_clear_either c (inl above) = omega (arith, ints, above 1 0 (omega arith) (omega (arith, ints), omega (arith, ints)))
+returns-clause-not_clear_either c (inr below) = omega (arith, ints, below 1 0 (omega arith) (omega (arith, ints), omega (arith, ints)))
