@@ -17,7 +17,7 @@ abbrev pub upper : Block
 upper = block 1 2 0 1 0 1
 
 -- at the radius and at the intruder's altitude there is contact at the start, and a second away after a hold of one
-first_second : IsEndangeredCell stacked 0 0 0 0 1
+pub first_second : IsEndangeredCell stacked 0 0 0 0 1
 first_second = (1, state (pos 500) (pos 250) (pos 0) (pos 0) (pos 0), [], search rules)
 
 next_second : IsEndangeredCell stacked 1 0 0 0 1

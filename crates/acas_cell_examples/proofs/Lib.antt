@@ -1,4 +1,5 @@
 pub mod Decided
 pub mod Nearest
 pub mod Shown
+pub mod ShownMeeting
 pub mod Issued

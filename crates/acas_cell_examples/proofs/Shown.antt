@@ -10,12 +10,12 @@ use Rattle.acas_flight.specs.State.{IsInCell}
 use Rattle.acas_flight.specs.Contact.{EndsInContact}
 use Rattle.acas_flight_examples.specs.Numbers.{over, segment, state}
 use Rattle.acas_rulings.specs.Printed.{AreParts, a_part, fractions_of, level, no_parts, segments_of}
-use Rattle.acas_rulings.specs.declared.flight.Segment as part
+use Rattle.acas_rulings.specs.declared.flight.Segment as printed
 use Rattle.acas_rulings.specs.Rulings.{ShowsDanger}
 use Rattle.acas_cell_examples.specs.Tabled.{stacked}
-use Rattle.acas_cell_examples.specs.Witnesses.{seen}
+use Rattle.acas_cell_examples.specs.Witnesses.{part, seen}
 
-whole_is_reduced : (n : ℤ) → IsReduced (over n 1)
+pub whole_is_reduced : (n : ℤ) → IsReduced (over n 1)
 whole_is_reduced n = record { some = omega arith; lowest = (one-dvd (unsigned_abs n), one-dvd 1, λ k i j. j) }
 
 abbrev pub flown : List Segment
@@ -28,10 +28,10 @@ all_reduced range speed time =
       (whole_is_reduced speed, (whole_is_reduced time, (whole_is_reduced (pos 0), (whole_is_reduced (pos 0), (whole_is_reduced (pos 1), (whole_is_reduced (pos 0), (whole_is_reduced (pos 1), (whole_is_reduced (pos 100), tt)))))))),
     )
 
-abbrev climb : part.Segment
-climb = record { duration = over (pos 1) 1; acceleration = over (pos 100) 1 }
+abbrev climb : printed.Segment
+climb = part (over (pos 1) 1) (over (pos 100) 1)
 
-parts : (range speed : ℤ) → AreParts 1 flown (segments_of (seen range 1 speed (pos 2)).flight)
+pub parts : (range speed : ℤ) → AreParts 1 flown (segments_of (seen range 1 speed (pos 2)).flight)
 parts range speed = a_part (segment 1 (pos 0)) (level (over (pos 1) 1)) (segment 1 (pos 100) ∷ []) (climb ∷ []) (record { duration = refl; acceleration = refl })
     (a_part (segment 1 (pos 100)) climb [] [] (record { duration = refl; acceleration = refl }) no_parts)
 
@@ -77,20 +77,20 @@ shown_sooner = record {
 pub lasts_two : (n : ℕ) (response : List Segment) (range speed time : ℤ) (d : ℕ) → AreParts n response (segments_of (seen range d speed time).flight) → lasting response ≡ n * 2
 lasts_two n response range speed time d parts = by response (segments_of (seen range d speed time).flight) refl parts
   where
-    none : (ss : List Segment) (fs : List part.Segment) → fs ≡ [] → AreParts n ss fs → lasting ss ≡ 0
+    none : (ss : List Segment) (fs : List printed.Segment) → fs ≡ [] → AreParts n ss fs → lasting ss ≡ 0
     none _ _ e no_parts = refl
     none _ _ e (a_part s f rest others p more) = cc
 
-    last : (ss : List Segment) (fs : List part.Segment) → fs ≡ climb ∷ [] → AreParts n ss fs → lasting ss ≡ n
+    last : (ss : List Segment) (fs : List printed.Segment) → fs ≡ climb ∷ [] → AreParts n ss fs → lasting ss ≡ n
     last _ _ e no_parts = cc
     last _ _ e (a_part s f rest others p more) =
         let same : f ≡ climb = cc in
-        let long : pos s.duration *ℤ pos 1 ≡ pos 1 *ℤ pos n = subst (λ (x : part.Segment). pos s.duration *ℤ pos x.duration.den ≡ x.duration.num *ℤ pos n) same p.duration in
+        let long : pos s.duration *ℤ pos 1 ≡ pos 1 *ℤ pos n = subst (λ (x : printed.Segment). pos s.duration *ℤ pos x.duration.den ≡ x.duration.num *ℤ pos n) same p.duration in
         omega (arith, ints, long, none rest others (cc) more)
 
-    by : (ss : List Segment) (fs : List part.Segment) → fs ≡ level (over (pos 1) 1) ∷ climb ∷ [] → AreParts n ss fs → lasting ss ≡ n * 2
+    by : (ss : List Segment) (fs : List printed.Segment) → fs ≡ level (over (pos 1) 1) ∷ climb ∷ [] → AreParts n ss fs → lasting ss ≡ n * 2
     by _ _ e no_parts = cc
     by _ _ e (a_part s f rest others p more) =
         let same : f ≡ level (over (pos 1) 1) = cc in
-        let long : pos s.duration *ℤ pos 1 ≡ pos 1 *ℤ pos n = subst (λ (x : part.Segment). pos s.duration *ℤ pos x.duration.den ≡ x.duration.num *ℤ pos n) same p.duration in
+        let long : pos s.duration *ℤ pos 1 ≡ pos 1 *ℤ pos n = subst (λ (x : printed.Segment). pos s.duration *ℤ pos x.duration.den ≡ x.duration.num *ℤ pos n) same p.duration in
         omega (arith, ints, long, last rest others (cc) more)

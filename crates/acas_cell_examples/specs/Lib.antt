@@ -2,3 +2,4 @@ pub mod Tabled
 pub mod Encounters
 pub mod Witnesses
 pub mod ClearCells
+pub mod Reports

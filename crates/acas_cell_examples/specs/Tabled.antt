@@ -6,6 +6,7 @@ use Rattle.acas_base.specs.Advices.{AdvicesData}
 use Rattle.acas_cells.specs.declared.block.Block.{Block}
 use Rattle.acas_cells.specs.declared.name.CellName.{CellName}
 use Rattle.acas_cells.specs.declared.set.AdviceSet.{AdviceSet}
+use Rattle.acas_audit_blocks.specs.declared.block_audit.CellSets.{CellSets}
 use Rattle.acas_flight_examples.specs.Flown.{small}
 
 -- the small model with altitudes of 0, 120 and 240 ticks
@@ -51,3 +52,7 @@ block i0 i1 j0 j1 k0 k1 = record { i0 = i0; i1 = i1; j0 = j0; j1 = j1; k0 = k0; 
 -- the set of these bits
 abbrev pub set : ℕ → AdviceSet
 set bits = record { bits = bits }
+
+-- a cell is certified under the advices of some bits, and reported under those of others
+abbrev pub sets : ℕ → ℕ → CellSets
+sets certified reported = record { certified = set certified; reported = set reported }

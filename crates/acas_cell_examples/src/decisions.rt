@@ -1,9 +1,10 @@
 //! How many decisions rule on the cells of the model.
 ghost use Rattle.std.specs.Prelude.{◌≡◌, ℕ};
 ghost use Rattle.acas_cells.specs.Blocks.{all_cells};
+ghost use Rattle.acas_audit_blocks.specs.Audits.{AreExact};
 ghost use Rattle.acas_audit_blocks.specs.Decisions.{AreAuditsDecisions, AreDecisionsOf, AreDecisionsUnder, IsDecidedBy, IsTabledIn};
 ghost use Rattle.acas_cells.specs.DecisionCounts.{most_decisions};
-ghost use Rattle.acas_cell_examples.specs.Tabled.{block, stacked, tabled};
+ghost use Rattle.acas_cell_examples.specs.Tabled.{block, sets, stacked, tabled};
 
 /// Climb is tabled at a corner of both cells of 0 seconds, and both are endangered: one decision for the two, and one for each. Where
 /// climb is present it is tabled at a corner of the upper one alone: one for the two, and one for that. Of 1 second it is tabled at the
@@ -28,7 +29,17 @@ pub fn decided_numbers_are_one()
         number ≡ 0 }
 {}
 
-/// The same summed up. No second and present advisory takes more than two for each of 2 cells under each of 2 advices.
+/// Climb is in the second set of a cell of 0 seconds, which is endangered, and not in the first. Where climb is present it is tabled at no
+/// corner of the lower one, and is in neither.
+pub fn sets_are_exact_or_not()
+    ensures reported { AreExact stacked tabled 0 0 0 0 0 1 (sets 0 2) }
+    ensures certified { AreExact stacked tabled 0 0 0 0 0 1 (sets 2 0) → ⊥ }
+    ensures certified_too { AreExact stacked tabled 0 0 0 0 0 1 (sets 2 2) → ⊥ }
+    ensures neither { AreExact stacked tabled 0 1 0 0 0 1 (sets 0 0) }
+    ensures not_tabled { AreExact stacked tabled 0 1 0 0 0 1 (sets 0 2) → ⊥ }
+{}
+
+/// The decisions summed up. No second and present advisory takes more than two for each of 2 cells under each of 2 advices.
 pub fn decisions_are_summed()
     ensures clear { AreDecisionsUnder stacked tabled 0 0 0 0 }
     ensures both { AreDecisionsOf stacked tabled 0 0 3 }
