@@ -13,7 +13,7 @@ use Rattle.acas_rulings.specs.Printed.{AreParts, a_part, fractions_of, level, no
 use Rattle.acas_rulings.specs.declared.flight.Segment as printed
 use Rattle.acas_rulings.specs.Rulings.{ShowsDanger}
 use Rattle.acas_cell_examples.specs.Tabled.{stacked}
-use Rattle.acas_cell_examples.specs.Witnesses.{part, seen}
+use Rattle.acas_cell_examples.specs.Witnesses.{half_a_second, part, seen}
 
 pub whole_is_reduced : (n : ℤ) → IsReduced (over n 1)
 whole_is_reduced n = record { some = omega arith; lowest = (one-dvd (unsigned_abs n), one-dvd 1, λ k i j. j) }
@@ -71,6 +71,28 @@ shown_sooner = record {
   flown = parts (pos 1500) (pos 500);
   contact = ends_in_contact_sooner;
   reduced = all_reduced (pos 1500) (pos 500) (pos 2);
+}
+
+half_is_reduced : IsReduced (over (pos 1) 2)
+half_is_reduced = record { some = omega arith; lowest = (one-dvd 1, one-dvd 2, λ k i j. i) }
+
+pub shown_over_two : ShowsDanger stacked 1 (IsInCell stacked 0 1 0 0) half_a_second
+shown_over_two = record {
+  q = 2;
+  state = state (pos 1250) (pos 500) (pos 240) (pos 0) (pos 0);
+  response = segment 1 (pos 0) ∷ [];
+  range = refl;
+  closing = refl;
+  altitude = refl;
+  own = refl;
+  intruder = refl;
+  time = refl;
+  flown = a_part (segment 1 (pos 0)) (level (over (pos 1) 2)) [] [] (record { duration = refl; acceleration = refl }) no_parts;
+  contact = search rules;
+  reduced = All-from_recursion IsReduced (fractions_of half_a_second) (
+    whole_is_reduced (pos 625),
+    (whole_is_reduced (pos 250), (half_is_reduced, (whole_is_reduced (pos 0), (whole_is_reduced (pos 0), (half_is_reduced, (whole_is_reduced (pos 0), tt)))))),
+  );
 }
 
 -- the printed response lasts two seconds

@@ -30,6 +30,22 @@ seen n d speed time = record {
   };
 }
 
+-- at 625 ft and 250 ft/s, for half a second at 0 ft/min, 120 ticks below the intruder, which flies level
+abbrev pub half_a_second : Witness
+half_a_second = record {
+  range = over (pos 625) 1;
+  speed = over (pos 250) 1;
+  flight = record {
+    time = over (pos 1) 2;
+    h = pos 120;
+    v0 = over (pos 0) 1;
+    v1 = over (pos 0) 1;
+    hold = Some (over (pos 1) 2);
+    first = None;
+    second = None;
+  };
+}
+
 -- 7/2 s, of which the rate is held for 1/2 s, goes down for 2 s and is held again for 1 s; no two of the other numbers are the same
 abbrev pub sinking : Witness
 sinking = record {

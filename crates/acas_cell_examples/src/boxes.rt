@@ -1,6 +1,7 @@
 //! Boxes by their places, and those that the model can audit.
 ghost use Rattle.std.specs.Prelude.{◌≡◌, pos, [], ◌∷◌};
-ghost use Rattle.acas_rulings.specs.Boxes.{AreBoxesOf, IsBoxOf, box_at};
+ghost use Rattle.acas_rulings.specs.Boxes.{AreBoxesOf, IsBoxOf, audited, box_at};
+ghost use Rattle.acas_rulings.specs.declared.audit_box.AuditBox.{AuditBox};
 ghost use Rattle.acas_report_lines.specs.Regions.{places};
 ghost use Rattle.acas_flight_examples.specs.Flown.{near_box};
 ghost use Rattle.acas_flight_examples.specs.Numbers.{from_to};
@@ -24,4 +25,19 @@ pub fn boxes_are_those_of_a_model_or_not()
         (record { advisory = 1; states = record near_box { range = from_to (pos 0) (pos 149_501) } }) → ⊥ }
     ensures both { AreBoxesOf stacked (around ∷ record { advisory = 0; states = near_box } ∷ []) }
     ensures not_the_last { AreBoxesOf stacked (around ∷ record { advisory = 2; states = near_box } ∷ []) → ⊥ }
+{}
+
+/// A box stands for its own spans, each in its place.
+pub fn boxes_stand_for_their_spans()
+    ensures advisory { (b : AuditBox) → (audited b).advisory ≡ b.advisory }
+    ensures range { (b : AuditBox) → let s = (audited b).states.range in
+        (s.least ≡ b.range.least) × (s.greatest ≡ b.range.greatest) }
+    ensures closing { (b : AuditBox) → let s = (audited b).states.closing in
+        (s.least ≡ b.closing.least) × (s.greatest ≡ b.closing.greatest) }
+    ensures altitude { (b : AuditBox) → let s = (audited b).states.altitude in
+        (s.least ≡ b.area.h.least) × (s.greatest ≡ b.area.h.greatest) }
+    ensures own { (b : AuditBox) → let s = (audited b).states.own in
+        (s.least ≡ b.area.v0.least) × (s.greatest ≡ b.area.v0.greatest) }
+    ensures intruder { (b : AuditBox) → let s = (audited b).states.intruder in
+        (s.least ≡ b.area.v1.least) × (s.greatest ≡ b.area.v1.greatest) }
 {}

@@ -17,7 +17,9 @@ mod rulings;
 mod seconds;
 
 pub use blocks::{blocks_are_halved, blocks_have_areas, sets_hold_advices};
-pub use boxes::{boxes_are_at_their_places, boxes_are_those_of_a_model_or_not};
+pub use boxes::{
+    boxes_are_at_their_places, boxes_are_those_of_a_model_or_not, boxes_stand_for_their_spans,
+};
 pub use cells::{
     advisory_cells_are_listed, cells_are_listed, cells_are_those_of_a_model_or_not,
     corners_are_advised, names_are_ordered,

@@ -4,14 +4,16 @@ ghost use Rattle.acas_flight.specs.State.{IsInCell};
 ghost use Rattle.acas_rulings.specs.Rulings.{IsRulingOfCell, IsWitnessOfCell, ShowsDanger};
 ghost use Rattle.acas_rulings.specs.declared.ruling.Ruling.TheVariants.{Certified, Reported};
 ghost use Rattle.acas_cell_examples.specs.Tabled.{stacked, under_climb};
-ghost use Rattle.acas_cell_examples.specs.Witnesses.{seen};
+ghost use Rattle.acas_cell_examples.specs.Witnesses.{half_a_second, seen};
 
 /// In a hold of 1 s at 0 ft/min and 1 s at 100 ft/min per second an aircraft climbs 100 ticks, which is where the intruder flies, and a
 /// range of 1000 ft at 250 ft/s comes to the radius of 500 ft. At 500 ft/s one of 1500 ft does. At 249 ft/s, which is no closing speed of
-/// the model, it is no danger that is shown, nor in a fraction that is not in lowest terms, nor after another time.
+/// the model, it is no danger that is shown, nor in a fraction that is not in lowest terms, nor after another time. At 250 ft/s a range of
+/// 625 ft comes to the radius after half a second; 120 ticks, where the upper cell begins, are 240 over 2.
 pub fn danger_is_shown_or_not()
     ensures shown { ShowsDanger stacked 1 (IsInCell stacked 1 0 0 0) (seen (pos 1000) 1 (pos 250) (pos 2)) }
     ensures faster { ShowsDanger stacked 1 (IsInCell stacked 1 0 0 0) (seen (pos 1500) 1 (pos 500) (pos 2)) }
+    ensures over_two { ShowsDanger stacked 1 (IsInCell stacked 0 1 0 0) half_a_second }
     ensures slow { ShowsDanger stacked 1 (IsInCell stacked 1 0 0 0)
         (seen (pos 1000) 1 (pos 249) (pos 2)) → ⊥ }
     ensures behind { ShowsDanger stacked 1 (IsInCell stacked 1 0 0 0)

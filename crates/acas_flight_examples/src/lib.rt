@@ -15,8 +15,9 @@ pub use contact::{areas_are_endangered, contact_ends_at_the_edge, flights_end_in
 pub use curves::{climbs_of_curves_are_one, curves_are_worked_out, gaps_are_worked_out};
 pub use extremes::{other_times_are_no_extremes, the_first_of_equal_times_is_extreme};
 pub use passes::{
-    flights_are_below_or_not, halving_takes_the_lower_middle, passes_end_at_the_first_flight,
-    passes_have_last_flights, quantities_move_toward_their_ends, values_are_worked_out,
+    flights_are_below_or_not, halving_takes_the_lower_middle, low_flights_are_found_first,
+    passes_end_at_the_first_flight, passes_have_last_flights, quantities_move_toward_their_ends,
+    values_are_worked_out,
 };
 pub use responses::{climbs_are_worked_out, responses_meet_or_not, segments_follow_or_not};
 pub use searches::{

@@ -2,7 +2,7 @@
 ghost use Rattle.std.specs.Prelude.{◌≡◌, ℕ, pos, [], ◌∷◌, true, false, nat_lt};
 ghost use Rattle.acas_areas.specs.Flights.{Flight, intruder_end, value};
 ghost use Rattle.acas_areas.specs.Halving.{HalvesTo};
-ghost use Rattle.acas_areas.specs.Passes.{EndsAt, IsLast, Pass, falling, moving, moving_down, moving_up, rising, toward};
+ghost use Rattle.acas_areas.specs.Passes.{EndsAt, IsFound, IsLast, Pass, falling, moving, moving_down, moving_up, rising, toward};
 ghost use Rattle.acas_areas.specs.Value.{IsLessThanAbove, IsWithinHalf, is_below, thinnest};
 ghost use Rattle.acas_flight_examples.specs.Numbers.{minus, over};
 ghost use Rattle.acas_flight_examples.specs.Searched.{after_a_hold, at_start, far_below, first_or_third, lasting_for, over_two, stepping, up_to_it};
@@ -80,4 +80,16 @@ pub fn passes_end_at_the_first_flight()
     ensures one { EndsAt (value 1) 120 (up_to_it ∷ []) (at_start (pos 100)) }
     ensures two { EndsAt (value 1) 120 (far_below ∷ up_to_it ∷ []) (at_start (pos 100)) }
     ensures below { (c : Flight) → EndsAt (value 1) 120 (far_below ∷ []) c → ⊥ }
+{}
+
+/// From 100 ticks below and from 100 above both flights are in contact, and it is the low one that is found. From 500 below it is the
+/// high one. From 300 below to 300 above neither is, and the passes are tried.
+pub fn low_flights_are_found_first()
+    ensures low { IsFound (value 1) 120 (at_start (pos 100)) (at_start (minus 100)) [] (at_start (pos 100)) }
+    ensures not_high { IsFound (value 1) 120 (at_start (pos 100)) (at_start (minus 100)) []
+        (at_start (minus 100)) → ⊥ }
+    ensures high { IsFound (value 1) 120 (at_start (pos 500)) (at_start (minus 100)) []
+        (at_start (minus 100)) }
+    ensures between { IsFound (value 1) 120 (at_start (pos 300)) (at_start (minus 300)) (up_to_it ∷ [])
+        (at_start (pos 100)) }
 {}

@@ -45,7 +45,8 @@ pub fn segments_follow_or_not()
     ensures no_time { Follows climbing (pos 1000) (segment 0 (pos 0)) → ⊥ }
 {}
 
-/// The rate may be held for 2 s, and not for longer, nor later, nor once more, nor by a segment that changes it.
+/// The rate may be held for 2 s, and not for longer, nor later, nor once more, nor by a segment that changes it. Each segment begins at
+/// the rate at which the one before it ends: from 1900 ft/min a second at 100 ft/min per second ends at 2000, and another one past that.
 pub fn responses_meet_or_not()
     ensures holds { Holds climbing (segment 2 (pos 0)) }
     ensures longer { Holds climbing (segment 3 (pos 0)) → ⊥ }
@@ -54,6 +55,8 @@ pub fn responses_meet_or_not()
     ensures nothing { Meets climbing (pos 500) [] }
     ensures after_a_hold { Meets climbing (pos 500) (segment 2 (pos 0) ∷ segment 5 (pos 100) ∷ []) }
     ensures after_a_long_hold { Meets climbing (pos 500) (segment 3 (pos 0) ∷ segment 5 (pos 100) ∷ []) → ⊥ }
+    ensures one_to_hi { Meets climbing (pos 1900) (segment 1 (pos 100) ∷ []) }
+    ensures two_past_hi { Meets climbing (pos 1900) (segment 1 (pos 100) ∷ segment 1 (pos 100) ∷ []) → ⊥ }
     ensures hold_once_more { Meets climbing (pos 500) (segment 2 (pos 0) ∷ segment 2 (pos 0) ∷ []) → ⊥ }
     ensures hold_later { Meets climbing (pos 500) (segment 2 (pos 100) ∷ segment 1 (pos 0) ∷ []) → ⊥ }
 {}

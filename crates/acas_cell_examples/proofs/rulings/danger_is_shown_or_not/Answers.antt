@@ -3,7 +3,7 @@ use Rattle.std.specs.Int.{◌∣◌}
 use Rattle.std.proofs.lemmas.Int.{ints, int_max_is}
 use Rattle.std.proofs.lemmas.Nat.Gcd.{le_of_dvd}
 use Rattle.acas_flight_examples.specs.Numbers.{over}
-use Rattle.acas_cell_examples.proofs.Shown.{lasts_two, shown, shown_sooner}
+use Rattle.acas_cell_examples.proofs.Shown.{lasts_two, shown, shown_over_two, shown_sooner}
 use Rattle.acas_cell_examples.proofs.rulings.danger_is_shown_or_not.Goals as goal
 
 pub returns-clause-shown : goal.returns-clause-shown
@@ -11,6 +11,9 @@ returns-clause-shown c = shown
 
 pub returns-clause-faster : goal.returns-clause-faster
 returns-clause-faster c = shown_sooner
+
+pub returns-clause-over_two : goal.returns-clause-over_two
+returns-clause-over_two c = shown_over_two
 
 pub returns-clause-slow : goal.returns-clause-slow
 returns-clause-slow c s = omega (arith, ints, s.closing, s.contact.some, s.contact.inside.away.speed.0)

@@ -1,17 +1,10 @@
 use Rattle.std.proofs.Common.{◌≡◌, ℕ, List, [], ◌∷◌, false, true≢false, pos, refl, sym, subst, arith}
 use Rattle.acas_flight.specs.Curves.{approach}
-use Rattle.acas_areas.specs.Halving.{ends, raises, lowers}
 use Rattle.acas_areas.specs.Flights.{Flight, value}
 use Rattle.acas_areas.specs.Passes.{EndsAt, IsLast, Pass, below_at, here, later}
 use Rattle.acas_flight_examples.specs.Searched.{at_start, far_below, up_to_it}
+use Rattle.acas_flight_examples.proofs.UpToIt.{ends_there}
 use Rattle.acas_flight_examples.proofs.passes.passes_end_at_the_first_flight.Goals as goal
-
-third_is_last : IsLast up_to_it 3
-third_is_last = record { reaches = omega arith; first = omega arith }
-
-ends_there : EndsAt (value 1) 120 (up_to_it ∷ []) (at_start (pos 100))
-unfolding approach
-ends_there = here up_to_it [] 3 2 third_is_last refl (raises 0 3 2 (omega arith) refl (lowers 1 3 2 (omega arith) refl (ends 1 2 (omega arith))))
 
 pub returns-clause-one : goal.returns-clause-one
 returns-clause-one c = ends_there
