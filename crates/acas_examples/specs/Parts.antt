@@ -1,6 +1,7 @@
 -- The parts of small models.
 use Rattle.std.specs.Prelude.{ℕ, ℤ, pos, neg_ℤ, List, [], ◌∷◌, codes}
 use Rattle.acas_units.specs.declared.limits.TheConstants.{LEAST_RATE, GREATEST_RATE}
+use Rattle.acas_frac.specs.Fraction.{Fraction}
 use Rattle.acas_spec.specs.Model.{GridData}
 use Rattle.acas_spec.specs.declared.parts.Advisory.{Advisory}
 use Rattle.acas_spec.specs.declared.parts.Choice.{Choice}
@@ -11,6 +12,10 @@ use Rattle.acas_spec.specs.declared.place.Vertex.{Vertex}
 -- the number that is n below 0
 abbrev pub minus : ℕ → ℤ
 minus n = neg_ℤ (pos n)
+
+-- num / den
+abbrev pub fraction : ℤ → ℕ → Fraction
+fraction num den = record { num = num; den = den }
 
 -- the vertex at these places of the axes of relative altitude, own rate and intruder rate
 abbrev pub vertex : ℕ → ℕ → ℕ → Vertex

@@ -3,7 +3,9 @@
 #![tactic(auto)]
 
 mod cells;
+mod chances;
 mod costs;
+mod fractions;
 mod limits;
 mod models;
 mod names;
@@ -14,9 +16,16 @@ mod trajectories;
 mod values;
 
 pub use cells::{axes_rise, cells_begin_at_their_numbers};
+pub use chances::{
+    chances_are_exact, contact_is_within_half_the_height, numbers_have_bounds_or_not,
+};
 pub use costs::{evading_costs_are_exact, noisy_costs_are_exact, switching_costs_are_exact};
+pub use fractions::{
+    fractions_are_in_lowest_terms_or_not, fractions_are_printed, quotients_are_rounded_both_ways,
+};
 pub use limits::{
-    advisories_have_limits, choices_have_limits, models_have_limits, sigma_points_have_limits,
+    advisories_have_limits, choices_have_limits, lists_have_limits, models_have_limits,
+    sigma_points_have_limits,
 };
 pub use models::{entries_end_at_the_horizon, examples_are_models};
 pub use names::{names_are_of_letters_and_digits, names_are_short_and_not_empty};

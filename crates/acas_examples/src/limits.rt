@@ -1,8 +1,17 @@
 //! What is within the limits of a model and what is past them, in numbers.
-ghost use Rattle.std.specs.Prelude.{pos, [], ◌∷◌};
-ghost use Rattle.acas_spec.specs.Limits.{IsAdvisory, IsChoice, IsChoiceList, IsModel, IsSigma};
+ghost use Rattle.std.specs.Prelude.{ℕ, pos, [], ◌∷◌};
+ghost use Rattle.acas_spec.specs.Axis.{IsWithin};
+ghost use Rattle.acas_spec.specs.Limits.{AreDistinct, IsAdvisory, IsChoice, IsChoiceList, IsModel, IsSigma};
 ghost use Rattle.acas_examples.specs.Models.{noisy};
 ghost use Rattle.acas_examples.specs.Parts.{choice, clear, level, minus, sigma};
+
+/// Each number of a list is to be within limits, the first and the last one too. Items are to be distinct, be they neighbours or not.
+pub fn lists_have_limits()
+    ensures first { IsWithin (pos 0) (pos 5) (minus 1 ∷ pos 3 ∷ pos 5 ∷ []) → ⊥ }
+    ensures last { IsWithin (pos 0) (pos 5) (pos 0 ∷ pos 3 ∷ pos 6 ∷ []) → ⊥ }
+    ensures neighbours { AreDistinct {A = ℕ} 0 (1 ∷ 2 ∷ 2 ∷ []) → ⊥ }
+    ensures apart { AreDistinct {A = ℕ} 0 (2 ∷ 1 ∷ 2 ∷ []) → ⊥ }
+{}
 
 /// An advisory asks for rates from -10,000 to 10,000 ft/min, or for one rate.
 pub fn advisories_have_limits()
