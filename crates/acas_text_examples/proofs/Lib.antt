@@ -1,0 +1,2 @@
+mod Only
+mod Said

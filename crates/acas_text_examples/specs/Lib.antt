@@ -1,0 +1,3 @@
+pub mod Documents
+pub mod Boxes
+pub mod Drilled
