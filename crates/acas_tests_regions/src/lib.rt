@@ -1,5 +1,5 @@
-//! Tests of curves, windows, gaps, clear areas and witnesses: the public calls of `acas_region` and `acas_witness`, with values worked out
-//! by hand. Rows are lines of a text, so that a row costs no proof.
+//! Tests of curves, windows, gaps, clear areas, witnesses and what a second leads to: the public calls of `acas_region`, `acas_witness`
+//! and `acas_safeable`, with values worked out by hand. Rows are lines of a text, so that a row costs no proof.
 #![tactic(auto)]
 
 #[cfg(test)]
@@ -10,5 +10,7 @@ mod curves;
 mod limits;
 #[cfg(test)]
 mod print;
+#[cfg(test)]
+mod reached;
 #[cfg(test)]
 mod rows;
