@@ -1,11 +1,10 @@
 -- What the command goes on with behind its files.
-use Rattle.std.proofs.Common.{◌≡◌, ℕ, List, [], None, refl, sym}
+use Rattle.std.proofs.Common.{◌≡◌, ℕ, List, [], ◌∷◌, None, refl, sym}
 use Rattle.std.specs.FinMap.{get}
 use Rattle.acas_spec.specs.Model.{ModelData}
 use Rattle.acas_outside.specs.Files.{Files}
 use Rattle.acas_rulings.specs.Intruder.{Manoeuvre}
 use Rattle.acas_boxes.specs.Rates.{fitting_boxes_of}
-use Rattle.acas_command.specs.Called.{calls_for}
 use Rattle.acas_command.specs.Calls.{with_input_file}
 use Rattle.acas_command.specs.ModelFile.{IsModelFile}
 use Rattle.acas_command.specs.Outcome.{Outcome, prints}
@@ -30,6 +29,6 @@ manoeuvre-behind_model model boxes may digest m files is =
 
 -- what refuses the command as it looks at its files is answered by it
 pub manoeuvre-refers : (model boxes : List ℕ) (may : Manoeuvre) (files : Files) (outcome_of : Files → Outcome) → outcome_of files ≡ manoeuvre_looks_at model boxes may files
-    → Refers files (calls_for outcome_of) (CallsForManoeuvre model boxes may)
+    → Refers files (outcome_of files) (CallsForManoeuvre model boxes may)
 manoeuvre-refers model boxes may files outcome_of same =
-    refers-report files outcome_of (manoeuvre_looks_at model boxes may) (IsManoeuvreText model boxes may) (IsManoeuvreBegun model boxes may) same (no_file-manoeuvre model boxes may files)
+    refers-report (model ∷ boxes ∷ []) files (outcome_of files) (manoeuvre_looks_at model boxes may) (IsManoeuvreText model boxes may) (IsManoeuvreBegun model boxes may) same (no_file-manoeuvre model boxes may files)

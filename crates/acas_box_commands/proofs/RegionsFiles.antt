@@ -1,5 +1,5 @@
 -- What `regions` goes on with behind its files.
-use Rattle.std.proofs.Common.{◌≡◌, ℕ, List, [], None, refl, sym}
+use Rattle.std.proofs.Common.{◌≡◌, ℕ, List, [], ◌∷◌, None, refl, sym}
 use Rattle.std.specs.FinMap.{get}
 use Rattle.acas_spec.specs.Model.{ModelData}
 use Rattle.acas_outside.specs.Files.{Files}
@@ -11,7 +11,6 @@ use Rattle.acas_command.specs.Outcome.{Outcome, prints}
 use Rattle.acas_command.specs.declared.status.FileRole.TheVariants.{Boxes as BoxesFile}
 use Rattle.acas_command.proofs.Files.{with_model-file}
 use Rattle.acas_command.proofs.Reports.{no_file-model, refers-report}
-use Rattle.acas_command.specs.Called.{calls_for}
 use Rattle.acas_command.proofs.Behind.{Refers}
 use Rattle.acas_box_commands.specs.RegionsCalls.{CallsForRegions, IsRegionsBegun, IsRegionsText, regions_looks_at}
 
@@ -24,6 +23,6 @@ pub regions-behind_model : (model boxes digest : List ℕ) (m : ModelData) (file
 regions-behind_model model boxes digest m files is = sym (with_model-file (get files model) digest m (λ d n. with_input_file BoxesFile (boxes_of n) (get files boxes) (λ said. prints [])) is)
 
 pub regions-refers : (model boxes : List ℕ) (files : Files) (outcome_of : Files → Outcome) → outcome_of files ≡ regions_looks_at model boxes files
-    → Refers files (calls_for outcome_of) (CallsForRegions model boxes)
+    → Refers files (outcome_of files) (CallsForRegions model boxes)
 regions-refers model boxes files outcome_of same =
-    refers-report files outcome_of (regions_looks_at model boxes) (IsRegionsText model boxes) (IsRegionsBegun model boxes) same (no_file-regions model boxes files)
+    refers-report (model ∷ boxes ∷ []) files (outcome_of files) (regions_looks_at model boxes) (IsRegionsText model boxes) (IsRegionsBegun model boxes) same (no_file-regions model boxes files)

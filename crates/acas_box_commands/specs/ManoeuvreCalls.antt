@@ -1,5 +1,5 @@
 -- What `manoeuvre` calls for, by the files of the folder.
-use Rattle.std.specs.Prelude.{◌≡◌, ℕ, List, [], Option}
+use Rattle.std.specs.Prelude.{◌≡◌, ℕ, List, [], ◌∷◌, Option}
 use Rattle.std.specs.FinMap.{get}
 use Rattle.acas_spec.specs.Model.{ModelData}
 use Rattle.acas_outside.specs.Files.{Files}
@@ -47,4 +47,4 @@ pub record IsManoeuvreBegun (model boxes : List ℕ) (may : Manoeuvre) (files : 
 
 -- `manoeuvre M B A C` prints a report of the boxes, against an intruder that may do so much
 abbrev pub CallsForManoeuvre : List ℕ → List ℕ → Manoeuvre → Called
-CallsForManoeuvre model boxes may = calls_for_report (manoeuvre_looks_at model boxes may) (IsManoeuvreText model boxes may) (IsManoeuvreBegun model boxes may)
+CallsForManoeuvre model boxes may = calls_for_report (model ∷ boxes ∷ []) (manoeuvre_looks_at model boxes may) (IsManoeuvreText model boxes may) (IsManoeuvreBegun model boxes may)

@@ -1,5 +1,5 @@
 -- What `regions` calls for, by the files of the folder.
-use Rattle.std.specs.Prelude.{◌≡◌, ℕ, List, [], Option}
+use Rattle.std.specs.Prelude.{◌≡◌, ℕ, List, [], ◌∷◌, Option}
 use Rattle.std.specs.FinMap.{get}
 use Rattle.acas_spec.specs.Model.{ModelData}
 use Rattle.acas_outside.specs.Files.{Files}
@@ -43,4 +43,4 @@ pub record IsRegionsBegun (model boxes : List ℕ) (files : Files) (old new : Op
 
 -- `regions` prints a report of the boxes
 abbrev pub CallsForRegions : List ℕ → List ℕ → Called
-CallsForRegions model boxes = calls_for_report (regions_looks_at model boxes) (IsRegionsText model boxes) (IsRegionsBegun model boxes)
+CallsForRegions model boxes = calls_for_report (model ∷ boxes ∷ []) (regions_looks_at model boxes) (IsRegionsText model boxes) (IsRegionsBegun model boxes)

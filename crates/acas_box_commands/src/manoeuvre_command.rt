@@ -1,10 +1,11 @@
 //! The command `manoeuvre`.
-ghost use Rattle.std.specs.Prelude.{◌≤◌, ℕ, List, IsErrOf, IsTrue};
+ghost use Rattle.std.specs.Prelude.{◌≤◌, ℕ, List, [], ◌∷◌, IsErrOf, IsTrue};
 ghost use Rattle.acas_outside.specs.Files.{Given};
 ghost use Rattle.acas_outside.specs.Frame.{ReadsAndWrites};
 ghost use Rattle.acas_outside.specs.Outside.{outside};
 ghost use Rattle.acas_rulings.specs.MeetingView.{may_of};
 ghost use Rattle.acas_command.specs.Answers.{Answers, report_ended};
+ghost use Rattle.acas_command.specs.Called.{reading};
 ghost use Rattle.acas_command.specs.ModelFile.{IsModelFile};
 ghost use Rattle.acas_box_commands.specs.ManoeuvreCalls.{CallsForManoeuvre};
 
@@ -46,7 +47,7 @@ fn rule_on_boxes<F: Folder, O: Sink>(
 ) -> Result<u64, Cause>
     requires boxes { IsTrue (F.serves folder.old boxes.now) }
     ensures answers { (model : List ℕ) → Given (F.holds folder.old) model (λ file. IsModelFile file found.now.digest found.now.model)
-        → Answers (CallsForManoeuvre model boxes.now (may_of may.now)) (report_ended result)
+        → Answers (reading (boxes.now ∷ []) (CallsForManoeuvre model boxes.now (may_of may.now))) (report_ended result)
         (outside F.Folder O.Sink folder.old out.old) (outside F.Folder O.Sink folder.new out.new) }
     ensures folder { ReadsAndWrites F.Folder folder.old folder.new (IsErrOf result Cause.Folder) }
     ensures output { O.faults out.old ≤ O.faults out.new }

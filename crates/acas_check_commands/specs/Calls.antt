@@ -1,5 +1,5 @@
 -- What the commands on stored tables call for, by the files of the folder.
-use Rattle.std.specs.Prelude.{ℕ, List, Option}
+use Rattle.std.specs.Prelude.{ℕ, List, [], ◌∷◌, Option}
 use Rattle.std.specs.FinMap.{get}
 use Rattle.acas_table_text.specs.Shape.{shape_of}
 use Rattle.acas_table_text.specs.Tables.{as_layered}
@@ -20,9 +20,9 @@ migrate_of file table name =
     with_model file (λ digest model. with_table model digest table (λ bytes.
     stores name (as_layered digest (shape_of model.grid) bytes) (migrated_line model.grid)))
 
--- the same, by the names of the files
+-- the same, by the names of the files; `migrate` does not read the one that it stores
 abbrev pub CallsForCheck : List ℕ → List ℕ → Called
-CallsForCheck model table = calls_for (λ files. check_of (get files model) (get files table))
+CallsForCheck model table = calls_for (model ∷ table ∷ []) (λ files. check_of (get files model) (get files table))
 
 abbrev pub CallsForMigrate : List ℕ → List ℕ → List ℕ → Called
-CallsForMigrate model table target = calls_for (λ files. migrate_of (get files model) (get files table) target)
+CallsForMigrate model table target = calls_for (model ∷ table ∷ []) (λ files. migrate_of (get files model) (get files table) target)

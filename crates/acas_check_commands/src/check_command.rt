@@ -1,10 +1,11 @@
 //! The command `check`.
-ghost use Rattle.std.specs.Prelude.{◌≤◌, [], ◌≡◌, ℕ, List, IsErrOf, IsTrue, IsSomeAnd};
+ghost use Rattle.std.specs.Prelude.{◌≤◌, [], ◌∷◌, ◌≡◌, ℕ, List, IsErrOf, IsTrue, IsSomeAnd};
 ghost use Rattle.acas_outside.specs.Bytes.{IsBytes};
 ghost use Rattle.acas_outside.specs.Files.{Given};
 ghost use Rattle.acas_outside.specs.Frame.{ReadsAndWrites};
 ghost use Rattle.acas_outside.specs.Outside.{outside};
 ghost use Rattle.acas_command.specs.Answers.{Answers, ended};
+ghost use Rattle.acas_command.specs.Called.{reading};
 ghost use Rattle.acas_command.specs.ModelFile.{IsModelFile};
 ghost use Rattle.acas_check_commands.specs.AcceptedLine.{accepted_line};
 ghost use Rattle.acas_check_commands.specs.Calls.{CallsForCheck};
@@ -48,7 +49,7 @@ fn print_accepted<M: LayerMeans, F: Folder, O: Sink>(
 ) -> Result<(), Cause>
     requires table { IsTrue (F.serves folder.old table.now) }
     ensures answers { (model : List ℕ) → Given (F.holds folder.old) model (λ file. IsModelFile file found.now.digest found.now.model)
-        → Answers (CallsForCheck model table.now) (ended result)
+        → Answers (reading (table.now ∷ []) (CallsForCheck model table.now)) (ended result)
         (outside F.Folder O.Sink folder.old out.old) (outside F.Folder O.Sink folder.new out.new) }
     ensures bytes { ended result ≡ Cause.Done →
         Given (F.holds folder.old) table.now (λ file. IsSomeAnd file IsBytes) }

@@ -21,7 +21,7 @@ pub called-model : (holds : Option Files) (name digest : List ℕ) (m : ModelDat
 called-model holds name digest m rest read = told-map holds _ _ (λ files is. sym (with_model-file (get files name) digest m (rest files) is)) read
 
 -- what ends the rest behind the model's file ends the command
-pub to-model : (holds : Option Files) (name digest : List ℕ) (m : ModelData) (rest : Files → List ℕ → ModelData → Outcome) → Given holds name (λ file. IsModelFile file digest m)
-    → IfSome holds (λ files. Refers files (calls_for (λ fs. rest fs digest m)) (calls_for (λ fs. with_model (get fs name) (rest fs))))
-to-model holds name digest m rest read = told-map holds _ _ (λ files same. refers-same files (λ fs. rest fs digest m) (λ fs. with_model (get fs name) (rest fs)) same)
+pub to-model : (names : List (List ℕ)) (holds : Option Files) (name digest : List ℕ) (m : ModelData) (rest : Files → List ℕ → ModelData → Outcome) → Given holds name (λ file. IsModelFile file digest m)
+    → IfSome holds (λ files. Refers files (rest files digest m) (calls_for names (λ fs. with_model (get fs name) (rest fs))))
+to-model names holds name digest m rest read = told-map holds _ _ (λ files same. refers-same names files (rest files digest m) (λ fs. with_model (get fs name) (rest fs)) same)
     (called-model holds name digest m rest read)

@@ -7,6 +7,7 @@ use Rattle.acas_doc.specs.declared.input_fault.InputFault.{InputFault}
 use Rattle.acas_doc.specs.declared.input_fault.InputFault.TheVariants as inputs
 use Rattle.acas_outside.specs.Files.{Given}
 use Rattle.acas_outside.specs.Outside.{Outside}
+use Rattle.acas_outside.proofs.Once.{takes_none}
 use Rattle.acas_command.specs.Answers.{Answers, EndsLooking}
 use Rattle.acas_command.specs.Called.{calls_for}
 use Rattle.acas_command.specs.Calls.{input_cause, with_input, with_input_file}
@@ -45,12 +46,12 @@ with_input_file-fails role read file bytes fault rest text fails =
     short_text short = rw (short, fails) refl
 
 -- where the text was read, its fault ends the command, or memory ran out in its place
-pub answers-input : {A : Type 0} (role : FileRole) (read : List ℕ → Result A InputFault) (name bytes : List ℕ) (fault : InputFault) (rest : A → Outcome) (now : Outside)
+pub answers-input : {A : Type 0} (names : List (List ℕ)) (role : FileRole) (read : List ℕ → Result A InputFault) (name bytes : List ℕ) (fault : InputFault) (rest : A → Outcome) (now : Outside)
     → Given now.holds name (λ file. IsTextFile file bytes) → (fault ≢ inputs.Memory → read bytes ≡ Err fault)
-    → Answers (calls_for (λ files. with_input_file role read (get files name) rest)) (input_cause fault) now now
-answers-input {A = A} role read name bytes fault rest now given rules = by_fault fault rules
+    → Answers (calls_for names (λ files. with_input_file role read (get files name) rest)) (input_cause fault) now now
+answers-input {A = A} names role read name bytes fault rest now given rules = by_fault fault rules
   where
-    refused : (fault : InputFault) → fault ≢ inputs.Memory → read bytes ≡ Err fault → Answers (calls_for (λ files. with_input_file role read (get files name) rest)) (Input fault) now now
+    refused : (fault : InputFault) → fault ≢ inputs.Memory → read bytes ≡ Err fault → Answers (calls_for names (λ files. with_input_file role read (get files name) rest)) (Input fault) now now
     refused fault other fails = record {
       has_cause = other;
       quiet = refl;
@@ -60,15 +61,16 @@ answers-input {A = A} role read name bytes fault rest now given rules = by_fault
         refused = refl;
         kept = kept;
       }) given (told-kept now.holds now.holds refl);
+      once = takes_none names now.holds now.taken now.taken refl;
     }
 
-    by_fault : (fault : InputFault) → (fault ≢ inputs.Memory → read bytes ≡ Err fault) → Answers (calls_for (λ files. with_input_file role read (get files name) rest)) (input_cause fault) now now
+    by_fault : (fault : InputFault) → (fault ≢ inputs.Memory → read bytes ≡ Err fault) → Answers (calls_for names (λ files. with_input_file role read (get files name) rest)) (input_cause fault) now now
     by_fault inputs.NotToml rules = let other : inputs.NotToml ≢ inputs.Memory = λ e. absurd (cc e) in refused inputs.NotToml other (rules other)
     by_fault (inputs.Doc at) rules = let other : inputs.Doc at ≢ inputs.Memory = λ e. absurd (cc e) in refused (inputs.Doc at) other (rules other)
     by_fault (inputs.UnknownName place) rules = let other : inputs.UnknownName place ≢ inputs.Memory = λ e. absurd (cc e) in refused (inputs.UnknownName place) other (rules other)
     by_fault (inputs.Window place) rules = let other : inputs.Window place ≢ inputs.Memory = λ e. absurd (cc e) in refused (inputs.Window place) other (rules other)
     by_fault (inputs.Rate place) rules = let other : inputs.Rate place ≢ inputs.Memory = λ e. absurd (cc e) in refused (inputs.Rate place) other (rules other)
-    by_fault inputs.Memory rules = record { has_cause = tt; quiet = refl; told = told-kept now.holds now.holds refl }
+    by_fault inputs.Memory rules = record { has_cause = tt; quiet = refl; told = told-kept now.holds now.holds refl; once = takes_none names now.holds now.taken now.taken refl }
 
 -- such a fault ends a command as it looks at its files, and is no fault of the folder
 pub ends-input : (fault : InputFault) → EndsLooking (input_cause fault)

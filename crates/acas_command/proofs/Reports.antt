@@ -1,5 +1,5 @@
 -- Commands that are refused as they look at their files, or print a report.
-use Rattle.std.proofs.Common.{◌≡◌, ℕ, zero, suc, ⊎_elim, inl, Bool, true, false, cond, nat_lt, List, length, Option, None, Some, Result, Ok, Err, refl, sym, subst, ap, ◌∙◌, arith}
+use Rattle.std.proofs.Common.{◌≡◌, ℕ, zero, suc, ◌⊎◌, ⊎_elim, inl, Bool, true, false, cond, nat_lt, List, [], length, Option, None, Some, Result, Ok, Err, refl, sym, subst, ap, ◌∙◌, arith}
 use Rattle.std.specs.Prelude.{IfSome}
 use Rattle.sha2.specs.Sha256.{sha256}
 use Rattle.acas_units.specs.declared.limits.TheConstants.{TEXT_BYTES}
@@ -9,7 +9,9 @@ use Rattle.acas_model.specs.declared.fault.ModelFault.{ModelFault}
 use Rattle.acas_outside.specs.Bytes.{Appends}
 use Rattle.acas_outside.specs.Counts.{Rose}
 use Rattle.acas_outside.specs.Files.{Files}
+use Rattle.acas_outside.specs.Once.{TakesOnce}
 use Rattle.acas_outside.specs.Outside.{Outside}
+use Rattle.acas_outside.proofs.Once.{takes_none}
 use Rattle.acas_command.specs.Answers.{Answers, Completes, EndsLooking, Refuses}
 use Rattle.acas_command.specs.Called.{Called, IsRefusal, IsReportOutcome, MayPrint, MayStorePart, calls_for, calls_for_report}
 use Rattle.acas_command.specs.Calls.{with_model, with_reading, with_text}
@@ -49,30 +51,38 @@ no_file-model file rest none =
 -- ---- answers
 
 -- what ends another command as it looks at the same files ends this one
-pub refers-report : (files : Files) (outcome_of looks : Files → Outcome) (R : Files → ℕ → List ℕ → Type 0) (B : Files → Option (List ℕ) → Option (List ℕ) → Type 0)
-    → outcome_of files ≡ looks files → (looks files).file ≡ None → Refers files (calls_for outcome_of) (calls_for_report looks R B)
-refers-report files outcome_of looks R B same none = record {
-  refuses = λ outcome is refused. inl (record { is = is ∙ same; refused = λ prints. refused (subst (λ (o : Outcome). MayPrint o.cause) (sym (is ∙ same)) prints) });
-  stores = λ now stored. kept now (subst (λ (f : Option (List ℕ × List ℕ)). MayStorePart f files now) (ap (λ (o : Outcome). o.file) same ∙ none) stored);
+pub refers-report : (names : List (List ℕ)) (files : Files) (outcome : Outcome) (looks : Files → Outcome) (R : Files → ℕ → List ℕ → Type 0) (B : Files → Option (List ℕ) → Option (List ℕ) → Type 0)
+    → outcome ≡ looks files → (looks files).file ≡ None → Refers files outcome (calls_for_report names looks R B)
+refers-report names files outcome looks R B same none = record {
+  refuses = λ refused. inl (record { is = same; refused = λ prints. refused (subst (λ (o : Outcome). MayPrint o.cause) (sym same) prints) });
+  stored = λ now stored. kept now (subst (λ (f : Option (List ℕ × List ℕ)). MayStorePart f files now) (ap (λ (o : Outcome). o.file) same ∙ none) stored);
 }
   where
     kept : (now : Option Files) → MayStorePart None files now → now ≡ Some files
     kept now stored = ⊎_elim (λ same. same) (λ never. absurd never) stored
 
-pub answers-refer : (called called' : Called) (cause : Cause) (before after : Outside) → EndsLooking cause → IfSome before.holds (λ files. Refers files called called')
-    → Answers called cause before after → Answers called' cause before after
-answers-refer called called' cause before after looks refers answers =
-    answers-behind called called' cause before before after looks
-    (record { holds = refl; written = refl; misses = omega arith; taken = omega arith; faults = omega arith; output_faults = omega arith }) refers answers
+pub answers-refer : (outcome_of : Files → Outcome) (called : Called) (cause : Cause) (before after : Outside) → EndsLooking cause → IfSome before.holds (λ files. Refers files (outcome_of files) called)
+    → Answers (calls_for called.reads outcome_of) cause before after → Answers called cause before after
+answers-refer outcome_of called cause before after looks refers answers =
+    answers-behind [] called.reads outcome_of called cause before before after looks refl (record {
+      holds = refl;
+      written = refl;
+      misses = omega arith;
+      taken = omega arith;
+      faults = omega arith;
+      output_faults = omega arith;
+      once = takes_none [] before.holds before.taken before.taken refl;
+    }) refers answers
 
 -- a report whose output failed
-pub answers-begun : (looks : Files → Outcome) (R : Files → ℕ → List ℕ → Type 0) (B : Files → Option (List ℕ) → Option (List ℕ) → Type 0) (before after : Outside)
+pub answers-begun : (names : List (List ℕ)) (looks : Files → Outcome) (R : Files → ℕ → List ℕ → Type 0) (B : Files → Option (List ℕ) → Option (List ℕ) → Type 0) (before after : Outside)
     → IfSome before.holds (λ files. B files before.written after.written) → IfSome before.holds (λ files. after.holds ≡ Some files) → Rose before.output_faults after.output_faults
-    → Answers (calls_for_report looks R B) Output before after
-answers-begun looks R B before after begun stored rose = record {
+    → TakesOnce names before.holds before.taken after.taken → Answers (calls_for_report names looks R B) Output before after
+answers-begun names looks R B before after begun stored rose once = record {
   has_cause = rose;
   quiet = tt;
   told = told-both before.holds _ _ _ (λ files part kept. record { begun = part; kept = kept }) begun stored;
+  once = once;
 }
 
 -- ---- what an answer says of the report, and of the files
@@ -86,9 +96,9 @@ pub record IsPrinted (R : ℕ → List ℕ → Type 0) (files : Files) (cause : 
   pub kept : after.holds ≡ Some files
   pub ends : cause ≡ report_cause reported
 
-pub report-printed : (looks : Files → Outcome) (R : Files → ℕ → List ℕ → Type 0) (B : Files → Option (List ℕ) → Option (List ℕ) → Type 0) (files : Files) (cause : Cause) (before after : Outside)
-    → MayPrint cause → Completes (calls_for_report looks R B) files cause before after → IsPrinted (R files) files cause before after
-report-printed looks R B files cause before after prints a = ⊎_elim refused written a.may
+pub report-printed : {names : List (List ℕ)} (looks : Files → Outcome) (R : Files → ℕ → List ℕ → Type 0) (B : Files → Option (List ℕ) → Option (List ℕ) → Type 0) (files : Files) (cause : Cause) (before after : Outside)
+    → MayPrint cause → Completes (calls_for_report names looks R B) files cause before after → IsPrinted (R files) files cause before after
+report-printed {names = names} looks R B files cause before after prints a = ⊎_elim refused written a.may
   where
     refused : IsRefusal (looks files) a.outcome → IsPrinted (R files) files cause before after
     refused r = absurd (r.refused (subst (λ (o : Outcome). MayPrint o.cause) r.is (subst MayPrint (sym a.ends) prints)))
@@ -104,9 +114,9 @@ report-printed looks R B files cause before after prints a = ⊎_elim refused wr
     }
 
 -- the files refuse the command by the cause that it was refused by
-pub report-refused : (looks : Files → Outcome) (R : Files → ℕ → List ℕ → Type 0) (B : Files → Option (List ℕ) → Option (List ℕ) → Type 0) (files : Files) (cause : Cause) (after : Outside)
-    → ¬ MayPrint cause → Refuses (calls_for_report looks R B) files cause after → (looks files).cause ≡ cause
-report-refused looks R B files cause after never a = ⊎_elim refused written a.may
+pub report-refused : {names : List (List ℕ)} (looks : Files → Outcome) (R : Files → ℕ → List ℕ → Type 0) (B : Files → Option (List ℕ) → Option (List ℕ) → Type 0) (files : Files) (cause : Cause) (after : Outside)
+    → ¬ MayPrint cause → Refuses (calls_for_report names looks R B) files cause after → (looks files).cause ≡ cause
+report-refused {names = names} looks R B files cause after never a = ⊎_elim refused written a.may
   where
     refused : IsRefusal (looks files) a.outcome → (looks files).cause ≡ cause
     refused r = ap (λ (o : Outcome). o.cause) (sym r.is) ∙ a.refused
@@ -116,7 +126,7 @@ report-refused looks R B files cause after never a = ⊎_elim refused written a.
 
 -- files that do not refuse the command
 pub report-may_print : (looks : Files → Outcome) (R : Files → ℕ → List ℕ → Type 0) (B : Files → Option (List ℕ) → Option (List ℕ) → Type 0) (files : Files) (o : Outcome)
-    → MayPrint (looks files).cause → (calls_for_report looks R B).ends files o → MayPrint o.cause
+    → MayPrint (looks files).cause → IsRefusal (looks files) o ⊎ IsReportOutcome (R files) o → MayPrint o.cause
 report-may_print looks R B files o prints may = ⊎_elim refused written may
   where
     refused : IsRefusal (looks files) o → MayPrint o.cause

@@ -4,6 +4,7 @@ use Rattle.acas_units.specs.declared.limits.TheConstants.{TEXT_BYTES}
 use Rattle.acas_outside.specs.Bytes.{Appends}
 use Rattle.acas_outside.specs.Counts.{Rose, raised}
 use Rattle.acas_outside.specs.Files.{Files}
+use Rattle.acas_outside.specs.Once.{TakesOnce}
 use Rattle.acas_outside.specs.Outside.{Outside}
 use Rattle.acas_doc.specs.declared.input_fault.InputFault.TheVariants as inputs
 use Rattle.acas_model.specs.declared.fault.ModelFault.TheVariants as faults
@@ -86,11 +87,12 @@ Agrees called files Output before after = called.prints files before after
 Agrees called files (TooLong role) before after = Refuses called files (TooLong role) after
 Agrees called files Memory before after = after.holds ≡ Some files
 
--- a command's answer
+-- a command's answer; whatever it is, no more bytes were taken than the files that the command reads have together
 pub record Answers (called : Called) (cause : Cause) (before after : Outside) : Type 0 where
   pub has_cause : HasCause cause before after
   pub quiet : IsQuiet cause before after
   pub told : IfSome before.holds (λ files. Agrees called files cause before after)
+  pub once : TakesOnce called.reads before.holds before.taken after.taken
 
 -- a cause with which looking at a file ends a command, before anything is printed
 abbrev pub EndsLooking : Cause → Type 0

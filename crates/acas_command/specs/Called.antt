@@ -7,8 +7,10 @@ use Rattle.acas_command.specs.Outcome.{Outcome, reports, with_file}
 use Rattle.acas_command.specs.declared.status.Cause.{Cause}
 use Rattle.acas_command.specs.declared.status.Cause.TheVariants.{Done, Reported, Words, Absent, Model, Table, Input, Folder, Output, TooLong, Memory}
 
--- the outcomes that it may end with, and what it may leave behind where the output or the folder fails
+-- the files that it reads, the outcomes that it may end with, and what it may leave behind where the output or the folder fails
 pub record Called : Type 1 where
+  -- the names of these files; one that is read as two, as a model and as a table, is named twice
+  pub reads : List (List ℕ)
   pub ends : Files → Outcome → Type 0
   -- from one moment to another, where the output failed
   pub prints : Files → Outside → Outside → Type 0
@@ -39,9 +41,10 @@ pub record PrintsPart (outcome : Outcome) (files : Files) (before after : Outsid
 abbrev pub MayStorePart : Option (List ℕ × List ℕ) → Files → Option Files → Type 0
 MayStorePart file files now = (now ≡ Some files) ⊎ IsSomeAnd file (λ (name, bytes). StoresPart (Some files) now name bytes)
 
--- a command that has one outcome
-abbrev pub calls_for : (Files → Outcome) → Called
-calls_for outcome_of = record {
+-- a command that reads the files of these names and has one outcome
+abbrev pub calls_for : List (List ℕ) → (Files → Outcome) → Called
+calls_for names outcome_of = record {
+  reads = names;
   ends = λ files outcome. outcome ≡ outcome_of files;
   prints = λ files before after. PrintsPart (outcome_of files) files before after;
   stores = λ files now. MayStorePart (outcome_of files).file files now;
@@ -64,10 +67,15 @@ pub record BeginsReport (IsBegun : Option (List ℕ) → Option (List ℕ) → T
   pub begun : IsBegun before.written after.written
   pub kept : after.holds ≡ Some files
 
--- A command that is refused as it looks at its files, or prints a report on them. It stores nothing.
-abbrev pub calls_for_report : (Files → Outcome) → (Files → ℕ → List ℕ → Type 0) → (Files → Option (List ℕ) → Option (List ℕ) → Type 0) → Called
-calls_for_report looks IsReport IsBegun = record {
+-- A command that is refused as it looks at its files, which have these names, or prints a report on them. It stores nothing.
+abbrev pub calls_for_report : List (List ℕ) → (Files → Outcome) → (Files → ℕ → List ℕ → Type 0) → (Files → Option (List ℕ) → Option (List ℕ) → Type 0) → Called
+calls_for_report names looks IsReport IsBegun = record {
+  reads = names;
   ends = λ files outcome. IsRefusal (looks files) outcome ⊎ IsReportOutcome (IsReport files) outcome;
   prints = λ files before after. BeginsReport (IsBegun files) files before after;
   stores = λ files now. now ≡ Some files;
 }
+
+-- the same command where only the files of these names are still to be read
+abbrev pub reading : List (List ℕ) → Called → Called
+reading names called = record called { reads = names }

@@ -1,5 +1,5 @@
 -- What reading a model's file answers, to any command that goes on from there.
-use Rattle.std.specs.Prelude.{◌≡◌, ℕ, List, Option, Ok}
+use Rattle.std.specs.Prelude.{◌≡◌, ℕ, List, ◌∷◌, Option, Ok}
 use Rattle.std.specs.FinMap.{get}
 use Rattle.sha2.specs.Sha256.{sha256}
 use Rattle.acas_spec.specs.Model.{ModelData}
@@ -22,5 +22,5 @@ pub record IsModelFile (file : Option (List ℕ)) (digest : List ℕ) (model : M
 
 -- whatever goes on from the model's file, to other files or not, is answered so, and leaves the output as it was
 abbrev pub RefusesModel : List ℕ → Cause → (Option (List ℕ) → ℕ → Outside) → (Option (List ℕ) → ℕ → Outside) → Type 0
-RefusesModel name cause before after = (rest : Files → List ℕ → ModelData → Outcome) (written : Option (List ℕ)) (output_faults : ℕ) →
-    Answers (calls_for (λ files. with_model (get files name) (rest files))) cause (before written output_faults) (after written output_faults)
+RefusesModel name cause before after = (more : List (List ℕ)) (rest : Files → List ℕ → ModelData → Outcome) (written : Option (List ℕ)) (output_faults : ℕ) →
+    Answers (calls_for (name ∷ more) (λ files. with_model (get files name) (rest files))) cause (before written output_faults) (after written output_faults)

@@ -1,7 +1,9 @@
 //! The file of a model.
-ghost use Rattle.std.specs.Prelude.{◌≡◌, IsTrue, IfOk, IfErr, IsErrOf};
+ghost use Rattle.std.specs.Prelude.{◌≡◌, [], ◌∷◌, IsTrue, IfOk, IfErr, IsErrOf};
+ghost use Rattle.acas_spec.specs.Limits.{IsModel};
 ghost use Rattle.acas_outside.specs.Files.{Given};
 ghost use Rattle.acas_outside.specs.Frame.{OnlyReads};
+ghost use Rattle.acas_outside.specs.Once.{TakesOnce};
 ghost use Rattle.acas_command.specs.Answers.{EndsLooking};
 ghost use Rattle.acas_command.specs.ModelFile.{IsModelFile, RefusesModel};
 ghost use Rattle.acas_command.specs.Outside.{beside};
@@ -30,9 +32,11 @@ pub fn read_model_file<F: Folder>(
     requires { IsTrue (F.serves folder.old name.now) }
     ensures ok { IfOk result (λ found.
         Given (F.holds folder.old) name.now (λ file. IsModelFile file found.digest found.model)) }
+    ensures within { IfOk result (λ found. IsModel found.model) }
     ensures err { IfErr result (λ cause.
         RefusesModel name.now cause (beside F.Folder folder.old) (beside F.Folder folder.new)) }
     ensures refused { IfErr result EndsLooking }
+    ensures once { TakesOnce (name.now ∷ []) (F.holds folder.old) (F.taken folder.old) (F.taken folder.new) }
     ensures frame { OnlyReads F.Folder folder.old folder.new
         (IsErrOf result Cause.Folder) (IsErrOf result (Cause.Absent FileRole.Model)) }
 {

@@ -1,7 +1,8 @@
 //! The text files of a command.
-ghost use Rattle.std.specs.Prelude.{◌≡◌, IsTrue, IfOk, IfErr, IsErrOf};
+ghost use Rattle.std.specs.Prelude.{◌≡◌, [], ◌∷◌, IsTrue, IfOk, IfErr, IsErrOf};
 ghost use Rattle.acas_outside.specs.Files.{Given};
 ghost use Rattle.acas_outside.specs.Frame.{OnlyReads};
+ghost use Rattle.acas_outside.specs.Once.{TakesOnce};
 ghost use Rattle.acas_command.specs.Answers.{EndsLooking};
 ghost use Rattle.acas_command.specs.Outside.{beside};
 ghost use Rattle.acas_command.specs.TextFile.{IsTextFile, RefusesText};
@@ -25,6 +26,7 @@ pub fn read_text_file<F: Folder>(
     ensures err { IfErr result (λ cause.
         RefusesText role name.now cause (beside F.Folder folder.old) (beside F.Folder folder.new)) }
     ensures refused { IfErr result EndsLooking }
+    ensures once { TakesOnce (name.now ∷ []) (F.holds folder.old) (F.taken folder.old) (F.taken folder.new) }
     ensures frame { OnlyReads F.Folder folder.old folder.new
         (IsErrOf result Cause.Folder) (IsErrOf result (Cause.Absent role)) }
 {

@@ -45,7 +45,7 @@ pub record IsDrillBegun (number : ℕ) (old new : Option (List ℕ)) : Type 0 wh
 
 -- a drill prints that text, whatever the files
 abbrev pub CallsForDrill : ℕ → Called
-CallsForDrill number = calls_for_report (λ files. prints []) (λ files. IsDrillText number) (λ files. IsDrillBegun number)
+CallsForDrill number = calls_for_report [] (λ files. prints []) (λ files. IsDrillText number) (λ files. IsDrillBegun number)
 
 -- the causes with which a drill ends: its output is out or failed, or memory ran out
 abbrev pub EndsDrill : Cause → Type 0

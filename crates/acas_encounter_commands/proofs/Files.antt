@@ -1,11 +1,10 @@
 -- What a replay goes on with behind its files.
-use Rattle.std.proofs.Common.{◌≡◌, ℕ, List, [], None, refl, sym, ◌∙◌}
+use Rattle.std.proofs.Common.{◌≡◌, ℕ, List, [], ◌∷◌, None, refl, sym, ◌∙◌}
 use Rattle.std.specs.FinMap.{get}
 use Rattle.acas_spec.specs.Model.{ModelData}
 use Rattle.acas_base.specs.Advices.{AdvicesData}
 use Rattle.acas_outside.specs.Files.{Files}
 use Rattle.acas_replay.specs.Whole.{encounter_of}
-use Rattle.acas_command.specs.Called.{calls_for}
 use Rattle.acas_command.specs.ModelFile.{IsModelFile}
 use Rattle.acas_command.specs.Outcome.{Outcome, prints}
 use Rattle.acas_command.specs.declared.status.FileRole.TheVariants.{Encounter as EncounterFile}
@@ -38,6 +37,6 @@ replay-behind_table model table encounter digest m advices files is is_table =
 
 -- what refuses the command as it looks at its files is answered by it
 pub replay-refers : (model table encounter : List ℕ) (files : Files) (outcome_of : Files → Outcome) → outcome_of files ≡ replay_looks_at model table encounter files
-    → Refers files (calls_for outcome_of) (CallsForReplay model table encounter)
+    → Refers files (outcome_of files) (CallsForReplay model table encounter)
 replay-refers model table encounter files outcome_of same =
-    refers-report files outcome_of (replay_looks_at model table encounter) (IsReplayText model table encounter) (IsReplayBegun model table encounter) same (no_file-replay model table encounter files)
+    refers-report (model ∷ table ∷ encounter ∷ []) files (outcome_of files) (replay_looks_at model table encounter) (IsReplayText model table encounter) (IsReplayBegun model table encounter) same (no_file-replay model table encounter files)

@@ -1,5 +1,5 @@
 -- What `replay` calls for, by the files of the folder.
-use Rattle.std.specs.Prelude.{◌≡◌, ℕ, List, [], Option}
+use Rattle.std.specs.Prelude.{◌≡◌, ℕ, List, [], ◌∷◌, Option}
 use Rattle.std.specs.FinMap.{get}
 use Rattle.acas_spec.specs.Model.{ModelData}
 use Rattle.acas_base.specs.Advices.{AdvicesData}
@@ -50,4 +50,4 @@ pub record IsReplayBegun (model table encounter : List ℕ) (files : Files) (old
 -- a replay prints the replay of the encounter under the advices of the accepted table
 abbrev pub CallsForReplay : List ℕ → List ℕ → List ℕ → Called
 CallsForReplay model table encounter =
-    calls_for_report (replay_looks_at model table encounter) (IsReplayText model table encounter) (IsReplayBegun model table encounter)
+    calls_for_report (model ∷ table ∷ encounter ∷ []) (replay_looks_at model table encounter) (IsReplayText model table encounter) (IsReplayBegun model table encounter)

@@ -1,9 +1,10 @@
 //! The command `replay`.
-ghost use Rattle.std.specs.Prelude.{◌≤◌, ℕ, List, IsErrOf, IsTrue};
+ghost use Rattle.std.specs.Prelude.{◌≤◌, ℕ, List, [], ◌∷◌, IsErrOf, IsTrue};
 ghost use Rattle.acas_outside.specs.Files.{Given};
 ghost use Rattle.acas_outside.specs.Frame.{ReadsAndWrites};
 ghost use Rattle.acas_outside.specs.Outside.{outside};
 ghost use Rattle.acas_command.specs.Answers.{Answers, ended};
+ghost use Rattle.acas_command.specs.Called.{reading};
 ghost use Rattle.acas_command.specs.ModelFile.{IsModelFile};
 ghost use Rattle.acas_encounter_commands.specs.Calls.{CallsForReplay};
 
@@ -48,7 +49,7 @@ fn fly<M: LayerMeans, F: Folder, O: Sink>(
     requires table { IsTrue (F.serves folder.old table.now) }
     requires encounter { IsTrue (F.serves folder.old encounter.now) }
     ensures answers { (model : List ℕ) → Given (F.holds folder.old) model (λ file. IsModelFile file found.now.digest found.now.model)
-        → Answers (CallsForReplay model table.now encounter.now) (ended result)
+        → Answers (reading (table.now ∷ encounter.now ∷ []) (CallsForReplay model table.now encounter.now)) (ended result)
         (outside F.Folder O.Sink folder.old out.old) (outside F.Folder O.Sink folder.new out.new) }
     ensures folder { ReadsAndWrites F.Folder folder.old folder.new (IsErrOf result Cause.Folder) }
     ensures output { O.faults out.old ≤ O.faults out.new }

@@ -1,5 +1,5 @@
 -- What `risk` calls for, by the files of the folder.
-use Rattle.std.specs.Prelude.{ℕ, List, Option}
+use Rattle.std.specs.Prelude.{ℕ, List, [], ◌∷◌, Option}
 use Rattle.std.specs.FinMap.{get}
 use Rattle.acas_accept.specs.GivenTable.{given_table}
 use Rattle.acas_command.specs.Called.{Called, calls_for}
@@ -16,4 +16,4 @@ risk_of file table =
 
 -- the same, by the names of the files
 abbrev pub CallsForRisk : List ℕ → List ℕ → Called
-CallsForRisk model table = calls_for (λ files. risk_of (get files model) (get files table))
+CallsForRisk model table = calls_for (model ∷ table ∷ []) (λ files. risk_of (get files model) (get files table))

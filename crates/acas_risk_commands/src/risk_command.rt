@@ -1,10 +1,11 @@
 //! The command `risk`.
-ghost use Rattle.std.specs.Prelude.{◌≡◌, ◌≤◌, ℕ, List, IsErrOf, IsSomeAnd, IsTrue};
+ghost use Rattle.std.specs.Prelude.{◌≡◌, ◌≤◌, ℕ, List, [], ◌∷◌, IsErrOf, IsSomeAnd, IsTrue};
 ghost use Rattle.acas_outside.specs.Bytes.{IsBytes};
 ghost use Rattle.acas_outside.specs.Files.{Given};
 ghost use Rattle.acas_outside.specs.Frame.{ReadsAndWrites};
 ghost use Rattle.acas_outside.specs.Outside.{outside};
 ghost use Rattle.acas_command.specs.Answers.{Answers, ended};
+ghost use Rattle.acas_command.specs.Called.{reading};
 ghost use Rattle.acas_command.specs.ModelFile.{IsModelFile};
 ghost use Rattle.acas_risk_commands.specs.Calls.{CallsForRisk};
 
@@ -48,7 +49,7 @@ fn print_risk<M: LayerMeans, F: Folder, O: Sink>(
 ) -> Result<(), Cause>
     requires table { IsTrue (F.serves folder.old table.now) }
     ensures answers { (model : List ℕ) → Given (F.holds folder.old) model (λ file. IsModelFile file found.now.digest found.now.model)
-        → Answers (CallsForRisk model table.now) (ended result)
+        → Answers (reading (table.now ∷ []) (CallsForRisk model table.now)) (ended result)
         (outside F.Folder O.Sink folder.old out.old) (outside F.Folder O.Sink folder.new out.new) }
     ensures bytes { ended result ≡ Cause.Done →
         Given (F.holds folder.old) table.now (λ file. IsSomeAnd file IsBytes) }

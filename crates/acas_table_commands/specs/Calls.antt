@@ -1,5 +1,5 @@
 -- What each command on tables calls for, by the files of the folder.
-use Rattle.std.specs.Prelude.{ℕ, List, Option}
+use Rattle.std.specs.Prelude.{ℕ, List, [], ◌∷◌, Option}
 use Rattle.std.specs.FinMap.{get}
 use Rattle.acas_command.specs.Called.{Called, calls_for}
 use Rattle.acas_command.specs.Calls.{with_model}
@@ -18,7 +18,7 @@ compile_of file name = with_model file (λ digest model. stores name (compiled_t
 
 -- the same, by the names of the files
 abbrev pub CallsForValues : List ℕ → Called
-CallsForValues model = calls_for (λ files. values_of (get files model))
+CallsForValues model = calls_for (model ∷ []) (λ files. values_of (get files model))
 
 abbrev pub CallsForCompile : List ℕ → List ℕ → Called
-CallsForCompile model table = calls_for (λ files. compile_of (get files model) table)
+CallsForCompile model table = calls_for (model ∷ []) (λ files. compile_of (get files model) table)

@@ -1,5 +1,5 @@
 -- What reading a table's file answers, to any command that goes on from there.
-use Rattle.std.specs.Prelude.{◌≡◌, ℕ, List, Option, None, Some}
+use Rattle.std.specs.Prelude.{◌≡◌, ℕ, List, ◌∷◌, Option, None, Some}
 use Rattle.std.specs.FinMap.{get}
 use Rattle.acas_spec.specs.Model.{ModelData}
 use Rattle.acas_base.specs.Advices.{AdvicesData, AreAdvices, AreAdvicesOf}
@@ -42,5 +42,5 @@ pub record IsTableOf (model table : List ℕ) (files : Files) (m : ModelData) (a
 
 -- whatever goes on from the table's file, to other files or not, is answered so, and leaves the output as it was
 abbrev pub RefusesTable : ModelData → List ℕ → List ℕ → Cause → (Option (List ℕ) → ℕ → Outside) → (Option (List ℕ) → ℕ → Outside) → Type 0
-RefusesTable model digest name cause before after = (rest : Files → List ℕ → Outcome) (written : Option (List ℕ)) (output_faults : ℕ) →
-    Answers (calls_for (λ files. with_table model digest (get files name) (rest files))) cause (before written output_faults) (after written output_faults)
+RefusesTable model digest name cause before after = (more : List (List ℕ)) (rest : Files → List ℕ → Outcome) (written : Option (List ℕ)) (output_faults : ℕ) →
+    Answers (calls_for (name ∷ more) (λ files. with_table model digest (get files name) (rest files))) cause (before written output_faults) (after written output_faults)

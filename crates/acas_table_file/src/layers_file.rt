@@ -1,7 +1,8 @@
 //! The file of a table of which all layers are read.
-ghost use Rattle.std.specs.Prelude.{◌≡◌, IsTrue, IfOk, IfErr, IsErrOf};
+ghost use Rattle.std.specs.Prelude.{◌≡◌, [], ◌∷◌, IsTrue, IfOk, IfErr, IsErrOf};
 ghost use Rattle.acas_outside.specs.Files.{Given};
 ghost use Rattle.acas_outside.specs.Frame.{OnlyReads};
+ghost use Rattle.acas_outside.specs.Once.{TakesOnce};
 ghost use Rattle.acas_accept.specs.Answers.{AreWhole};
 ghost use Rattle.acas_command.specs.Answers.{EndsLooking};
 ghost use Rattle.acas_table_file.specs.AcceptedFile.{IsLayersFile, RefusesTable};
@@ -29,6 +30,7 @@ pub fn read_table_layers<M: LayerMeans, F: Folder>(
     ensures err { IfErr result (λ cause. RefusesTable found.now.model found.now.digest name.now cause
         (beside F.Folder folder.old) (beside F.Folder folder.new)) }
     ensures refused { IfErr result EndsLooking }
+    ensures once { TakesOnce (name.now ∷ []) (F.holds folder.old) (F.taken folder.old) (F.taken folder.new) }
     ensures frame { OnlyReads F.Folder folder.old folder.new
         (IsErrOf result Cause.Folder) (IsErrOf result (Cause.Absent FileRole.Table)) }
 {

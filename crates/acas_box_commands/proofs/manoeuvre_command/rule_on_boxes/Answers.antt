@@ -1,10 +1,10 @@
-use Rattle.std.proofs.Common.{ℕ, List, refl, Option, inr, subst, sym, arith, []}
+use Rattle.std.proofs.Common.{ℕ, List, refl, Option, inr, subst, sym, arith, [], ◌∷◌}
 use Rattle.std.proofs.lemmas.Grind.{common_steps}
 use Rattle.std.specs.FinMap.{get}
 use Rattle.std.proofs.lemmas.Result.{err_from_is_err_and}
 use Rattle.acas_outside.specs.Files.{Files, Given}
 use Rattle.acas_outside.specs.Outside.{Outside, outside}
-use Rattle.acas_command.specs.Called.{calls_for}
+use Rattle.acas_command.specs.Called.{reading}
 use Rattle.acas_command.specs.Outcome.{prints, report_cause, reports}
 use Rattle.acas_command.proofs.Behind.{answers-behind, answers-printed, told-both, told-kept, told-map}
 use Rattle.acas_command.proofs.Reports.{answers-refer, may_print-report_cause}
@@ -29,11 +29,11 @@ returns-in_err-text-clause-answers g c model told =
     let after : Outside = outside g.F.Folder g.O.Sink c.read_text_file.new.folder c.args.out.now in
     let p = err_from_is_err_and c.from_residual.result c.from_residual.ensures.1 in
     rw (p.1, p.2)
-    (answers-refer (calls_for (λ files. with_input_file BoxesFile (fitting_boxes_of m may) (get files boxes) (λ said. prints []))) (CallsForManoeuvre model boxes may) c.in_err-text.field-0.0 before after c.in_err-text.ensures.refused
+    (answers-refer (λ files. with_input_file BoxesFile (fitting_boxes_of m may) (get files boxes) (λ said. prints [])) (reading (boxes ∷ []) (CallsForManoeuvre model boxes may)) c.in_err-text.field-0.0 before after c.in_err-text.ensures.refused
     (told-map before.holds _ _
     (λ files is. manoeuvre-refers model boxes may files (λ fs. with_input_file BoxesFile (fitting_boxes_of m may) (get fs boxes) (λ said. prints [])) (manoeuvre-behind_model model boxes may digest m files is))
     told)
-    (c.in_err-text.ensures.err (λ files bytes. with_input (fitting_boxes_of m may bytes) (λ said. prints [])) _ _))
+    (c.in_err-text.ensures.err [] (λ files bytes. with_input (fitting_boxes_of m may bytes) (λ said. prints [])) _ _))
 
 pub returns-in_err-said-clause-answers : goal.returns-in_err-said-clause-answers
 returns-in_err-said-clause-answers g c model told =
@@ -51,13 +51,13 @@ returns-in_err-said-clause-answers g c model told =
     subst (λ (h : Option Files). Given h boxes (λ file. IsTextFile file bytes)) (sym frame.holds)
     (subst (λ (b : List ℕ). Given before.holds boxes (λ file. IsTextFile file b)) (sym c.deref.ensures.value) c.in_ok-text.ensures.ok) in
     rw (p.1, p.2)
-    (answers-behind (calls_for (λ files. with_input_file BoxesFile (fitting_boxes_of m may) (get files boxes) (λ said. prints []))) (CallsForManoeuvre model boxes may) (input_cause fault) before after after
-    (ends-input fault)
-    (record { holds = frame.holds; written = refl; misses = frame.misses; taken = frame.taken; faults = frame.faults; output_faults = omega arith })
+    (answers-behind (boxes ∷ []) [] (λ files. with_input_file BoxesFile (fitting_boxes_of m may) (get files boxes) (λ said. prints [])) (reading (boxes ∷ []) (CallsForManoeuvre model boxes may)) (input_cause fault) before after after
+    (ends-input fault) refl
+    (record { holds = frame.holds; written = refl; misses = frame.misses; taken = frame.taken; faults = frame.faults; output_faults = omega arith; once = c.read_text_file.ensures.once })
     (told-map before.holds _ _
     (λ files is. manoeuvre-refers model boxes may files (λ fs. with_input_file BoxesFile (fitting_boxes_of m may) (get fs boxes) (λ said. prints [])) (manoeuvre-behind_model model boxes may digest m files is))
     told)
-    (answers-input BoxesFile (fitting_boxes_of m may) boxes bytes fault (λ said. prints []) after given c.in_err-said.ensures.value))
+    (answers-input [] BoxesFile (fitting_boxes_of m may) boxes bytes fault (λ said. prints []) after given c.in_err-said.ensures.value))
 
 pub returns-in-Ok-clause-answers : goal.returns-in-Ok-clause-answers
 returns-in-Ok-clause-answers g c model told =
@@ -75,7 +75,7 @@ returns-in-Ok-clause-answers g c model told =
     subst (λ (b : List ℕ). Given before.holds boxes (λ file. IsTextFile file b)) (sym c.deref.ensures.value) c.in_ok-text.ensures.ok in
     let read : Given before.holds boxes (λ file. IsInputFile (fitting_boxes_of m may) file said) =
     told-map before.holds _ _ (λ files text. record { bytes = bytes; text = text; is_read = c.in_ok-said.ensures.value }) given in
-    answers-printed (CallsForManoeuvre model boxes may) (report_cause counts.reported) (reports counts.reported r.0) before after (may_print-report_cause counts.reported)
+    answers-printed (reading (boxes ∷ []) (CallsForManoeuvre model boxes may)) (report_cause counts.reported) (reports counts.reported r.0) before after (may_print-report_cause counts.reported)
     (told-both before.holds _ _ _ (λ files is_model is_boxes. inr (record {
       reported = counts.reported;
       text = r.0;
@@ -89,7 +89,7 @@ returns-in-Ok-clause-answers g c model told =
       };
       is = refl;
     })) told read) refl
-    (told-kept before.holds after.holds c.read_text_file.ensures.frame.holds) r.2
+    (told-kept before.holds after.holds c.read_text_file.ensures.frame.holds) r.2 c.read_text_file.ensures.once
 
 pub write_meetings-requires-clause-rates : goal.write_meetings-requires-clause-rates
 write_meetings-requires-clause-rates g c = c.in_ok-said.ensures.rates.each

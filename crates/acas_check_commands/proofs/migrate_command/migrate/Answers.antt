@@ -1,4 +1,4 @@
-use Rattle.std.proofs.Common.{Option, refl, subst, sym, arith}
+use Rattle.std.proofs.Common.{[], ◌∷◌, Option, refl, subst, sym, arith}
 use Rattle.std.proofs.lemmas.Result.{err_from_is_err_and}
 use Rattle.std.specs.FinMap.{get}
 use Rattle.acas_outside.specs.Files.{Files, Given}
@@ -13,7 +13,7 @@ use Rattle.acas_check_commands.proofs.migrate_command.migrate.Goals as goal
 pub returns-in_err-found-clause-answers : goal.returns-in_err-found-clause-answers
 returns-in_err-found-clause-answers g c =
     let p = err_from_is_err_and c.from_residual.result c.from_residual.ensures.1 in
-    rw (p.1, p.2) (c.in_err-found.ensures.err (λ files digest m. rest_of_migrate (get files c.args.table.now) c.args.target.now digest m) _ _)
+    rw (p.1, p.2) (c.in_err-found.ensures.err (c.args.table.now ∷ []) (λ files digest m. rest_of_migrate (get files c.args.table.now) c.args.target.now digest m) _ _)
 
 pub returns-clause-answers : goal.returns-clause-answers
 returns-clause-answers g c =
@@ -27,6 +27,6 @@ returns-clause-answers g c =
     let frame = c.read_model_file.ensures.frame in
     let given : Given mid.holds model (λ file. IsModelFile file found.digest found.model) =
     subst (λ (h : Option Files). Given h model (λ file. IsModelFile file found.digest found.model)) (sym frame.holds) c.in_ok-found.ensures.ok in
-    answers-from-one (λ files. migrate_of (get files model) (get files table) target) (ended c.store_accepted.result) before mid after
-    (record { holds = frame.holds; written = refl; misses = frame.misses; taken = frame.taken; faults = frame.faults; output_faults = omega arith })
+    answers-from-one (model ∷ []) (table ∷ []) (λ files. migrate_of (get files model) (get files table) target) (ended c.store_accepted.result) before mid after
+    (record { holds = frame.holds; written = refl; misses = frame.misses; taken = frame.taken; faults = frame.faults; output_faults = omega arith; once = c.read_model_file.ensures.once })
     (c.store_accepted.ensures.answers model given)

@@ -1,4 +1,4 @@
-use Rattle.std.proofs.Common.{List, ℕ, Option, Ok, Err, IsErrOf, IsSomeAnd, inl, inr, ◌≡◌, ◌⊎◌, ◌∙◌, refl, sym, subst, le_refl, arith}
+use Rattle.std.proofs.Common.{List, [], ◌∷◌, ℕ, Option, Ok, Err, IsErrOf, IsSomeAnd, inl, inr, ◌≡◌, ◌⊎◌, ◌∙◌, refl, sym, subst, le_refl, arith}
 use Rattle.std.proofs.lemmas.Result.{err_from_is_err_and}
 use Rattle.std.specs.FinMap.{get}
 use Rattle.acas_spec.specs.Model.{ModelData}
@@ -6,12 +6,13 @@ use Rattle.acas_base.specs.Layers.{LayersData}
 use Rattle.acas_outside.specs.Bytes.{IsBytes}
 use Rattle.acas_outside.specs.Files.{Files, Given, Stores, StoresPart}
 use Rattle.acas_outside.specs.Frame.{OnlyReads, OnlyWrites, ReadsAndWrites}
+use Rattle.acas_outside.specs.Once.{TakesOnce}
 use Rattle.acas_outside.specs.Outside.{Outside, outside}
 use Rattle.acas_outside.specs.declared.folder.Folder.{Ghosts as FolderMeanings}
 use Rattle.acas_table_file.specs.AcceptedFile.{IsLayersFile}
 use Rattle.acas_table_file.specs.Calls.{with_table}
 use Rattle.acas_command.specs.Answers.{EndsLooking}
-use Rattle.acas_command.specs.Called.{calls_for}
+use Rattle.acas_command.specs.Called.{reading}
 use Rattle.acas_command.specs.Outcome.{stores}
 use Rattle.acas_command.specs.declared.status.Cause.{Cause}
 use Rattle.acas_command.specs.declared.status.Cause.TheVariants.{Done, Folder, Output, Memory}
@@ -63,9 +64,9 @@ returns-in_err-layers g c =
     let p = err_from_is_err_and c.from_residual.result c.from_residual.ensures.1 in
     rw (p.1, p.2) (record {
       answers = λ model told.
-          (answers-refer (calls_for (λ files. with_table m digest (get files table) (rest_of_table target digest m))) (CallsForMigrate model table target) c.in_err-layers.field-0.0 before (outside g.F.Folder g.O.Sink c.read_table_layers.new.folder c.args.out.now) c.in_err-layers.ensures.refused
-          (to-model before.holds model digest m (λ files d n. rest_of_migrate (get files table) target d n) told)
-          (c.in_err-layers.ensures.err (λ files. rest_of_table target digest m) _ _));
+          (answers-refer (λ files. with_table m digest (get files table) (rest_of_table target digest m)) (reading (table ∷ []) (CallsForMigrate model table target)) c.in_err-layers.field-0.0 before (outside g.F.Folder g.O.Sink c.read_table_layers.new.folder c.args.out.now) c.in_err-layers.ensures.refused
+          (to-model (table ∷ []) before.holds model digest m (λ files d n. rest_of_migrate (get files table) target d n) told)
+          (c.in_err-layers.ensures.err [] (λ files. rest_of_table target digest m) _ _));
       bytes = looking c.in_err-layers.field-0.0 c.in_err-layers.ensures.refused;
       folder = read g.F.Folder _ _ _ _ _ (same c.in_err-layers.field-0.0) c.in_err-layers.ensures.frame;
       output = le_refl _;
@@ -76,7 +77,7 @@ returns-in_err-writer g c =
     let p = err_from_is_err_and c.from_residual-in_err-writer.result c.from_residual-in_err-writer.ensures.1 in
     rw (p.1, p.2) (record {
       answers = λ model told.
-          (record { has_cause = tt; quiet = refl {a = g.O.Sink.written c.args.out.now}; told = told-kept (g.F.Folder.holds c.args.folder.now) (g.F.Folder.holds c.read_table_layers.new.folder) c.read_table_layers.ensures.frame.holds });
+          (record { has_cause = tt; quiet = refl {a = g.O.Sink.written c.args.out.now}; told = told-kept (g.F.Folder.holds c.args.folder.now) (g.F.Folder.holds c.read_table_layers.new.folder) c.read_table_layers.ensures.frame.holds; once = c.read_table_layers.ensures.once });
       bytes = looking Memory tt;
       folder = read g.F.Folder _ _ _ _ _ no_folder.0 c.read_table_layers.ensures.frame;
       output = le_refl _;
@@ -93,9 +94,10 @@ returns-in-Err g c =
     let before : Outside = outside g.F.Folder g.O.Sink c.args.folder.now c.args.out.now in
     let after : Outside = outside g.F.Folder g.O.Sink c.store_layers.new.folder c.args.out.now in record {
       answers = λ model told.
-          answers-folder (λ files. migrate_of (get files model) (get files table) target) (stores target text (migrated_line m.grid)) before after
+          answers-folder (table ∷ []) (λ files. migrate_of (get files model) (get files table) target) (stores target text (migrated_line m.grid)) before after
           (called-migrate before.holds _ model table target digest m layers refl told c.in_ok-layers.ensures.ok)
-          (told-part before.holds after.holds target text (subst (λ (h : Option Files). (after.holds ≡ h) ⊎ StoresPart h after.holds target text) c.read_table_layers.ensures.frame.holds c.in-Err.ensures.err)) refl (omega (arith, c.read_table_layers.ensures.frame.faults, c.in-Err.ensures.frame.fault refl));
+          (told-part before.holds after.holds target text (subst (λ (h : Option Files). (after.holds ≡ h) ⊎ StoresPart h after.holds target text) c.read_table_layers.ensures.frame.holds c.in-Err.ensures.err)) refl (omega (arith, c.read_table_layers.ensures.frame.faults, c.in-Err.ensures.frame.fault refl))
+          (subst (λ (n : ℕ). TakesOnce (table ∷ []) before.holds before.taken n) (sym c.in-Err.ensures.frame.taken) c.read_table_layers.ensures.once);
       bytes = looking Folder tt;
       folder = both g.F.Folder _ _ _ _ _ _ _ (λ is. refl) c.read_table_layers.ensures.frame c.in-Err.ensures.frame;
       output = le_refl _;
@@ -112,9 +114,10 @@ returns-in-Ok-print_stored_line g c =
     let before : Outside = outside g.F.Folder g.O.Sink c.args.folder.now c.args.out.now in
     let after : Outside = outside g.F.Folder g.O.Sink c.store_layers.new.folder c.print_stored_line.new.out in record {
       answers = λ model told.
-          answers-done (λ files. migrate_of (get files model) (get files table) target) (stores target text (migrated_line m.grid)) before after
+          answers-done (table ∷ []) (λ files. migrate_of (get files model) (get files table) target) (stores target text (migrated_line m.grid)) before after
           (called-migrate before.holds _ model table target digest m layers refl told c.in_ok-layers.ensures.ok) refl
-          (told-stored before.holds after.holds target text (subst (λ (h : Option Files). Stores h after.holds target text) c.read_table_layers.ensures.frame.holds c.in-Ok.ensures.ok)) (rw c.grid.ensures.value at c.in-Ok-print_stored_line.ensures.ok);
+          (told-stored before.holds after.holds target text (subst (λ (h : Option Files). Stores h after.holds target text) c.read_table_layers.ensures.frame.holds c.in-Ok.ensures.ok)) (rw c.grid.ensures.value at c.in-Ok-print_stored_line.ensures.ok)
+          (subst (λ (n : ℕ). TakesOnce (table ∷ []) before.holds before.taken n) (sym c.in-Ok.ensures.frame.taken) c.read_table_layers.ensures.once);
       bytes = λ is. of_bytes _ _ _ _ _ c.in_ok-layers.ensures.ok;
       folder = both g.F.Folder _ _ _ _ _ _ _ no_folder.1 c.read_table_layers.ensures.frame c.in-Ok.ensures.frame;
       output = c.print_stored_line.ensures.frame.faults;
@@ -131,9 +134,10 @@ returns g c =
     let before : Outside = outside g.F.Folder g.O.Sink c.args.folder.now c.args.out.now in
     let after : Outside = outside g.F.Folder g.O.Sink c.store_layers.new.folder c.print_stored_line.new.out in record {
       answers = λ model told.
-          answers-output (λ files. migrate_of (get files model) (get files table) target) (stores target text (migrated_line m.grid)) before after
+          answers-output (table ∷ []) (λ files. migrate_of (get files model) (get files table) target) (stores target text (migrated_line m.grid)) before after
           (called-migrate before.holds _ model table target digest m layers refl told c.in_ok-layers.ensures.ok) tt
-          (told-stored before.holds after.holds target text (subst (λ (h : Option Files). Stores h after.holds target text) c.read_table_layers.ensures.frame.holds c.in-Ok.ensures.ok)) (rw c.grid.ensures.value at c.in-Err-print_stored_line.ensures.err) (c.in-Err-print_stored_line.ensures.frame.fault refl);
+          (told-stored before.holds after.holds target text (subst (λ (h : Option Files). Stores h after.holds target text) c.read_table_layers.ensures.frame.holds c.in-Ok.ensures.ok)) (rw c.grid.ensures.value at c.in-Err-print_stored_line.ensures.err) (c.in-Err-print_stored_line.ensures.frame.fault refl)
+          (subst (λ (n : ℕ). TakesOnce (table ∷ []) before.holds before.taken n) (sym c.in-Ok.ensures.frame.taken) c.read_table_layers.ensures.once);
       bytes = λ is. of_bytes _ _ _ _ _ c.in_ok-layers.ensures.ok;
       folder = both g.F.Folder _ _ _ _ _ _ _ no_folder.2 c.read_table_layers.ensures.frame c.in-Ok.ensures.frame;
       output = c.print_stored_line.ensures.frame.faults;

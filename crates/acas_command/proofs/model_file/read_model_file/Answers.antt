@@ -9,7 +9,7 @@ use Rattle.acas_command.proofs.model_file.read_model_file.Goals as goal
 pub returns-in_err-bytes-clause-err : goal.returns-in_err-bytes-clause-err
 returns-in_err-bytes-clause-err g c =
     let p = err_from_is_err_and c.from_residual.result c.from_residual.ensures.1 in
-    rw (p.1, p.2) (λ rest written output_faults. c.in_err-bytes.ensures.err (λ files bytes. with_reading (model_of bytes) (rest files (sha256 bytes))) written output_faults)
+    rw (p.1, p.2) (λ more rest written output_faults. c.in_err-bytes.ensures.err more (λ files bytes. with_reading (model_of bytes) (rest files (sha256 bytes))) written output_faults)
 
 pub returns-in-Ok : goal.returns-in-Ok
 returns-in-Ok g c = grind (arith, common_steps)

@@ -1,6 +1,7 @@
-use Rattle.std.proofs.Common.{refl, inr, rules}
+use Rattle.std.proofs.Common.{[], refl, inr, rules}
 use Rattle.acas_outside.specs.Bytes.{Appends}
 use Rattle.acas_outside.specs.Outside.{Outside}
+use Rattle.acas_outside.proofs.Once.{takes_none}
 use Rattle.acas_command.specs.Outcome.{report_cause, reports}
 use Rattle.acas_command.proofs.Behind.{answers-printed, told-kept}
 use Rattle.acas_command.proofs.Reports.{may_print-report_cause, told-all}
@@ -16,4 +17,4 @@ returns-in-Ok-clause-answers g c folder =
     let printed : Appends before.written after.written text = search rules in
     answers-printed (CallsForDrill c.args.number) (report_cause reported) (reports reported text) before after (may_print-report_cause reported)
     (told-all before.holds _ (λ files. inr (record { reported = reported; text = text; report = c.in_ok-reported.ensures; is = refl })))
-    refl (told-kept before.holds after.holds refl) printed
+    refl (told-kept before.holds after.holds refl) printed (takes_none [] before.holds before.taken after.taken refl)
