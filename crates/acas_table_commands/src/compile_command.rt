@@ -1,14 +1,15 @@
 //! The command `compile`.
-ghost use Rattle.std.specs.Prelude.{◌≡◌, ◌≤◌, ◌^◌, ◌+◌, ℕ, List, IsErrOf, IsTrue};
+ghost use Rattle.std.specs.Prelude.{◌≡◌, ◌≤◌, ◌^◌, ◌+◌, ℕ, List, [], IsErrOf, IsTrue};
 ghost use Rattle.acas_spec.specs.Model.{entries};
 ghost use Rattle.acas_outside.specs.Files.{Given};
 ghost use Rattle.acas_outside.specs.Frame.{ReadsAndWrites};
 ghost use Rattle.acas_outside.specs.Outside.{outside};
 ghost use Rattle.acas_sweep.specs.Layers.{backup_count};
 ghost use Rattle.acas_command.specs.Answers.{Answers, ended};
+ghost use Rattle.acas_command.specs.Called.{reading};
 ghost use Rattle.acas_command.specs.ModelFile.{IsModelFile};
 ghost use Rattle.acas_table_commands.specs.Calls.{CallsForCompile};
-ghost use Rattle.acas_table_commands.specs.Work.{CountsSweep};
+ghost use Rattle.acas_table_commands.specs.Work.{CountsSweep, EndsUnswept};
 
 use acas_command::{Cause, ModelFile, read_model_file};
 use acas_means::LayerMeans;
@@ -41,9 +42,9 @@ pub fn compile<M: LayerMeans, F: Folder, O: Sink>(
     ensures output { O.faults out.old ≤ O.faults out.new }
     ensures rising { backups.old ≤ backups.new }
     ensures rising_turned { turned.old ≤ turned.new }
-    // Over a folder that tells its files, a done run has counted exactly one sweep of the model.
-    ensures work { CountsSweep model.now (F.holds folder.old) (ended result) backups.old backups.new
-        turned.old turned.new }
+    // A done run has counted exactly one sweep, and one that ended before its sweep nothing.
+    ensures work { CountsSweep EndsUnswept model.now (F.holds folder.old) (ended result)
+        backups.old backups.new turned.old turned.new }
 {
     let found = read_model_file(alloc, model, folder)?;
     store_compiled::<M, F, O>(&found, table, alloc, folder, out, backups, turned)
@@ -63,7 +64,7 @@ fn store_compiled<M: LayerMeans, F: Folder, O: Sink>(
     requires table { IsTrue (F.serves folder.old table.now) }
     requires turned { turned.old ≤ 2 ^ 63 }
     ensures answers { (model : List ℕ) → Given (F.holds folder.old) model (λ file. IsModelFile file found.now.digest found.now.model)
-        → Answers (CallsForCompile model table.now) (ended result)
+        → Answers (reading [] (CallsForCompile model table.now)) (ended result)
         (outside F.Folder O.Sink folder.old out.old) (outside F.Folder O.Sink folder.new out.new) }
     ensures folder { ReadsAndWrites F.Folder folder.old folder.new (IsErrOf result Cause.Folder) }
     ensures output { O.faults out.old ≤ O.faults out.new }
@@ -71,6 +72,8 @@ fn store_compiled<M: LayerMeans, F: Folder, O: Sink>(
     ensures rising_turned { turned.old ≤ turned.new }
     ensures counted { ended result ≡ Cause.Done → backups.new ≡ backups.old + backup_count found.now.model }
     ensures turns { ended result ≡ Cause.Done → turned.new ≡ turned.old + entries found.now.model.grid }
+    ensures no_backups { EndsUnswept (ended result) → backups.new ≡ backups.old }
+    ensures no_turns { EndsUnswept (ended result) → turned.new ≡ turned.old }
 {
     let mut sweep = Sweep::<M>::make(alloc, &found.model)?;
     let writer = TableWriter::new(alloc, &found.model, &found.digest)?;

@@ -1,11 +1,12 @@
 //! The command `values`.
-ghost use Rattle.std.specs.Prelude.{◌≡◌, ◌≢◌, ◌≤◌, ◌^◌, ◌+◌, ℕ, List, IsErrOf, IsTrue};
+ghost use Rattle.std.specs.Prelude.{◌≡◌, ◌≢◌, ◌≤◌, ◌^◌, ◌+◌, ℕ, List, [], IsErrOf, IsTrue};
 ghost use Rattle.acas_spec.specs.Model.{entries};
 ghost use Rattle.acas_outside.specs.Files.{Given};
 ghost use Rattle.acas_outside.specs.Frame.{ReadsAndWrites};
 ghost use Rattle.acas_outside.specs.Outside.{Outside, outside};
 ghost use Rattle.acas_sweep.specs.Layers.{backup_count};
-ghost use Rattle.acas_command.specs.Answers.{Answers, ended};
+ghost use Rattle.acas_command.specs.Answers.{Answers, EndsLooking, ended};
+ghost use Rattle.acas_command.specs.Called.{reading};
 ghost use Rattle.acas_command.specs.ModelFile.{IsModelFile};
 ghost use Rattle.acas_table_commands.specs.Calls.{CallsForValues};
 ghost use Rattle.acas_table_commands.specs.Work.{CountsSweep};
@@ -37,9 +38,9 @@ pub fn values<M: LayerMeans, F: Folder, O: Sink>(
     ensures output { O.faults out.old ≤ O.faults out.new }
     ensures rising { backups.old ≤ backups.new }
     ensures rising_turned { turned.old ≤ turned.new }
-    // Over a folder that tells its files, a done run has counted exactly one sweep of the model.
-    ensures work { CountsSweep model.now (F.holds folder.old) (ended result) backups.old backups.new
-        turned.old turned.new }
+    // A done run has counted exactly one sweep, and one that ended before its sweep nothing.
+    ensures work { CountsSweep EndsLooking model.now (F.holds folder.old) (ended result)
+        backups.old backups.new turned.old turned.new }
 {
     let found = read_model_file(alloc, model, folder)?;
     print_compiled::<M, O>(&found, alloc, out, backups, turned)
@@ -56,7 +57,7 @@ fn print_compiled<M: LayerMeans, O: Sink>(
     requires backups { backups.old ≤ 2 ^ 63 }
     requires turned { turned.old ≤ 2 ^ 63 }
     ensures answers { (model : List ℕ) (folder : Outside) → Given folder.holds model (λ file. IsModelFile file found.now.digest found.now.model)
-        → Answers (CallsForValues model) (ended result)
+        → Answers (reading [] (CallsForValues model)) (ended result)
         (record folder { written = O.written out.old; output_faults = O.faults out.old })
         (record folder { written = O.written out.new; output_faults = O.faults out.new }) }
     ensures never { ended result ≢ Cause.Folder }
@@ -65,6 +66,8 @@ fn print_compiled<M: LayerMeans, O: Sink>(
     ensures rising_turned { turned.old ≤ turned.new }
     ensures counted { ended result ≡ Cause.Done → backups.new ≡ backups.old + backup_count found.now.model }
     ensures turns { ended result ≡ Cause.Done → turned.new ≡ turned.old + entries found.now.model.grid }
+    ensures no_backups { EndsLooking (ended result) → backups.new ≡ backups.old }
+    ensures no_turns { EndsLooking (ended result) → turned.new ≡ turned.old }
 {
     let mut pen = Pen::make(alloc)?;
     let mut sweep = Sweep::<M>::make(alloc, &found.model)?;

@@ -1,8 +1,8 @@
-use Rattle.std.proofs.Common.{Option, refl, subst, sym, arith, rules}
+use Rattle.std.proofs.Common.{[], ◌∷◌, Option, refl, subst, sym, arith, rules}
 use Rattle.std.specs.FinMap.{get}
 use Rattle.acas_outside.specs.Files.{Files, Given}
 use Rattle.acas_outside.specs.Outside.{Outside, outside}
-use Rattle.acas_command.specs.Answers.{ended}
+use Rattle.acas_command.specs.Answers.{EndsLooking, ended}
 use Rattle.acas_command.specs.ModelFile.{IsModelFile}
 use Rattle.acas_command.proofs.Behind.{answers-from-one}
 use Rattle.acas_table_commands.specs.Calls.{values_of}
@@ -12,7 +12,7 @@ use Rattle.acas_table_commands.proofs.values_command.values.Goals as goal
 
 pub returns-in_err-found-clause-answers : goal.returns-in_err-found-clause-answers
 returns-in_err-found-clause-answers g c =
-    rw (answered c.from_residual.result c.from_residual.ensures.1) (c.in_err-found.ensures.err (λ files digest m. rest_of_values digest m) _ _)
+    rw (answered c.from_residual.result c.from_residual.ensures.1) (c.in_err-found.ensures.err [] (λ files digest m. rest_of_values digest m) _ _)
 
 pub returns-clause-answers : goal.returns-clause-answers
 returns-clause-answers g c =
@@ -24,16 +24,18 @@ returns-clause-answers g c =
     let frame = c.read_model_file.ensures.frame in
     let given : Given mid.holds model (λ file. IsModelFile file found.digest found.model) =
     subst (λ (h : Option Files). Given h model (λ file. IsModelFile file found.digest found.model)) (sym frame.holds) c.in_ok-found.ensures.ok in
-    answers-from-one (λ files. values_of (get files model)) (ended c.print_compiled.result) before mid after
-    (record { holds = frame.holds; written = refl; misses = frame.misses; taken = frame.taken; faults = frame.faults; output_faults = omega arith })
+    answers-from-one (model ∷ []) [] (λ files. values_of (get files model)) (ended c.print_compiled.result) before mid after
+    (record { holds = frame.holds; written = refl; misses = frame.misses; taken = frame.taken; faults = frame.faults; output_faults = omega arith; once = c.read_model_file.ensures.once })
     (c.print_compiled.ensures.answers model mid given)
 
 pub returns-in_err-found-clause-work : goal.returns-in_err-found-clause-work
 returns-in_err-found-clause-work g c =
-    rw (answered c.from_residual.result c.from_residual.ensures.1) (counts_nothing (g.F.Folder.holds c.args.folder.now) c.args.model.now c.in_err-found.field-0.0 c.args.backups.now c.args.backups.now c.args.turned.now c.args.turned.now c.in_err-found.ensures.refused)
+    rw (answered c.from_residual.result c.from_residual.ensures.1) (counts_nothing EndsLooking (g.F.Folder.holds c.args.folder.now) c.args.model.now c.in_err-found.field-0.0 c.args.backups.now c.args.turned.now c.in_err-found.ensures.refused)
 
 pub returns-clause-work : goal.returns-clause-work
-returns-clause-work g c done = counts_sweep _ _ c.in_ok-found.found.digest c.in_ok-found.found.model _ _ _ _ _ c.in_ok-found.ensures.ok (c.print_compiled.ensures.counted done) (c.print_compiled.ensures.turns done) done
+returns-clause-work g c =
+    let swept = c.print_compiled.ensures in
+    counts_sweep EndsLooking _ _ c.in_ok-found.found.digest c.in_ok-found.found.model _ _ _ _ _ c.in_ok-found.ensures.within c.in_ok-found.ensures.ok swept.counted swept.turns swept.no_backups swept.no_turns
 
 pub returns-clause-folder : goal.returns-clause-folder
 returns-clause-folder g c = search rules
