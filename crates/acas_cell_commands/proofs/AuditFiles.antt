@@ -1,5 +1,5 @@
 -- What an audit goes on with behind its files.
-use Rattle.std.proofs.Common.{◌≡◌, ℕ, List, [], Option, None, refl, sym, subst}
+use Rattle.std.proofs.Common.{◌≡◌, ℕ, List, [], ◌∷◌, Option, None, refl, sym, subst}
 use Rattle.std.specs.Prelude.{IfSome}
 use Rattle.std.specs.FinMap.{get}
 use Rattle.acas_spec.specs.Model.{ModelData}
@@ -13,7 +13,6 @@ use Rattle.acas_table_file.specs.AcceptedFile.{IsTableFile, IsTableOf}
 use Rattle.acas_table_file.specs.Calls.{with_table}
 use Rattle.acas_table_file.proofs.Files.{no_file-table}
 use Rattle.acas_report_lines.specs.declared.counts.Which.{Which}
-use Rattle.acas_command.specs.Called.{calls_for}
 use Rattle.acas_command.proofs.Behind.{Refers, told-both}
 use Rattle.acas_cell_commands.specs.AuditCalls.{CallsForAudit, IsAuditBegun, IsAuditText, audit_looks_at}
 
@@ -29,9 +28,9 @@ audit-behind_model model table digest m files is = sym (with_model-file (get fil
 
 -- what refuses the command as it looks at its files is answered by it
 pub audit-refers : (model table : List ℕ) (which : Which) (files : Files) (outcome_of : Files → Outcome) → outcome_of files ≡ audit_looks_at model table files
-    → Refers files (calls_for outcome_of) (CallsForAudit model table which)
+    → Refers files (outcome_of files) (CallsForAudit model table which)
 audit-refers model table which files outcome_of same =
-    refers-report files outcome_of (audit_looks_at model table) (IsAuditText model table which) (IsAuditBegun model table which) same (no_file-audit model table files)
+    refers-report (model ∷ table ∷ []) files (outcome_of files) (audit_looks_at model table) (IsAuditText model table which) (IsAuditBegun model table which) same (no_file-audit model table files)
 
 -- the advices of the table, where the model's file was read first
 pub table-of : (model table digest : List ℕ) (m : ModelData) (advices : AdvicesData) (before mid : Option Files) → mid ≡ before

@@ -1,11 +1,10 @@
 -- What `safeable` goes on with behind its files.
-use Rattle.std.proofs.Common.{◌≡◌, ℕ, List, [], Option, None, refl, sym, subst}
+use Rattle.std.proofs.Common.{◌≡◌, ℕ, List, [], ◌∷◌, Option, None, refl, sym, subst}
 use Rattle.std.specs.Prelude.{IfSome}
 use Rattle.std.specs.FinMap.{get}
 use Rattle.acas_spec.specs.Model.{ModelData}
 use Rattle.acas_base.specs.Advices.{AdvicesData, AreAdvices, AreAdvicesOf}
 use Rattle.acas_outside.specs.Files.{Files, Given}
-use Rattle.acas_command.specs.Called.{calls_for}
 use Rattle.acas_command.specs.ModelFile.{IsModelFile}
 use Rattle.acas_command.specs.Outcome.{Outcome, prints}
 use Rattle.acas_command.proofs.Behind.{Refers, told-both}
@@ -29,9 +28,9 @@ safeable-behind_model model table digest m files is = sym (with_model-file (get 
 
 -- what refuses the command as it looks at its files is answered by it
 pub safeable-refers : (model table : List ℕ) (files : Files) (outcome_of : Files → Outcome) → outcome_of files ≡ safeable_looks_at model table files
-    → Refers files (calls_for outcome_of) (CallsForSafeable model table)
+    → Refers files (outcome_of files) (CallsForSafeable model table)
 safeable-refers model table files outcome_of same =
-    refers-report files outcome_of (safeable_looks_at model table) (IsSafeableText model table) (IsSafeableTextBegun model table) same (no_file-safeable model table files)
+    refers-report (model ∷ table ∷ []) files (outcome_of files) (safeable_looks_at model table) (IsSafeableText model table) (IsSafeableTextBegun model table) same (no_file-safeable model table files)
 
 -- the advices of the table, where the model's file was read first
 pub table-of : (model table digest : List ℕ) (m : ModelData) (advices : AdvicesData) (before mid : Option Files) → mid ≡ before

@@ -1,5 +1,5 @@
 -- What `audit` calls for, by the files of the folder.
-use Rattle.std.specs.Prelude.{◌≡◌, ℕ, List, [], Option}
+use Rattle.std.specs.Prelude.{◌≡◌, ℕ, List, [], ◌∷◌, Option}
 use Rattle.std.specs.FinMap.{get}
 use Rattle.acas_spec.specs.Model.{ModelData}
 use Rattle.acas_base.specs.Advices.{AdvicesData}
@@ -35,4 +35,4 @@ pub record IsAuditBegun (model table : List ℕ) (which : Which) (files : Files)
 
 -- an audit prints a report of the accepted table
 abbrev pub CallsForAudit : List ℕ → List ℕ → Which → Called
-CallsForAudit model table which = calls_for_report (audit_looks_at model table) (IsAuditText model table which) (IsAuditBegun model table which)
+CallsForAudit model table which = calls_for_report (model ∷ table ∷ []) (audit_looks_at model table) (IsAuditText model table which) (IsAuditBegun model table which)

@@ -1,5 +1,5 @@
 -- What `safeable` calls for, by the files of the folder.
-use Rattle.std.specs.Prelude.{◌≡◌, ℕ, List, [], Option}
+use Rattle.std.specs.Prelude.{◌≡◌, ℕ, List, [], ◌∷◌, Option}
 use Rattle.std.specs.FinMap.{get}
 use Rattle.acas_spec.specs.Model.{ModelData}
 use Rattle.acas_base.specs.Advices.{AdvicesData}
@@ -34,4 +34,4 @@ pub record IsSafeableTextBegun (model table : List ℕ) (files : Files) (old new
 
 -- `safeable M T` prints a report on the clear cells of the accepted table
 abbrev pub CallsForSafeable : List ℕ → List ℕ → Called
-CallsForSafeable model table = calls_for_report (safeable_looks_at model table) (IsSafeableText model table) (IsSafeableTextBegun model table)
+CallsForSafeable model table = calls_for_report (model ∷ table ∷ []) (safeable_looks_at model table) (IsSafeableText model table) (IsSafeableTextBegun model table)

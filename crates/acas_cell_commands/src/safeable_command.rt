@@ -1,9 +1,10 @@
 //! The command `safeable`.
-ghost use Rattle.std.specs.Prelude.{◌≤◌, ℕ, List, IsErrOf, IsTrue};
+ghost use Rattle.std.specs.Prelude.{◌≤◌, ℕ, List, [], ◌∷◌, IsErrOf, IsTrue};
 ghost use Rattle.acas_outside.specs.Files.{Given};
 ghost use Rattle.acas_outside.specs.Frame.{ReadsAndWrites};
 ghost use Rattle.acas_outside.specs.Outside.{outside};
 ghost use Rattle.acas_command.specs.Answers.{Answers, report_ended};
+ghost use Rattle.acas_command.specs.Called.{reading};
 ghost use Rattle.acas_command.specs.ModelFile.{IsModelFile};
 ghost use Rattle.acas_cell_commands.specs.SafeableCalls.{CallsForSafeable};
 
@@ -44,7 +45,7 @@ fn print_safeable<M: LayerMeans, F: Folder, O: Sink>(
 ) -> Result<u64, Cause>
     requires table { IsTrue (F.serves folder.old table.now) }
     ensures answers { (model : List ℕ) → Given (F.holds folder.old) model (λ file. IsModelFile file found.now.digest found.now.model)
-        → Answers (CallsForSafeable model table.now) (report_ended result)
+        → Answers (reading (table.now ∷ []) (CallsForSafeable model table.now)) (report_ended result)
         (outside F.Folder O.Sink folder.old out.old) (outside F.Folder O.Sink folder.new out.new) }
     ensures folder { ReadsAndWrites F.Folder folder.old folder.new (IsErrOf result Cause.Folder) }
     ensures output { O.faults out.old ≤ O.faults out.new }

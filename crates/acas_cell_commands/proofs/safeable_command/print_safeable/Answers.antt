@@ -1,10 +1,10 @@
-use Rattle.std.proofs.Common.{refl, inr, subst, [], arith}
+use Rattle.std.proofs.Common.{refl, inr, subst, [], ◌∷◌, arith}
 use Rattle.std.proofs.lemmas.Grind.{common_steps}
 use Rattle.std.specs.FinMap.{get}
 use Rattle.std.proofs.lemmas.Result.{err_from_is_err_and}
 use Rattle.acas_base.specs.Advices.{AreAdvices}
 use Rattle.acas_outside.specs.Outside.{Outside, outside}
-use Rattle.acas_command.specs.Called.{calls_for}
+use Rattle.acas_command.specs.Called.{reading}
 use Rattle.acas_command.specs.Outcome.{prints, report_cause, reports}
 use Rattle.acas_command.proofs.Behind.{answers-printed, told-kept, told-map}
 use Rattle.acas_command.proofs.Reports.{answers-refer, may_print-report_cause}
@@ -22,11 +22,11 @@ returns-in_err-advices-clause-answers g c model told =
     let after : Outside = outside g.F.Folder g.O.Sink c.read_table_file.new.folder c.args.out.now in
     let p = err_from_is_err_and c.from_residual.result c.from_residual.ensures.1 in
     rw (p.1, p.2)
-    (answers-refer (calls_for (λ files. with_table m digest (get files table) (λ bytes. prints []))) (CallsForSafeable model table) c.in_err-advices.field-0.0 before after c.in_err-advices.ensures.refused
+    (answers-refer (λ files. with_table m digest (get files table) (λ bytes. prints [])) (reading (table ∷ []) (CallsForSafeable model table)) c.in_err-advices.field-0.0 before after c.in_err-advices.ensures.refused
     (told-map before.holds _ _
     (λ files is. safeable-refers model table files (λ fs. with_table m digest (get fs table) (λ bytes. prints [])) (safeable-behind_model model table digest m files is))
     told)
-    (c.in_err-advices.ensures.err (λ files bytes. prints []) _ _))
+    (c.in_err-advices.ensures.err [] (λ files bytes. prints []) _ _))
 
 pub returns-in-Ok-clause-answers : goal.returns-in-Ok-clause-answers
 returns-in-Ok-clause-answers g c model told =
@@ -38,7 +38,7 @@ returns-in-Ok-clause-answers g c model told =
     let r = c.in-Ok.ensures.report in
     let before : Outside = outside g.F.Folder g.O.Sink c.args.folder.now c.args.out.now in
     let after : Outside = outside g.F.Folder g.O.Sink c.read_table_file.new.folder c.write_safeable.new.sink in
-    answers-printed (CallsForSafeable model table) (report_cause counts.unshown) (reports counts.unshown r.0) before after (may_print-report_cause counts.unshown)
+    answers-printed (reading (table ∷ []) (CallsForSafeable model table)) (report_cause counts.unshown) (reports counts.unshown r.0) before after (may_print-report_cause counts.unshown)
     (told-map before.holds _ _ (λ files is. inr (record {
       reported = counts.unshown;
       text = r.0;
@@ -47,7 +47,7 @@ returns-in-Ok-clause-answers g c model told =
     }))
     (table-of model table digest m advices before.holds _ refl told c.in_ok-advices.ensures.ok
     c.in_ok-advices.ensures.advices (subst AreAdvices c.advices.view_is c.advices.invariant))) refl
-    (told-kept before.holds after.holds c.read_table_file.ensures.frame.holds) r.2
+    (told-kept before.holds after.holds c.read_table_file.ensures.frame.holds) r.2 c.read_table_file.ensures.once
 
 pub returns-in-Ok-clause-folder : goal.returns-in-Ok-clause-folder
 returns-in-Ok-clause-folder g c = grind (arith, common_steps)

@@ -1,8 +1,7 @@
-use Rattle.std.proofs.Common.{Option, refl, subst, sym, arith, [], rules}
+use Rattle.std.proofs.Common.{Option, refl, subst, sym, arith, [], ◌∷◌, rules}
 use Rattle.std.specs.FinMap.{get}
 use Rattle.std.proofs.lemmas.Result.{err_from_is_err_and}
 use Rattle.acas_outside.specs.Outside.{Outside, outside}
-use Rattle.acas_command.specs.Called.{calls_for}
 use Rattle.acas_command.specs.Outcome.{prints}
 use Rattle.acas_command.proofs.Behind.{answers-from-report}
 use Rattle.acas_command.proofs.Reports.{answers-refer, told-all}
@@ -22,9 +21,9 @@ returns-in_err-found-clause-answers g c =
     let after : Outside = outside g.F.Folder g.O.Sink c.read_model_file.new.folder c.args.out.now in
     let p = err_from_is_err_and c.from_residual.result c.from_residual.ensures.1 in
     rw (p.1, p.2)
-    (answers-refer (calls_for (safeable_looks_at model table)) (CallsForSafeable model table) c.in_err-found.field-0.0 before after c.in_err-found.ensures.refused
+    (answers-refer (safeable_looks_at model table) (CallsForSafeable model table) c.in_err-found.field-0.0 before after c.in_err-found.ensures.refused
     (told-all before.holds _ (λ files. safeable-refers model table files (safeable_looks_at model table) refl))
-    (c.in_err-found.ensures.err (λ files digest m. with_table m digest (get files table) (λ bytes. prints [])) _ _))
+    (c.in_err-found.ensures.err (table ∷ []) (λ files digest m. with_table m digest (get files table) (λ bytes. prints [])) _ _))
 
 pub returns-clause-answers : goal.returns-clause-answers
 returns-clause-answers g c =
@@ -37,8 +36,8 @@ returns-clause-answers g c =
     let frame = c.read_model_file.ensures.frame in
     let given : Given mid.holds model (λ file. IsModelFile file found.digest found.model) =
     subst (λ (h : Option Files). Given h model (λ file. IsModelFile file found.digest found.model)) (sym frame.holds) c.in_ok-found.ensures.ok in
-    answers-from-report (safeable_looks_at model table) (IsSafeableText model table) (IsSafeableTextBegun model table) (report_ended c.print_safeable.result) before mid after
-    (record { holds = frame.holds; written = refl; misses = frame.misses; taken = frame.taken; faults = frame.faults; output_faults = omega arith })
+    answers-from-report (model ∷ []) (table ∷ []) (safeable_looks_at model table) (IsSafeableText model table) (IsSafeableTextBegun model table) (report_ended c.print_safeable.result) before mid after
+    (record { holds = frame.holds; written = refl; misses = frame.misses; taken = frame.taken; faults = frame.faults; output_faults = omega arith; once = c.read_model_file.ensures.once })
     (c.print_safeable.ensures.answers model given)
 
 pub returns-clause-folder : goal.returns-clause-folder
