@@ -34,7 +34,9 @@ use Rattle.acas_command.specs.declared.status.Cause.{Cause}
 use Rattle.acas_command.specs.declared.status.Cause.TheVariants.{Done, Output, Table as Refused}
 use Rattle.acas_command.proofs.Behind.{told-both}
 use Rattle.acas_command.proofs.Files.{called-model}
-use Rattle.acas_command.proofs.Refused.{behind-model, no_file_cause-may_print, not_refused}
+use Rattle.acas_command.specs.Worth.{PrintsLine}
+use Rattle.acas_command.proofs.Completed.{completed, prints-part_of_line, prints-whole_line}
+use Rattle.acas_command.proofs.Refused.{behind-model, done_unless_failed, no_file_cause-may_print}
 use Rattle.acas_command.proofs.Says.{says-model}
 use Rattle.acas_table_file.specs.AcceptedFile.{IsLayersFile}
 use Rattle.acas_table_file.specs.Calls.{with_table}
@@ -44,7 +46,6 @@ use Rattle.acas_table_rows.specs.TableFile.{entries_of, text_of_all}
 use Rattle.acas_check_commands.specs.Calls.{CallsForMigrate, migrate_of}
 use Rattle.acas_table_rows.specs.StoredLine.{migrated_line}
 use Rattle.acas_check_commands.specs.Worth.{MigrateIsWorth, MigratesTable}
-use Rattle.acas_command.proofs.Refused.{prints-cause}
 use Rattle.acas_table_file.proofs.Files.{bytes-of}
 
 -- what `migrate` goes on with, behind the table and behind the model
@@ -114,13 +115,15 @@ goes_on model table target files may =
           ∙ with_table-accepted b.m digest t.0 (rest_of_table target digest b.m) t.2;
     }
 
-migrates-table : (model table target : List ℕ) (files : Files) (after : Outside) (o : Outcome) → o ≡ migrate_of (get files model) (get files table) target → MayPrint o.cause
-    → after.holds ≡ Some (with_file o.file files) → IsSomeAnd (get files table) IsBytes → MigratesTable model table target files after
-migrates-table model table target files after o called prints stored whole =
+migrates-table : (model table target : List ℕ) (files : Files) (cause : Cause) (before after : Outside) (o : Outcome) → o ≡ migrate_of (get files model) (get files table) target → MayPrint o.cause
+    → after.holds ≡ Some (with_file o.file files) → PrintsLine cause before after o.output → (o.cause ≡ Done → IsSomeAnd (get files table) IsBytes)
+    → MigratesTable model table target files cause before after
+migrates-table model table target files cause before after o called prints stored line whole =
     let b = goes_on model table target files (subst (λ (p : Outcome). MayPrint p.cause) called prints) in
+    let bytes : IsSomeAnd (get files table) IsBytes = whole (ap (λ (p : Outcome). p.cause) (called ∙ b.is)) in
     let t : Table = given_table b.m.grid b.given in
     let digest : List ℕ = sha256 b.bytes in
-    let accepted : IsAcceptedTable b.m digest b.given t = given_is_accepted b.m digest b.given b.says.text.within (bytes-of (get files table) b.given b.file whole) b.none in
+    let accepted : IsAcceptedTable b.m digest b.given t = given_is_accepted b.m digest b.given b.says.text.within (bytes-of (get files table) b.given b.file bytes) b.none in
     let text : as_layered digest (shape_of b.m.grid) b.given ≡ table_text Layered digest b.m.grid t = migrated_text b.m digest b.given t b.says.text.within (length-sha256 b.bytes) accepted in
     record {
       m = b.m;
@@ -133,15 +136,19 @@ migrates-table model table target files after o called prints stored whole =
           subst (λ (bytes : List ℕ). after.holds ≡ Some (insert files target bytes)) text
           (subst (λ (p : Outcome). after.holds ≡ Some (with_file p.file files)) (called ∙ b.is) stored);
       bounds = two_sided_bounds b.m t b.says.text.within accepted.sound;
+      line = subst (λ (p : Outcome). PrintsLine cause before after p.output) (called ∙ b.is) line;
     }
 
-migrates-done : (model table target : List ℕ) (files : Files) (before after : Outside) → Completes (CallsForMigrate model table target) files Done before after → IsSomeAnd (get files table) IsBytes
-    → MigratesTable model table target files after
-migrates-done model table target files before after a whole = migrates-table model table target files after a.outcome a.may (subst MayPrint (sym a.ends) tt) a.stored whole
+migrates-done : (model table target : List ℕ) (files : Files) (cause : Cause) (before after : Outside) → MayPrint cause → Completes (CallsForMigrate model table target) files cause before after
+    → (cause ≡ Done → IsSomeAnd (get files table) IsBytes) → MigratesTable model table target files cause before after
+migrates-done model table target files cause before after prints a whole =
+    migrates-table model table target files cause before after a.outcome a.may (subst MayPrint (sym a.ends) prints) a.stored (prints-whole_line cause before after a.outcome.output prints a.printed)
+    (λ done. whole (sym a.ends ∙ done))
 
-migrates-output : (model table target : List ℕ) (files : Files) (before after : Outside) → PrintsPart (migrate_of (get files model) (get files table) target) files before after
-    → IsSomeAnd (get files table) IsBytes → MigratesTable model table target files after
-migrates-output model table target files before after a whole = migrates-table model table target files after _ refl a.prints a.stored whole
+migrates-output : (model table target : List ℕ) (files : Files) (cause : Cause) (before after : Outside) → cause ≡ Output → PrintsPart (migrate_of (get files model) (get files table) target) files before after
+    → IsSomeAnd (get files table) IsBytes → MigratesTable model table target files cause before after
+migrates-output model table target files cause before after is a whole =
+    migrates-table model table target files cause before after _ refl a.prints a.stored (prints-part_of_line cause before after (migrate_of (get files model) (get files table) target).output is a.printed) (λ done. whole)
 
 rejected : (model table target : List ℕ) (files : Files) (refusal : TableRefusal) (after : Outside) → Refuses (CallsForMigrate model table target) files (Refused refusal) after → RejectsTable model table files
 rejected model table target files refusal after a =
@@ -160,11 +167,11 @@ migrate-worth model table target cause before after answers whole = by_holds bef
     by_holds None agrees bytes = tt
     by_holds (Some files) agrees bytes = record {
       stored = λ either. ⊎_elim
-          (λ (is : cause ≡ Done). migrates-done model table target files before after (subst (λ (c : Cause). Agrees (CallsForMigrate model table target) files c before after) is agrees) (bytes (inl is)))
-          (λ (is : cause ≡ Output). migrates-output model table target files before after (subst (λ (c : Cause). Agrees (CallsForMigrate model table target) files c before after) is agrees) (bytes (inr is)))
+          (λ (may : MayPrint cause). migrates-done model table target files cause before after may (completed (CallsForMigrate model table target) files cause before after may agrees) (λ done. bytes (inl done)))
+          (λ (is : cause ≡ Output). migrates-output model table target files cause before after is (subst (λ (c : Cause). Agrees (CallsForMigrate model table target) files c before after) is agrees) (bytes (inr is)))
           either;
       refused = λ refusal is. rejected model table target files refusal after (subst (λ (c : Cause). Agrees (CallsForMigrate model table target) files c before after) is agrees);
       not_refused = λ m t says.
-          not_refused (CallsForMigrate model table target) files cause before after
-          (λ o called. prints-cause o _ (called ∙ migrated-outcome files model table target m t says) tt) answers.has_cause agrees;
+          done_unless_failed (CallsForMigrate model table target) files cause before after
+          (λ o called. ap (λ (p : Outcome). p.cause) (called ∙ migrated-outcome files model table target m t says)) answers.has_cause agrees;
     }

@@ -12,7 +12,7 @@ use Rattle.acas_command.specs.Answers.{Agrees, HasCause}
 use Rattle.acas_command.specs.Called.{Called, MayPrint}
 use Rattle.acas_command.specs.Calls.{with_model, with_reading}
 use Rattle.acas_command.specs.Outcome.{Outcome, refuses}
-use Rattle.acas_command.specs.Worth.{IsNotRefused}
+use Rattle.acas_command.specs.Worth.{IsDoneUnlessFailed, IsNotRefused}
 use Rattle.acas_command.specs.declared.status.Cause.{Cause}
 use Rattle.acas_command.specs.declared.status.Cause.TheVariants.{Done, Reported, Words, Absent, Model, Table, Input, Folder, Output, TooLong, Memory}
 use Rattle.acas_command.specs.declared.status.FileRole.TheVariants.{Model as ModelFile}
@@ -96,6 +96,24 @@ not_refused called files Folder before after prints h a = h
 not_refused called files Output before after prints h a = h
 not_refused called files (TooLong role) before after prints h a = subst MayPrint a.refused (prints a.outcome a.may)
 not_refused called files Memory before after prints h a = tt
+
+-- a command that is to be done is done, unless a call failed or memory was refused
+pub done_unless_failed : (called : Called) (files : Files) (cause : Cause) (before after : Outside) → ((o : Outcome) → called.ends files o → o.cause ≡ Done)
+    → HasCause cause before after → Agrees called files cause before after → IsDoneUnlessFailed cause before after
+done_unless_failed called files Done before after done h a = tt
+done_unless_failed called files Reported before after done h a = absurd (never (sym a.ends ∙ done a.outcome a.may))
+  where
+    never : Reported ≡ Done → ⊥
+    never is = cc
+done_unless_failed called files Words before after done h a = h
+done_unless_failed called files (Absent role) before after done h a = subst MayPrint (sym (done a.outcome a.may) ∙ a.refused) tt
+done_unless_failed called files (Model fault) before after done h a = subst MayPrint (sym (done a.outcome a.may) ∙ a.refused) tt
+done_unless_failed called files (Table refusal) before after done h a = subst MayPrint (sym (done a.outcome a.may) ∙ a.refused) tt
+done_unless_failed called files (Input fault) before after done h a = subst MayPrint (sym (done a.outcome a.may) ∙ a.refused) tt
+done_unless_failed called files Folder before after done h a = h
+done_unless_failed called files Output before after done h a = h
+done_unless_failed called files (TooLong role) before after done h a = subst MayPrint (sym (done a.outcome a.may) ∙ a.refused) tt
+done_unless_failed called files Memory before after done h a = tt
 
 -- a cause that outcomes share may print in both
 pub prints-cause : (o o' : Outcome) → o ≡ o' → MayPrint o'.cause → MayPrint o.cause

@@ -1,5 +1,5 @@
 -- What the answers of `replay` are worth.
-use Rattle.std.proofs.Common.{◌≡◌, ℕ, Bool, true, false, cond, nat_lt, List, [], length, Result, Ok, Err, Option, None, Some, sym, ap, subst, ◌∙◌}
+use Rattle.std.proofs.Common.{◌≡◌, ℕ, ⊎_elim, Bool, true, false, cond, nat_lt, List, [], length, Result, Ok, Err, Option, None, Some, sym, ap, subst, ◌∙◌}
 use Rattle.std.specs.Prelude.{IfSome}
 use Rattle.std.specs.FinMap.{get}
 use Rattle.sha2.specs.Sha256.{sha256}
@@ -18,17 +18,18 @@ use Rattle.acas_replay.proofs.Read.{said}
 use Rattle.acas_replay.proofs.Audits.{course_audited}
 use Rattle.acas_table_text.specs.declared.refusal.TableRefusal.{TableRefusal}
 use Rattle.acas_command.specs.Answers.{Agrees, Answers}
-use Rattle.acas_command.specs.Called.{MayPrint}
+use Rattle.acas_command.specs.Called.{IsRefusal, IsReportOutcome, MayPrint}
 use Rattle.acas_command.specs.Calls.{with_input, with_input_file}
-use Rattle.acas_command.specs.Outcome.{Outcome, prints, refuses}
+use Rattle.acas_command.specs.Outcome.{Outcome, prints, refuses, report_cause}
 use Rattle.acas_command.specs.Says.{RejectsBeside, SaysBeside, SaysModel}
 use Rattle.acas_command.specs.declared.status.Cause.{Cause}
 use Rattle.acas_command.specs.declared.status.Cause.TheVariants.{Done, Input, Table as Refused, TooLong}
 use Rattle.acas_command.specs.declared.status.FileRole.TheVariants.{Encounter as EncounterFile}
 use Rattle.acas_command.proofs.Behind.{told-map}
 use Rattle.acas_command.proofs.Inputs.{rejected-input_file, with_input_file-read}
-use Rattle.acas_command.proofs.Refused.{IsNoFileCause, behind-model, not_refused}
-use Rattle.acas_command.proofs.Reports.{IsPrinted, report-may_print, report-printed, report-refused}
+use Rattle.acas_command.proofs.Completed.{completed}
+use Rattle.acas_command.proofs.Refused.{IsNoFileCause, behind-model, done_unless_failed}
+use Rattle.acas_command.proofs.Reports.{IsPrinted, report-printed, report-refused}
 use Rattle.acas_command.proofs.Says.{file-says, says-model}
 use Rattle.acas_table_file.specs.Calls.{with_table}
 use Rattle.acas_table_file.proofs.Files.{behind-input, read-table, rejects-table, tells-advices}
@@ -36,9 +37,9 @@ use Rattle.acas_encounter_commands.specs.Calls.{CallsForReplay, IsReplayBegun, I
 use Rattle.acas_encounter_commands.specs.Worth.{PrintsReplay, ReplayIsWorth}
 use Rattle.acas_table_file.specs.Worth.{SaysTable}
 
-prints-replay : (model table encounter : List ℕ) (files : Files) (before after : Outside) → IsPrinted (IsReplayText model table encounter files) files Done before after
+prints-replay : (model table encounter : List ℕ) (files : Files) (cause : Cause) (before after : Outside) → IsPrinted (IsReplayText model table encounter files) files cause before after
     → PrintsReplay model table encounter files before after
-prints-replay model table encounter files before after p =
+prints-replay model table encounter files cause before after p =
     let m : ModelData = p.report.m in
     let advices = p.report.advices in
     let flown : EncounterData = p.report.flown in
@@ -105,6 +106,17 @@ replay-looks files model table encounter m t flown says e =
     ∙ with_input_file-read EncounterFile (encounter_of m) (get files encounter) e.given flown (λ f. prints []) (record { there = e.file; short = e.short })
     (understood m e.given flown e.says.text.within e.text)
 
+-- a replay that looking at the files does not refuse is done
+replay-done : (model table encounter : List ℕ) (files : Files) (o : Outcome) → MayPrint (replay_looks_at model table encounter files).cause
+    → (CallsForReplay model table encounter).ends files o → o.cause ≡ Done
+replay-done model table encounter files o prints may = ⊎_elim refused written may
+  where
+    refused : IsRefusal (replay_looks_at model table encounter files) o → o.cause ≡ Done
+    refused r = absurd (r.refused prints)
+
+    written : IsReportOutcome (IsReplayText model table encounter files) o → o.cause ≡ Done
+    written w = ap (λ (p : Outcome). p.cause) w.is ∙ ap report_cause w.report.none
+
 pub replay-worth : (model table encounter : List ℕ) (cause : Cause) (before after : Outside) → Answers (CallsForReplay model table encounter) cause before after
     → IfSome before.holds (λ files. ReplayIsWorth model table encounter files cause before after)
 replay-worth model table encounter cause before after answers =
@@ -115,9 +127,9 @@ replay-worth model table encounter cause before after answers =
 
     worth : (files : Files) → Agrees (CallsForReplay model table encounter) files cause before after → ReplayIsWorth model table encounter files cause before after
     worth files agrees = record {
-      done = λ is. prints-replay model table encounter files before after
-          (report-printed looks (IsReplayText model table encounter) (IsReplayBegun model table encounter) files Done before after tt
-          (subst (λ (c : Cause). Agrees (CallsForReplay model table encounter) files c before after) is agrees));
+      printed = λ may. prints-replay model table encounter files cause before after
+          (report-printed looks (IsReplayText model table encounter) (IsReplayBegun model table encounter) files cause before after may
+          (completed (CallsForReplay model table encounter) files cause before after may agrees));
       refused_table = λ refusal is. rejects-table model table files (λ digest m bytes. encounter_looked_at encounter files m) refusal (λ digest m bytes. no_table-encounter m (get files encounter) refusal)
           (report-refused looks (IsReplayText model table encounter) (IsReplayBegun model table encounter) files (Refused refusal) after (λ never. never)
           (subst (λ (c : Cause). Agrees (CallsForReplay model table encounter) files c before after) is agrees));
@@ -125,7 +137,7 @@ replay-worth model table encounter cause before after answers =
           (report-refused looks (IsReplayText model table encounter) (IsReplayBegun model table encounter) files (Input fault) after (λ never. never)
           (subst (λ (c : Cause). Agrees (CallsForReplay model table encounter) files c before after) is agrees));
       not_refused = λ m t flown says beside.
-          not_refused (CallsForReplay model table encounter) files cause before after
-          (λ o may. report-may_print looks (IsReplayText model table encounter) (IsReplayBegun model table encounter) files o
+          done_unless_failed (CallsForReplay model table encounter) files cause before after
+          (λ o may. replay-done model table encounter files o
           (subst (λ (p : Outcome). MayPrint p.cause) (sym (replay-looks files model table encounter m t flown says beside)) tt) may) answers.has_cause agrees;
     }

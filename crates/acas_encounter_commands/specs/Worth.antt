@@ -12,10 +12,11 @@ use Rattle.acas_replay.specs.Text.{IsEncounterText}
 use Rattle.acas_replay.specs.Audited.{IsAudited, IsOfCells}
 use Rattle.acas_replay.specs.Replay.{Course, IsCourse, replay_text, state_at}
 use Rattle.acas_table_text.specs.declared.refusal.TableRefusal.{TableRefusal}
+use Rattle.acas_command.specs.Called.{MayPrint}
 use Rattle.acas_command.specs.Says.{RejectsBeside, SaysBeside}
-use Rattle.acas_command.specs.Worth.{IsNotRefused}
+use Rattle.acas_command.specs.Worth.{IsDoneUnlessFailed}
 use Rattle.acas_command.specs.declared.status.Cause.{Cause}
-use Rattle.acas_command.specs.declared.status.Cause.TheVariants.{Done, Input, Table as Refused}
+use Rattle.acas_command.specs.declared.status.Cause.TheVariants.{Input, Table as Refused}
 use Rattle.acas_table_file.specs.Worth.{RejectsTable, SaysTable, TellsAdvices}
 
 -- What a course of an encounter issues is ruled on in an audit of the same advices: each state that may be in a cell is in an advisory
@@ -37,11 +38,12 @@ pub record PrintsReplay (model table encounter : List ℕ) (files : Files) (befo
   pub ruled_on : IsRuledOn m advices flown course
   pub kept : after.holds ≡ Some files
 
--- `replay M T E`: what a done run has printed, and what one has rejected that is refused as a table or as an encounter; and where M says
--- a model, T is the text of a table of it whose entries are all sound, and E says an encounter beside it, it is not refused
+-- `replay M T E`: what a run has printed whose whole output is out, and what one has rejected that is refused as a table or as an
+-- encounter; and where M says a model, T is the text of a table of it whose entries are all sound, and E says an encounter beside it, it
+-- is done unless a call failed
 pub record ReplayIsWorth (model table encounter : List ℕ) (files : Files) (cause : Cause) (before after : Outside) : Type 0 where
-  pub done : cause ≡ Done → PrintsReplay model table encounter files before after
+  pub printed : MayPrint cause → PrintsReplay model table encounter files before after
   pub refused_table : (refusal : TableRefusal) → cause ≡ Refused refusal → RejectsTable model table files
   pub refused_encounter : (fault : InputFault) → cause ≡ Input fault → RejectsBeside (λ m digest. IsEncounterText m) model encounter files
   pub not_refused : (m : ModelData) (t : Table) (flown : EncounterData) → SaysTable model table files m t → SaysBeside IsEncounterText model encounter files m flown
-      → IsNotRefused cause before after
+      → IsDoneUnlessFailed cause before after

@@ -8,9 +8,10 @@ use Rattle.acas_outside.specs.Outside.{Outside}
 use Rattle.acas_policies.specs.Bounds.{HasTwoSidedBounds}
 use Rattle.acas_risk.specs.RiskText.{AreRisks, RiskRow, risk_lines}
 use Rattle.acas_table_text.specs.declared.refusal.TableRefusal.{TableRefusal}
-use Rattle.acas_command.specs.Worth.{IsNotRefused}
+use Rattle.acas_command.specs.Called.{MayPrint}
+use Rattle.acas_command.specs.Worth.{IsDoneUnlessFailed}
 use Rattle.acas_command.specs.declared.status.Cause.{Cause}
-use Rattle.acas_command.specs.declared.status.Cause.TheVariants.{Done, Table as Refused}
+use Rattle.acas_command.specs.declared.status.Cause.TheVariants.{Table as Refused}
 use Rattle.acas_table_file.specs.Worth.{RejectsTable, SaysTable}
 
 -- M says a model, T is the text of a table of it whose entries are all sound, and what was printed has for each state at the horizon
@@ -26,9 +27,9 @@ pub record PrintsRisk (model table : List ℕ) (files : Files) (before after : O
   pub printed : Appends before.written after.written (risk_lines m rows)
   pub kept : after.holds ≡ Some files
 
--- `risk M T`: what a done run has printed, and what one has rejected that is refused as a table; and where M says a model and T is the
--- text of a table of it whose entries are all sound, it is not refused
+-- `risk M T`: what a run has printed whose whole output is out, and what one has rejected that is refused as a table; and where M says a
+-- model and T is the text of a table of it whose entries are all sound, it is done unless a call failed
 pub record RiskIsWorth (model table : List ℕ) (files : Files) (cause : Cause) (before after : Outside) : Type 0 where
-  pub done : cause ≡ Done → PrintsRisk model table files before after
+  pub printed : MayPrint cause → PrintsRisk model table files before after
   pub refused : (refusal : TableRefusal) → cause ≡ Refused refusal → RejectsTable model table files
-  pub not_refused : (m : ModelData) (t : Table) → SaysTable model table files m t → IsNotRefused cause before after
+  pub not_refused : (m : ModelData) (t : Table) → SaysTable model table files m t → IsDoneUnlessFailed cause before after

@@ -1,5 +1,5 @@
 -- What the answers of the commands on tables are worth.
-use Rattle.std.proofs.Common.{◌≡◌, ℕ, List, Some, ⊎_elim, refl, sym, subst, ◌∙◌}
+use Rattle.std.proofs.Common.{◌≡◌, ℕ, List, Some, ⊎_elim, refl, sym, ap, subst, ◌∙◌}
 use Rattle.std.specs.Prelude.{IfSome}
 use Rattle.std.specs.FinMap.{get}
 use Rattle.sha2.specs.Sha256.{sha256}
@@ -16,11 +16,13 @@ use Rattle.acas_command.specs.Answers.{Agrees, Answers, Completes}
 use Rattle.acas_command.specs.Called.{MayPrint, PrintsPart}
 use Rattle.acas_command.specs.Outcome.{Outcome, prints, stores, with_file}
 use Rattle.acas_command.specs.declared.status.Cause.{Cause}
-use Rattle.acas_command.specs.declared.status.Cause.TheVariants.{Done, Output}
+use Rattle.acas_command.specs.declared.status.Cause.TheVariants.{Output}
 use Rattle.acas_command.proofs.Behind.{told-map}
-use Rattle.acas_command.proofs.Refused.{behind-model, no_file_cause-may_print, not_refused, prints-cause}
+use Rattle.acas_command.proofs.Completed.{completed, prints-part_of_line, prints-whole_line}
+use Rattle.acas_command.proofs.Refused.{behind-model, done_unless_failed, no_file_cause-may_print}
 use Rattle.acas_command.proofs.Says.{read-model, says-model}
 use Rattle.acas_command.specs.Says.{SaysModel}
+use Rattle.acas_command.specs.Worth.{PrintsLine}
 use Rattle.acas_table_commands.specs.Calls.{CallsForCompile, CallsForValues, compile_of, values_of}
 use Rattle.acas_table_rows.specs.StoredLine.{compiled_line}
 use Rattle.acas_table_rows.specs.TableFile.{compiled_text}
@@ -39,10 +41,11 @@ compiled-tight model files bytes m says = record {
 abbrev pub rest_of_values : List ℕ → ModelData → Outcome
 rest_of_values digest m = prints (values_text m)
 
-prints-table : (model : List ℕ) (files : Files) (before after : Outside) → Completes (CallsForValues model) files Done before after → PrintsTable model files before after
+prints-table : (model : List ℕ) (files : Files) (cause : Cause) (before after : Outside) → MayPrint cause → Completes (CallsForValues model) files cause before after
+    → PrintsTable model files before after
 unfolding values_text
-prints-table model files before after a =
-    let done : MayPrint (values_of (get files model)).cause = subst (λ (o : Outcome). MayPrint o.cause) a.may (subst MayPrint (sym a.ends) tt) in
+prints-table model files cause before after prints a =
+    let done : MayPrint (values_of (get files model)).cause = subst (λ (o : Outcome). MayPrint o.cause) a.may (subst MayPrint (sym a.ends) prints) in
     let b = behind-model (get files model) rest_of_values (no_file_cause-may_print _ done) in
     let says : SaysModel files model b.bytes b.m = says-model files model rest_of_values b in
     record {
@@ -51,25 +54,26 @@ prints-table model files before after a =
       t = compiled b.m;
       made = compiled-tight model files b.bytes b.m says;
       printed = subst (λ (o : Outcome). Appends before.written after.written o.output) (a.may ∙ b.is) a.printed;
+      kept = subst (λ (o : Outcome). after.holds ≡ Some (with_file o.file files)) (a.may ∙ b.is) a.stored;
     }
 
 pub values-worth : (model : List ℕ) (cause : Cause) (before after : Outside) → Answers (CallsForValues model) cause before after
     → IfSome before.holds (λ files. ValuesIsWorth model files cause before after)
 values-worth model cause before after answers =
     told-map before.holds _ _ (λ files agrees. record {
-      done = λ is. prints-table model files before after (subst (λ (c : Cause). Agrees (CallsForValues model) files c before after) is agrees);
+      printed = λ may. prints-table model files cause before after may (completed (CallsForValues model) files cause before after may agrees);
       not_refused = λ bytes m says.
-          not_refused (CallsForValues model) files cause before after
-          (λ o called. prints-cause o _ (called ∙ read-model files model bytes m rest_of_values says) tt) answers.has_cause agrees;
+          done_unless_failed (CallsForValues model) files cause before after
+          (λ o called. ap (λ (p : Outcome). p.cause) (called ∙ read-model files model bytes m rest_of_values says)) answers.has_cause agrees;
     }) answers.told
 
 -- what `compile` goes on with
 abbrev pub rest_of_compile : List ℕ → List ℕ → ModelData → Outcome
 rest_of_compile table digest m = stores table (compiled_text digest m) (compiled_line m.grid)
 
-stores-table : (model table : List ℕ) (files : Files) (after : Outside) (o : Outcome) → o ≡ compile_of (get files model) table → MayPrint o.cause
-    → after.holds ≡ Some (with_file o.file files) → StoresTable model table files after
-stores-table model table files after o called prints stored =
+stores-table : (model table : List ℕ) (files : Files) (cause : Cause) (before after : Outside) (o : Outcome) → o ≡ compile_of (get files model) table → MayPrint o.cause
+    → after.holds ≡ Some (with_file o.file files) → PrintsLine cause before after o.output → StoresTable model table files cause before after
+stores-table model table files cause before after o called prints stored line =
     let done : MayPrint (compile_of (get files model) table).cause = subst (λ (p : Outcome). MayPrint p.cause) called prints in
     let b = behind-model (get files model) (rest_of_compile table) (no_file_cause-may_print _ done) in
     let says : SaysModel files model b.bytes b.m = says-model files model (rest_of_compile table) b in
@@ -80,22 +84,27 @@ stores-table model table files after o called prints stored =
       made = compiled-tight model files b.bytes b.m says;
       accepted = compiled_is_accepted b.m Layered (sha256 b.bytes) says.text.within;
       stored = subst (λ (p : Outcome). after.holds ≡ Some (with_file p.file files)) (called ∙ b.is) stored;
+      line = subst (λ (p : Outcome). PrintsLine cause before after p.output) (called ∙ b.is) line;
     }
 
-stores-done : (model table : List ℕ) (files : Files) (before after : Outside) → Completes (CallsForCompile model table) files Done before after → StoresTable model table files after
-stores-done model table files before after a = stores-table model table files after a.outcome a.may (subst MayPrint (sym a.ends) tt) a.stored
+stores-done : (model table : List ℕ) (files : Files) (cause : Cause) (before after : Outside) → MayPrint cause → Completes (CallsForCompile model table) files cause before after
+    → StoresTable model table files cause before after
+stores-done model table files cause before after prints a =
+    stores-table model table files cause before after a.outcome a.may (subst MayPrint (sym a.ends) prints) a.stored (prints-whole_line cause before after a.outcome.output prints a.printed)
 
-stores-output : (model table : List ℕ) (files : Files) (before after : Outside) → PrintsPart (compile_of (get files model) table) files before after → StoresTable model table files after
-stores-output model table files before after a = stores-table model table files after _ refl a.prints a.stored
+stores-output : (model table : List ℕ) (files : Files) (cause : Cause) (before after : Outside) → cause ≡ Output → PrintsPart (compile_of (get files model) table) files before after
+    → StoresTable model table files cause before after
+stores-output model table files cause before after is a =
+    stores-table model table files cause before after _ refl a.prints a.stored (prints-part_of_line cause before after (compile_of (get files model) table).output is a.printed)
 
 pub compile-worth : (model table : List ℕ) (cause : Cause) (before after : Outside) → Answers (CallsForCompile model table) cause before after
     → IfSome before.holds (λ files. CompileIsWorth model table files cause before after)
 compile-worth model table cause before after answers =
     told-map before.holds _ _ (λ files agrees. record {
       stored = λ either. ⊎_elim
-          (λ (is : cause ≡ Done). stores-done model table files before after (subst (λ (c : Cause). Agrees (CallsForCompile model table) files c before after) is agrees))
-          (λ (is : cause ≡ Output). stores-output model table files before after (subst (λ (c : Cause). Agrees (CallsForCompile model table) files c before after) is agrees)) either;
+          (λ (may : MayPrint cause). stores-done model table files cause before after may (completed (CallsForCompile model table) files cause before after may agrees))
+          (λ (is : cause ≡ Output). stores-output model table files cause before after is (subst (λ (c : Cause). Agrees (CallsForCompile model table) files c before after) is agrees)) either;
       not_refused = λ bytes m says.
-          not_refused (CallsForCompile model table) files cause before after
-          (λ o called. prints-cause o _ (called ∙ read-model files model bytes m (rest_of_compile table) says) tt) answers.has_cause agrees;
+          done_unless_failed (CallsForCompile model table) files cause before after
+          (λ o called. ap (λ (p : Outcome). p.cause) (called ∙ read-model files model bytes m (rest_of_compile table) says)) answers.has_cause agrees;
     }) answers.told
