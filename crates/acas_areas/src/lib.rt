@@ -11,6 +11,6 @@ mod steps;
 
 pub use fineness::{HOLD_PARTS, PULL_PARTS, RATE_PARTS, TIME_PARTS};
 pub use halving::{Pass, halve};
-pub use laws::limits_in_numbers;
+pub use laws::{limits_in_numbers, structs_stand_for_their_numbers};
 pub use parts::{Asked, BoxState, Chase, Extreme, Moment, Window};
 pub use steps::{PULL_STEPS, RATE_STEPS, TIME_STEPS};

@@ -6,6 +6,7 @@
 
 mod areas;
 mod audit_box;
+mod box_laws;
 mod boxes;
 mod flight;
 mod intruder_laws;
@@ -17,6 +18,7 @@ mod verdict;
 
 pub use areas::{area_of_cell, between};
 pub use audit_box::AuditBox;
+pub use box_laws::boxes_stand_for_their_numbers;
 pub use boxes::Boxes;
 pub use flight::{Flight, Segment, Witness};
 pub use intruder_laws::{intruders_fly_within_two_numbers, meetings_in_numbers, races_in_numbers};
