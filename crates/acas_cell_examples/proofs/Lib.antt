@@ -3,3 +3,4 @@ pub mod Nearest
 pub mod Shown
 pub mod ShownMeeting
 pub mod Issued
+pub mod Halves

@@ -3,3 +3,4 @@ pub mod Encounters
 pub mod Witnesses
 pub mod ClearCells
 pub mod Reports
+pub mod Hunted

@@ -121,3 +121,20 @@ met n d speed = record {
   intruder_first = Some (part (over (pos 1) 1) (over (pos 50) 1));
   intruder_second = Some (part (over (pos 1) 1) (over (pos 0) 1));
 }
+
+-- Every number but the altitude is over 2 or whole: from half a ft/min, 1 s at that rate and half a second at 100 ft/min per second, at a
+-- range of 750.5 ft and 250.5 ft/s, so far below the intruder, which flies at half a ft/min.
+abbrev pub seen_in_halves : ℤ → Witness
+seen_in_halves altitude = record {
+  range = over (pos 1501) 2;
+  speed = over (pos 501) 2;
+  flight = record {
+    time = over (pos 3) 2;
+    h = altitude;
+    v0 = over (pos 1) 2;
+    v1 = over (pos 1) 2;
+    hold = Some (over (pos 1) 1);
+    first = Some (record { duration = over (pos 1) 2; acceleration = over (pos 100) 1 });
+    second = None;
+  };
+}

@@ -7,6 +7,7 @@ mod boxes;
 mod cells;
 mod clear_cells;
 mod decisions;
+mod hunts;
 mod issue;
 mod lines;
 mod meetings;
@@ -30,6 +31,7 @@ pub use clear_cells::{
 pub use decisions::{
     blocks_are_decided, decided_numbers_are_one, decisions_are_summed, sets_are_exact_or_not,
 };
+pub use hunts::the_low_course_is_tried_first;
 pub use issue::{
     advices_are_issued, issued_advices_are_one, layers_advise_or_not, vertices_are_nearest_or_not,
 };
@@ -48,5 +50,8 @@ pub use reports::{
     lines_are_left_out_or_not, reports_are_of_rulings_or_not, reports_are_written,
     rulings_are_counted, rulings_are_in_order,
 };
-pub use rulings::{danger_is_shown_or_not, rulings_are_by_the_rule};
+pub use rulings::{
+    danger_is_shown_or_not, danger_is_shown_over_two_or_not, rulings_are_by_the_rule,
+    witnesses_are_of_the_first_time,
+};
 pub use seconds::{contact_is_within_the_second, fractions_are_near, separations_are_worked_out};

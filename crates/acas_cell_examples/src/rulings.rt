@@ -1,10 +1,16 @@
 //! Witnesses that show danger, and which rulings they are not.
 ghost use Rattle.std.specs.Prelude.{pos};
+ghost use Rattle.acas_frac.specs.Fraction.{Same};
+ghost use Rattle.acas_flight.specs.Clear.{area_of_cell};
 ghost use Rattle.acas_flight.specs.State.{IsInCell};
+ghost use Rattle.acas_flight_examples.specs.Flown.{climbing, level, level_area};
+ghost use Rattle.acas_flight_examples.specs.Numbers.{over, times};
+ghost use Rattle.acas_rulings.specs.declared.flight.Flight.{Flight};
+ghost use Rattle.acas_rulings.specs.Witness.{IsFlightInContact, IsWitnessOf};
 ghost use Rattle.acas_rulings.specs.Rulings.{IsRulingOfCell, IsWitnessOfCell, ShowsDanger};
 ghost use Rattle.acas_rulings.specs.declared.ruling.Ruling.TheVariants.{Certified, Reported};
 ghost use Rattle.acas_cell_examples.specs.Tabled.{stacked, under_climb};
-ghost use Rattle.acas_cell_examples.specs.Witnesses.{half_a_second, seen};
+ghost use Rattle.acas_cell_examples.specs.Witnesses.{half_a_second, seen, seen_in_halves};
 
 /// In a hold of 1 s at 0 ft/min and 1 s at 100 ft/min per second an aircraft climbs 100 ticks, which is where the intruder flies, and a
 /// range of 1000 ft at 250 ft/s comes to the radius of 500 ft. At 500 ft/s one of 1500 ft does. At 249 ft/s, which is no closing speed of
@@ -22,6 +28,27 @@ pub fn danger_is_shown_or_not()
         (pos 2)) → ⊥ }
     ensures shorter { ShowsDanger stacked 1 (IsInCell stacked 1 0 0 0)
         (seen (pos 1000) 1 (pos 250) (pos 1)) → ⊥ }
+{}
+
+/// Over 2 the state has twice the numbers that are printed: 1501 and 501, 200 ticks for 100, and 1 for each rate. In 3 of 2 parts of a
+/// second the aircraft climbs 26.5 ticks, and the intruder 1.5. An altitude of 240 ticks is above the cell, of which 120 are the end, and
+/// so it is above the area of the cell.
+pub fn danger_is_shown_over_two_or_not()
+    ensures shown { ShowsDanger stacked 1 (IsInCell stacked 1 0 0 0) (seen_in_halves (pos 100)) }
+    ensures too_high { ShowsDanger stacked 1 (IsInCell stacked 1 0 0 0) (seen_in_halves (pos 240)) → ⊥ }
+    ensures flight { IsFlightInContact 120 climbing (area_of_cell stacked 0 0 0) (times (over (pos 1) 1) (over (pos 3) 1))
+        (seen_in_halves (pos 100)).flight }
+    ensures flight_too_high { IsFlightInContact 120 climbing (area_of_cell stacked 0 0 0) (times (over (pos 1) 1) (over (pos 3) 1))
+        (seen_in_halves (pos 240)).flight → ⊥ }
+    ensures flight_too_late { IsFlightInContact 120 climbing (area_of_cell stacked 0 0 0) (times (over (pos 2) 1) (over (pos 3) 1))
+        (seen_in_halves (pos 100)).flight → ⊥ }
+{}
+
+/// Where both fly level at one altitude all gaps are the same, so that a witness of the window from 1 s to 6 s is one of 1 s: of the first
+/// time at which the gap is least.
+pub fn witnesses_are_of_the_first_time()
+    ensures { (f : Flight) → IsWitnessOf 120 level level_area (times (over (pos 1) 1) (over (pos 6) 1)) f →
+        Same f.time (over (pos 1) 1) }
 {}
 
 /// So the lower cell of 1 second is not certified under climb. The witness of the rule has the least closing speed: the danger at

@@ -1,1 +1,2 @@
 pub mod UpToIt
+pub mod Level

@@ -3,7 +3,7 @@ use Rattle.std.specs.Prelude.{ℕ, ℤ, pos, ◌*◌, Bool, nat_eq, ◌||◌, Li
 use Rattle.acas_areas.specs.Flights.{Flight, flight}
 use Rattle.acas_areas.specs.Passes.{Pass, moving_down}
 use Rattle.acas_areas.specs.Search.{Search, passes}
-use Rattle.acas_flight_examples.specs.Flown.{climbing, near_area}
+use Rattle.acas_flight_examples.specs.Flown.{climbing, level, level_area, near_area}
 use Rattle.acas_flight_examples.specs.Numbers.{from_to, over}
 
 -- from 500 ft/min to 1000, with 100 ft/min per second after a hold of 2 s; the intruder starts at 1200 ticks and flies at 100 ft/min
@@ -45,7 +45,11 @@ searched = record { demand = climbing; area = near_area; low = over (pos 1) 2; h
 abbrev pub past_hi : Search
 past_hi = record searched { area = record near_area { own = from_to (pos 500) (pos 2500) } }
 
--- the square of its unit, and an eighth of that
+-- two aircraft that fly level at one altitude, from 1 s to 2 s
+abbrev pub level_search : Search
+level_search = record { demand = level; area = level_area; low = over (pos 1) 1; high = over (pos 2) 1 }
+
+-- the square of the unit of the search over the small model's area, and an eighth of that
 abbrev pub square : ℕ
 square = 12_288 * 12_288
 

@@ -1,5 +1,6 @@
 //! The times of the least and of the greatest gap.
-ghost use Rattle.std.specs.Prelude.{pos};
+ghost use Rattle.std.specs.Prelude.{◌≡◌, pos};
+ghost use Rattle.acas_frac.specs.Fraction.{Fraction};
 ghost use Rattle.acas_flight.specs.Extremes.{IsHighExtreme, IsLowExtreme};
 ghost use Rattle.acas_flight_examples.specs.Flown.{climbing, level, level_area, near_area};
 ghost use Rattle.acas_flight_examples.specs.Numbers.{minus, over, times};
@@ -31,8 +32,12 @@ pub fn other_times_are_no_extremes()
         (pos 1) 0) → ⊥ }
 {}
 
-/// And 1 s is that time.
+/// And 1 s is that time, and no other is.
 pub fn the_first_of_equal_times_is_extreme()
     ensures low { IsLowExtreme level level_area (times (over (pos 1) 1) (over (pos 6) 1)) (over (pos 1) 1) }
     ensures high { IsHighExtreme level level_area (times (over (pos 1) 1) (over (pos 6) 1)) (over (pos 1) 1) }
+    ensures low_alone { (f : Fraction) → IsLowExtreme level level_area (times (over (pos 1) 1) (over (pos 6) 1)) f
+        → f ≡ over (pos 1) 1 }
+    ensures high_alone { (f : Fraction) → IsHighExtreme level level_area (times (over (pos 1) 1) (over (pos 6) 1)) f
+        → f ≡ over (pos 1) 1 }
 {}

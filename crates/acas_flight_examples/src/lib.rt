@@ -23,6 +23,7 @@ pub use responses::{climbs_are_worked_out, responses_meet_or_not, segments_follo
 pub use searches::{
     flights_are_from_an_area_or_not, own_rates_have_their_own_pull,
     passes_of_a_search_are_worked_out, responses_are_worked_out, searches_are_worked_out,
+    the_low_flight_is_tried_first,
 };
 pub use states::{
     boxes_are_flown_in_time_or_not, fractions_are_compared, rates_are_on_their_own_axes,

@@ -3,10 +3,10 @@ ghost use Rattle.std.specs.Prelude.{◌≡◌, pos, neg_ℤ, ◌*◌, [], ◌∷
 ghost use Rattle.acas_flight.specs.Values.{IsOver};
 ghost use Rattle.acas_areas.specs.Flights.{Flight, flight};
 ghost use Rattle.acas_areas.specs.Responses.{IsApproachFor, IsFlightFrom, IsHoldFor, IsResponse, IsToward, acceleration, fine, scale};
-ghost use Rattle.acas_areas.specs.Search.{grain, high_flight, high_time, low_flight, low_time, over_square, own_pass, pull_step, rate_step, time_step, unit};
+ghost use Rattle.acas_areas.specs.Search.{IsFound, grain, high_flight, high_time, low_flight, low_time, over_square, own_pass, pull_step, rate_step, time_step, unit};
 ghost use Rattle.acas_flight_examples.specs.Flown.{climbing, near_area};
 ghost use Rattle.acas_flight_examples.specs.Numbers.{minus, over, segment, times};
-ghost use Rattle.acas_flight_examples.specs.Searched.{after_a_hold, eighth, past_hi, searched, seconds, square, steps, ways};
+ghost use Rattle.acas_flight_examples.specs.Searched.{after_a_hold, eighth, level_search, past_hi, searched, seconds, square, steps, ways};
 
 /// The denominators 2 and 3 make the grain 6, and over 2048 times that, 12,288, the two times are 6144 and 28,672. A 256th of a second
 /// is 48 then, and a 2048th of a ft/min per second is 6. An eighth of a ft/min is 12,288 * 12,288 / 8, that is 18,874,368. Pulls of 100
@@ -58,6 +58,15 @@ pub fn own_rates_have_their_own_pull()
     ensures second { (own_pass past_hi).point 1
         ≡ flight 28_672 (pos 10) (pos (4001 * eighth)) (pos (20 * square)) (pos (2000 * square)) 2_457_600 0 }
     ensures last { (own_pass past_hi).point 16_000 ≡ high_flight past_hi }
+{}
+
+/// Where both fly level at one altitude, the low flight, of 1 s, and the high flight, of 2 s, are in contact at once. The low one is
+/// tried first: it is found, and no other.
+#[tactic(auto, unfolding(acas_flight::specs::Curves::approach))]
+pub fn the_low_flight_is_tried_first()
+    ensures found { IsFound 120 level_search (low_flight level_search) }
+    ensures alone { (c : Flight) → IsFound 120 level_search c → c ≡ low_flight level_search }
+    ensures not_high { IsFound 120 level_search (high_flight level_search) → ⊥ }
 {}
 
 /// Over 3 a flight from the area lasts at most 21 for 7 s, starts at 10 to 1200 ticks, at own rates of 4500 to 5400 and intruder rates
