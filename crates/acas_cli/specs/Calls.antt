@@ -8,7 +8,7 @@ use Rattle.acas_command.specs.declared.status.Cause.{Cause}
 use Rattle.acas_command.specs.declared.status.Cause.TheVariants.{Words}
 use Rattle.acas_cell_commands.specs.AuditCalls.{CallsForAudit}
 use Rattle.acas_box_commands.specs.RegionsCalls.{CallsForRegions}
-use Rattle.acas_drill.specs.Calls.{CallsForDrill}
+use Rattle.acas_drill.specs.Calls.{CallsForDrill, EndsDrill}
 use Rattle.acas_encounter_commands.specs.Calls.{CallsForReplay}
 use Rattle.acas_box_commands.specs.ManoeuvreCalls.{CallsForManoeuvre}
 use Rattle.acas_risk_commands.specs.Calls.{CallsForRisk}
@@ -31,10 +31,11 @@ CallsFor (Replay model table encounter) = CallsForReplay model table encounter
 CallsFor (Migrate model table target) = CallsForMigrate model table target
 CallsFor (Drill number) = CallsForDrill number
 
--- a drill leaves the folder as it was, and is answered so whatever files the folder holds, told or not
+-- a drill leaves the folder as it was, and is answered so whatever files the folder holds, told or not; no folder fails it
 pub record AnswersDrill (number : ℕ) (cause : Cause) (before after : Outside) : Type 0 where
   pub alone : after ≡ record before { written = after.written; output_faults = after.output_faults }
   pub answered : (holds : Option Files) → Answers (CallsForDrill number) cause (record before { holds = holds }) (record after { holds = holds })
+  pub ends : EndsDrill cause
 
 -- the answer to a form
 abbrev pub AnswersCall : Form → Cause → Outside → Outside → Type 0

@@ -1,9 +1,10 @@
 -- What a run counts.
 use Rattle.std.specs.Prelude.{◌≡◌, ◌≤◌, ◌^◌, ℕ, List, Option, Some, None}
 use Rattle.acas_outside.specs.Files.{Files}
+use Rattle.acas_command.specs.Answers.{EndsLooking}
 use Rattle.acas_command.specs.declared.status.Cause.{Cause}
 use Rattle.acas_cell_commands.specs.Decisions.{CountsAudit}
-use Rattle.acas_table_commands.specs.Work.{CountsSweep}
+use Rattle.acas_table_commands.specs.Work.{CountsSweep, EndsUnswept}
 use Rattle.acas_cli_words.specs.Words.{Form, Values, Compile, Check, Risk, Audit, Regions, Manoeuvre, Safeable, Replay, Migrate, Drill}
 use Rattle.acas_cli.specs.declared.work.Work.{Work}
 
@@ -19,9 +20,9 @@ pub record NoneFell (old new : Work) : Type 0 where
   pub turned : old.turned ≤ new.turned
   pub decisions : old.decisions ≤ new.decisions
 
--- a sweep over the table of a model is counted, and no decision
-pub record CountsTable (model : List ℕ) (holds : Option Files) (cause : Cause) (old new : Work) : Type 0 where
-  pub sweep : CountsSweep model holds cause old.backups new.backups old.turned new.turned
+-- a sweep over the table of a model is counted, but where the command ends with such a cause before it, and no decision
+pub record CountsTable (EndsBefore : Cause → Type 0) (model : List ℕ) (holds : Option Files) (cause : Cause) (old new : Work) : Type 0 where
+  pub sweep : CountsSweep EndsBefore model holds cause old.backups new.backups old.turned new.turned
   pub decisions : new.decisions ≡ old.decisions
 
 -- the decisions of an audit are counted, and nothing else
@@ -32,8 +33,8 @@ pub record CountsReport (model table : List ℕ) (holds : Option Files) (cause :
 
 -- what a form counts, by what the folder held before
 abbrev pub CountsFor : Form → Option Files → Cause → Work → Work → Type 0
-CountsFor (Values model) holds cause old new = CountsTable model holds cause old new
-CountsFor (Compile model table) holds cause old new = CountsTable model holds cause old new
+CountsFor (Values model) holds cause old new = CountsTable EndsLooking model holds cause old new
+CountsFor (Compile model table) holds cause old new = CountsTable EndsUnswept model holds cause old new
 CountsFor (Check model table) holds cause old new = new ≡ old
 CountsFor (Risk model table) holds cause old new = new ≡ old
 CountsFor (Audit model table which) holds cause old new = CountsReport model table holds cause old new

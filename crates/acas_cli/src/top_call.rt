@@ -31,8 +31,9 @@ use std::alloc::Global;
 /// folder, with its output on `out` and, where it is not done, one line on `err`.
 ///
 /// It raises the counts of `work`, each of which is at most 2^63 before, as those of a new one are. The same one may go
-/// from run to run: no count falls, so its counts are those of all runs. No clause bounds how far a run that ends
-/// otherwise than done raises them, so before the next run a caller asks [`Work::has_room`], or takes a new one.
+/// from run to run: no count falls, so its counts are those of all runs. A run that is refused, or ends for want of
+/// memory, leaves them as they were. No clause bounds how far one raises them whose output failed, or whose folder did
+/// as it stored a table, so before the next run a caller asks [`Work::has_room`], or takes a new one.
 pub fn run<F: Folder, O: Sink, E: Sink>(
     alloc: Global,
     words: &[String],
@@ -47,7 +48,8 @@ pub fn run<F: Folder, O: Sink, E: Sink>(
     // Words of no form are refused, and no others.
     ensures words { (result.cause ≡ Cause.Words) ↔ (form_of (map string_bytes words.now) ≡ None) }
 
-    // Each answer has its cause, and what is printed and stored is what the words call for.
+    // Each answer has its cause, what is printed and stored is what the words call for, and of the files that the form
+    // reads no more bytes are taken than they have.
     ensures answers { AnswersForm (form_of (map string_bytes words.now)) result.cause
         (outside F.Folder O.Sink folder.old out.old) (outside F.Folder O.Sink folder.new out.new) }
 
@@ -55,7 +57,8 @@ pub fn run<F: Folder, O: Sink, E: Sink>(
     ensures headline { Headline (form_of (map string_bytes words.now)) result.cause
         (outside F.Folder O.Sink folder.old out.old) (outside F.Folder O.Sink folder.new out.new) }
 
-    // What is counted: by whole numbers where the command is done, and what is not named for a command stands.
+    // What is counted: by whole numbers where the command is done, over every folder, and nothing where it ended before
+    // it had anything to count; what is not named for a command stands.
     ensures work { CountsForm (form_of (map string_bytes words.now)) (F.holds folder.old) result.cause
         work.old work.new }
     ensures rising { NoneFell work.old work.new }

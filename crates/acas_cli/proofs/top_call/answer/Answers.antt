@@ -66,7 +66,7 @@ returns-in-Drill g c =
     let after : Outside = outside g.F.Folder g.O.Sink c.args.folder.now c.drill.new.out in
     rw c.in-Drill.is
     (record {
-      answers = record { alone = refl {a = after}; answered = λ holds. c.drill.ensures.answers (record before { holds = holds }) };
+      answers = record { alone = refl {a = after}; answered = λ holds. c.drill.ensures.answers (record before { holds = holds }); ends = c.drill.ensures.ends };
       headline = c.drill.ensures.headline before;
       work = refl;
       rising = record { backups = omega arith; turned = omega arith; decisions = omega arith };
