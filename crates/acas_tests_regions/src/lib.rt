@@ -14,3 +14,5 @@ mod print;
 mod reached;
 #[cfg(test)]
 mod rows;
+#[cfg(test)]
+mod verdicts;
