@@ -16,3 +16,6 @@ pub mod SomeOutcome
 pub mod EndedRuns
 pub mod DrillsAlone
 pub mod TwoRuns
+pub mod Headlines
+pub mod WordForms
+pub mod FormNumbers

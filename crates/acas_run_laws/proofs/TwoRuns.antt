@@ -1,5 +1,5 @@
 -- A table that is stored in one run and checked or migrated in another, or checked in one and audited in another.
-use Rattle.std.proofs.Common.{◌≡◌, ℕ, List, Option, Some, sym, ap, subst, ◌∙◌, inl, refl}
+use Rattle.std.proofs.Common.{◌≡◌, ℕ, List, Option, Some, sym, ap, subst, ◌∙◌, inl}
 use Rattle.std.specs.Prelude.{IfSome, IsSomeAnd}
 use Rattle.std.specs.FinMap.{get, insert}
 use Rattle.sha2.specs.Sha256.{sha256}
@@ -12,7 +12,7 @@ use Rattle.acas_table_text.specs.Shape.{shape_of}
 use Rattle.acas_table_text.specs.declared.format.Format.{Format}
 use Rattle.acas_table_text.specs.declared.format.Format.TheVariants.{Layered}
 use Rattle.acas_table_text_laws.proofs.TextFormats.{format-text}
-use Rattle.acas_command.specs.Worth.{IsNotRefused}
+use Rattle.acas_command.specs.Worth.{IsDoneUnlessFailed, IsNotRefused}
 use Rattle.acas_command.specs.declared.status.Cause.{Cause}
 use Rattle.acas_command.specs.declared.status.Cause.TheVariants.{Done}
 use Rattle.acas_report_lines.specs.declared.counts.Which.{Which}
@@ -23,11 +23,11 @@ use Rattle.acas_cli.specs.Headline.{Headline}
 use Rattle.acas_cli_words.specs.Words.{Audit, Check, Compile, Migrate}
 
 pub stored-accepted : (model table : List ℕ) (files : Files) (cause : Cause) (before between again after : Outside) → (model ≡ table → ⊥) → before.holds ≡ Some files
-    → Headline (Some (Compile model table)) Done before between → again.holds ≡ between.holds → Headline (Some (Check model table)) cause again after → IsNotRefused cause again after
+    → Headline (Some (Compile model table)) Done before between → again.holds ≡ between.holds → Headline (Some (Check model table)) cause again after → IsDoneUnlessFailed cause again after
 stored-accepted model table files cause before between again after apart told compiled kept checked =
     let stored : CompileIsWorth model table files Done before between =
     subst (λ (o : Option Files). IfSome o (λ fs. CompileIsWorth model table fs Done before between)) told compiled in
-    let t = stored.stored (inl refl) in
+    let t = stored.stored (inl tt) in
     let text : List ℕ = table_text Layered (sha256 t.bytes) t.m.grid t.t in
     let now : Files = insert files table text in
     let worth : CheckIsWorth model table now cause again after =
@@ -45,21 +45,21 @@ pub accepted-audited : (model table : List ℕ) (which : Which) (files : Files) 
 accepted-audited model table which files cause before between again after told checked kept audited =
     let worth : CheckIsWorth model table files Done before between =
     subst (λ (o : Option Files). IfSome o (λ fs. CheckIsWorth model table fs Done before between)) told checked in
-    let t = worth.done refl in
+    let t = worth.accepted tt in
     let audits : AuditIsWorth model table which files cause again after =
     subst (λ (o : Option Files). IfSome o (λ fs. AuditIsWorth model table which fs cause again after)) kept audited in
     audits.not_refused t.m t.t t.says
 
 -- what a run of `migrate` has stored, where the files are told
 migrates : (model table target : List ℕ) (files : Files) (before after : Outside) → before.holds ≡ Some files → Headline (Some (Migrate model table target)) Done before after
-    → MigratesTable model table target files after
+    → MigratesTable model table target files Done before after
 migrates model table target files before after told headline =
     let worth : MigrateIsWorth model table target files Done before after =
     subst (λ (o : Option Files). IfSome o (λ fs. MigrateIsWorth model table target fs Done before after)) told headline in
-    worth.stored (inl refl)
+    worth.stored (inl tt)
 
 pub migrated-accepted : (model table target : List ℕ) (files : Files) (cause : Cause) (before between again after : Outside) → (model ≡ target → ⊥) → before.holds ≡ Some files
-    → Headline (Some (Migrate model table target)) Done before between → again.holds ≡ between.holds → Headline (Some (Check model target)) cause again after → IsNotRefused cause again after
+    → Headline (Some (Migrate model table target)) Done before between → again.holds ≡ between.holds → Headline (Some (Check model target)) cause again after → IsDoneUnlessFailed cause again after
 migrated-accepted model table target files cause before between again after apart told migrated kept checked =
     let t = migrates model table target files before between told migrated in
     let text : List ℕ = table_text Layered (sha256 t.says.bytes) t.m.grid t.t in
@@ -75,8 +75,9 @@ migrated-accepted model table target files cause before between again after apar
     })
 
 -- a run of `migrate` whose table is in version 2 already stores it again
-again-same : (model table target text : List ℕ) (files : Files) (after : Outside) → get files table ≡ Some text → format_of text ≡ Layered → MigratesTable model table target files after → IsSomeAnd after.holds (λ now. get now target ≡ Some text)
-again-same model table target text files after there layered t =
+again-same : (model table target text : List ℕ) (files : Files) (before after : Outside) → get files table ≡ Some text → format_of text ≡ Layered
+    → MigratesTable model table target files Done before after → IsSomeAnd after.holds (λ now. get now target ≡ Some text)
+again-same model table target text files before after there layered t =
     let s = t.says in
     let f : Format = s.accepted.format in
     let both = sym s.file ∙ there in
@@ -99,10 +100,10 @@ pub compiled-again : (model table target text : List ℕ) (files : Files) (befor
 compiled-again model table target text files before between again after told compiled kept migrated held =
     let stored : CompileIsWorth model table files Done before between =
     subst (λ (o : Option Files). IfSome o (λ fs. CompileIsWorth model table fs Done before between)) told compiled in
-    let t = stored.stored (inl refl) in
+    let t = stored.stored (inl tt) in
     let first : List ℕ = table_text Layered (sha256 t.bytes) t.m.grid t.t in
     let same : first ≡ text = stored-text files table first text between.holds t.stored held in
-    again-same model table target text (insert files table first) after (get-insert_same files table first ∙ ap (λ (l : List ℕ). Some l) same)
+    again-same model table target text (insert files table first) again after (get-insert_same files table first ∙ ap (λ (l : List ℕ). Some l) same)
     (ap format_of (sym same) ∙ format-text Layered (sha256 t.bytes) (shape_of t.m.grid) (layers_of t.m.grid t.t))
     (migrates model table target (insert files table first) again after (kept ∙ t.stored) migrated)
 
@@ -113,6 +114,6 @@ migrated-again model table target last text files before between again after tol
     let t = migrates model table target files before between told migrated in
     let first : List ℕ = table_text Layered (sha256 t.says.bytes) t.m.grid t.t in
     let same : first ≡ text = stored-text files target first text between.holds t.stored held in
-    again-same model target last text (insert files target first) after (get-insert_same files target first ∙ ap (λ (l : List ℕ). Some l) same)
+    again-same model target last text (insert files target first) again after (get-insert_same files target first ∙ ap (λ (l : List ℕ). Some l) same)
     (ap format_of (sym same) ∙ format-text Layered (sha256 t.says.bytes) (shape_of t.m.grid) (layers_of t.m.grid t.t))
     (migrates model target last (insert files target first) again after (kept ∙ t.stored) twice)

@@ -11,6 +11,10 @@ pub record HasNoFault (before after : Outside) : Type 0 where
   pub output : after.output_faults ≡ before.output_faults
   pub output_room : before.output_faults < 2 ^ 64 - 1
 
+-- with the exit code 0 or 12
+abbrev pub EndsDone : Cause → Type 0
+EndsDone cause = (code_of cause ≡ 0) ⊎ (code_of cause ≡ 12)
+
 -- with the exit code 0, 1 or 12
 abbrev pub EndsWell : Cause → Type 0
 EndsWell cause = (code_of cause ≡ 0) ⊎ ((code_of cause ≡ 1) ⊎ (code_of cause ≡ 12))

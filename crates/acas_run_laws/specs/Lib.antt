@@ -3,3 +3,4 @@ pub mod Migrated
 pub mod Ends
 pub mod Refusals
 pub mod Outcomes
+pub mod Worked

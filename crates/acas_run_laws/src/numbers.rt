@@ -1,7 +1,10 @@
 //! Numbers of planes and of tables, below the runs.
-ghost use Rattle.std.specs.Prelude.{◌≡◌, ◌+◌, ◌∷◌, ◌++◌, [], ℕ, List, All, length, replicate, map, Option, Some, None};
+ghost use Rattle.std.specs.Prelude.{◌≡◌, ◌+◌, ◌-◌, ◌^◌, ◌∷◌, ◌++◌, [], ℕ, List, All, codes, length, replicate, map, pos, negsuc, Option, Some, None};
 ghost use Rattle.acas_units.specs.declared.pair.Entry.{Entry};
 ghost use Rattle.acas_units.specs.declared.pair.Pair.{Pair};
+ghost use Rattle.acas_outside.specs.Counts.{Rose, raised};
+ghost use Rattle.acas_outside.specs.Printed.{millionths_text};
+ghost use Rattle.acas_outside.specs.Printing.{below};
 ghost use Rattle.acas_plane.specs.Plane.{fresh, missing_in};
 ghost use Rattle.acas_table_text.specs.Faults.{more_fault};
 ghost use Rattle.acas_table_text.specs.Format.{length_of};
@@ -33,4 +36,26 @@ pub fn tables_are_too_long_by_one_byte()
     ensures two { more_fault 3 (1 ∷ 2 ∷ 3 ∷ 4 ∷ 5 ∷ []) ≡ Some (Length 3 4) }
     ensures one { more_fault 3 (1 ∷ 2 ∷ 3 ∷ 4 ∷ []) ≡ Some (Length 3 4) }
     ensures none { more_fault 3 (1 ∷ 2 ∷ 3 ∷ []) ≡ None }
+{}
+
+/// A count rises by what is counted, as far as 64 bits have room, and stands at their end.
+pub fn counts_stand_at_their_end()
+    ensures some { raised 5 3 ≡ 8 }
+    ensures last { raised (2 ^ 64 - 3) 2 ≡ 2 ^ 64 - 1 }
+    ensures more { raised (2 ^ 64 - 3) 7 ≡ 2 ^ 64 - 1 }
+    ensures rose { Rose 5 6 }
+    ensures stood { Rose (2 ^ 64 - 1) (2 ^ 64 - 1) }
+{}
+
+/// A number of millionths is printed with its sign, its whole units, a point and six digits.
+pub fn millionths_have_six_digits()
+    ensures some { millionths_text (pos 25082660) ≡ codes "25.082660" }
+    ensures none { millionths_text (pos 0) ≡ codes "0.000000" }
+    ensures below_zero { millionths_text (negsuc 1234566) ≡ codes "-1.234567" }
+    ensures a_millionth_below { millionths_text (negsuc 0) ≡ codes "-0.000001" }
+{}
+
+/// What is printed of each number below another goes from 0 up.
+pub fn parts_go_from_0_up()
+    ensures { below 3 (λ k. k ∷ []) ≡ 0 ∷ 1 ∷ 2 ∷ [] }
 {}
