@@ -1,11 +1,10 @@
 -- The flight in halves shows danger.
-use Rattle.std.proofs.Common.{◌%◌, ◌≡◌, ℕ, List, [], ◌∷◌, pos, refl, arith, rules}
+use Rattle.std.proofs.Common.{◌%◌, ◌≡◌, ℕ, [], ◌∷◌, pos, refl, arith, rules}
 use Rattle.std.specs.List.{All}
 use Rattle.std.proofs.lemmas.List.Elements.{All-from_recursion}
 use Rattle.std.proofs.lemmas.Nat.Gcd.{IsGcd-from_mod, IsGcd-from_zero}
 use Rattle.std.proofs.Math.Nat.{one-dvd}
 use Rattle.acas_frac.specs.Fraction.{IsReduced}
-use Rattle.acas_flight.specs.Response.{Segment}
 use Rattle.acas_flight.specs.State.{IsInCell}
 use Rattle.acas_flight.specs.Clear.{EndsInVerticalContact, area_of_cell}
 use Rattle.acas_flight.specs.Contact.{EndsInContact}
@@ -14,7 +13,6 @@ use Rattle.acas_flight_examples.specs.Numbers.{over, segment, state, times}
 use Rattle.acas_rulings.specs.Printed.{AreParts, a_part, flight_fractions, fractions_of, level, no_parts, segments_of}
 use Rattle.acas_rulings.specs.Rulings.{ShowsDanger}
 use Rattle.acas_rulings.specs.Witness.{IsFlightInContact}
-use Rattle.acas_rulings.specs.declared.flight.Segment as part
 use Rattle.acas_cell_examples.specs.Tabled.{stacked}
 use Rattle.acas_cell_examples.specs.Witnesses.{seen_in_halves}
 

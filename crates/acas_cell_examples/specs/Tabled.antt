@@ -6,6 +6,7 @@ use Rattle.acas_base.specs.Advices.{AdvicesData}
 use Rattle.acas_cells.specs.declared.block.Block.{Block}
 use Rattle.acas_cells.specs.declared.name.CellName.{CellName}
 use Rattle.acas_cells.specs.declared.set.AdviceSet.{AdviceSet}
+use Rattle.acas_audit_blocks.specs.Audits.{BlockAuditData}
 use Rattle.acas_audit_blocks.specs.declared.block_audit.CellSets.{CellSets}
 use Rattle.acas_flight_examples.specs.Flown.{small}
 
@@ -53,6 +54,10 @@ block i0 i1 j0 j1 k0 k1 = record { i0 = i0; i1 = i1; j0 = j0; j1 = j1; k0 = k0; 
 abbrev pub set : ℕ → AdviceSet
 set bits = record { bits = bits }
 
--- a cell is certified under the advices of some bits, and reported under those of others
-abbrev pub sets : ℕ → ℕ → CellSets
-sets certified reported = record { certified = set certified; reported = set reported }
+-- the sets of a cell with these bits: the advices under which it is certified, and those under which it is reported
+abbrev pub sets_of : ℕ → ℕ → CellSets
+sets_of certified reported = record { certified = set certified; reported = set reported }
+
+-- an audit of the model's two cells with these sets
+abbrev pub audit_of : List CellSets → BlockAuditData
+audit_of sets = record { altitudes = 2; own_rates = 1; intruder_rates = 1; sets = sets }

@@ -29,7 +29,8 @@ pub use clear_cells::{
     cells_are_not_safe_by_each_advisory, clear_cells_are_printed, reached_areas_are_worked_out,
 };
 pub use decisions::{
-    blocks_are_decided, decided_numbers_are_one, decisions_are_summed, sets_are_exact_or_not,
+    audits_are_exact_or_not, blocks_are_decided, decided_numbers_are_one, decisions_are_summed,
+    sets_are_exact_or_not,
 };
 pub use hunts::the_low_course_is_tried_first;
 pub use issue::{

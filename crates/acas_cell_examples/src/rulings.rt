@@ -42,6 +42,8 @@ pub fn danger_is_shown_over_two_or_not()
         (seen_in_halves (pos 240)).flight → ⊥ }
     ensures flight_too_late { IsFlightInContact 120 climbing (area_of_cell stacked 0 0 0) (times (over (pos 2) 1) (over (pos 3) 1))
         (seen_in_halves (pos 100)).flight → ⊥ }
+    ensures flight_not_lowest_terms { IsFlightInContact 120 climbing (area_of_cell stacked 0 0 0)
+        (times (over (pos 1) 1) (over (pos 3) 1)) (record (seen_in_halves (pos 100)).flight { time = over (pos 6) 4 }) → ⊥ }
 {}
 
 /// Where both fly level at one altitude all gaps are the same, so that a witness of the window from 1 s to 6 s is one of 1 s: of the first
