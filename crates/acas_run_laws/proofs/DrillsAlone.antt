@@ -1,16 +1,17 @@
 -- Drills over every folder.
-use Rattle.std.proofs.Common.{ℕ, [], Some}
+use Rattle.std.proofs.Common.{◌≡◌, ◌⊎◌, ℕ, [], Some, inl, inr, refl}
 use Rattle.std.specs.FinMap.{empty}
 use Rattle.acas_outside.specs.Files.{Files}
 use Rattle.acas_outside.specs.Outside.{Outside}
 use Rattle.acas_command.specs.Answers.{Agrees}
 use Rattle.acas_command.specs.Called.{MayPrint}
+use Rattle.acas_command.specs.Codes.{code_of}
 use Rattle.acas_command.specs.Outcome.{prints}
 use Rattle.acas_command.specs.declared.status.Cause.{Cause}
-use Rattle.acas_command.specs.declared.status.Cause.TheVariants.{Output}
+use Rattle.acas_command.specs.declared.status.Cause.TheVariants.{Done, Reported, Words, Absent, Model, Table, Input, Folder, Output, TooLong, Memory}
 use Rattle.acas_command.proofs.Reports.{IsPrinted, report-printed}
 use Rattle.acas_command.proofs.Completed.{completed}
-use Rattle.acas_drill.specs.Calls.{CallsForDrill, IsDrillBegun, IsDrillText}
+use Rattle.acas_drill.specs.Calls.{CallsForDrill, EndsDrill, IsDrillBegun, IsDrillText}
 use Rattle.acas_cli.specs.Calls.{AnswersDrill}
 
 abbrev pub no_files : Files
@@ -32,3 +33,17 @@ drill-printed number cause before after may a =
 
 pub drill-begun : (number : ℕ) (before after : Outside) → AnswersDrill number Output before after → IsDrillBegun number before.written after.written
 drill-begun number before after a = (agrees-alone number Output before after a).begun
+
+-- the exit codes of a drill
+pub drill-codes : (cause : Cause) → EndsDrill cause → (code_of cause ≡ 0) ⊎ ((code_of cause ≡ 1) ⊎ ((code_of cause ≡ 8) ⊎ (code_of cause ≡ 12)))
+drill-codes Done h = inl refl
+drill-codes Reported h = inr (inl refl)
+drill-codes Words h = absurd h
+drill-codes (Absent role) h = absurd h
+drill-codes (Model fault) h = absurd h
+drill-codes (Table refusal) h = absurd h
+drill-codes (Input fault) h = absurd h
+drill-codes Folder h = absurd h
+drill-codes Output h = inr (inr (inl refl))
+drill-codes (TooLong role) h = absurd h
+drill-codes Memory h = inr (inr (inr refl))

@@ -60,7 +60,7 @@ part-one outcome_of files before after o part is = subst (λ (p : Outcome). Appe
 
 -- a part of a report
 part-report : (looks : Files → Outcome) (R : Files → ℕ → List ℕ → Type 0) (B : Files → Option (List ℕ) → Option (List ℕ) → Type 0) (files : Files) (before after : Outside) (o : Outcome)
-    → (calls_for_report looks R B).ends files o → MayPrint (looks files).cause → ((r : ℕ) (t : List ℕ) → R files r t → AppendsPart before.written after.written t)
+    → (calls_for_report [] looks R B).ends files o → MayPrint (looks files).cause → ((r : ℕ) (t : List ℕ) → R files r t → AppendsPart before.written after.written t)
     → AppendsPart before.written after.written o.output
 part-report looks R B files before after o ends goes_on part = ⊎_elim (λ r. absurd (r.refused goes_on)) written ends
   where

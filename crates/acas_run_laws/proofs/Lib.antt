@@ -19,3 +19,5 @@ pub mod TwoRuns
 pub mod Headlines
 pub mod WordForms
 pub mod FormNumbers
+pub mod TakenOnce
+pub mod Counted

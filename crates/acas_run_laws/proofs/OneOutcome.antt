@@ -57,7 +57,7 @@ IsOneText R = (r s : ℕ) (t u : List ℕ) → R r t → R s u → (r ≡ s) × 
 
 pub one-report : (looks : Files → Outcome) (R : Files → ℕ → List ℕ → Type 0) (B : Files → Option (List ℕ) → Option (List ℕ) → Type 0) (files : Files) (o p : Outcome)
     → ((r : ℕ) (t : List ℕ) → R files r t → MayPrint (looks files).cause) → IsOneText (R files)
-    → (calls_for_report looks R B).ends files o → (calls_for_report looks R B).ends files p → o ≡ p
+    → (calls_for_report [] looks R B).ends files o → (calls_for_report [] looks R B).ends files p → o ≡ p
 one-report looks R B files o p goes_on one first second =
     ⊎_elim (λ r. ⊎_elim (λ s. both_refused r s) (λ w. absurd (r.refused (goes_on w.reported w.text w.report))) second)
     (λ w. ⊎_elim (λ s. absurd (s.refused (goes_on w.reported w.text w.report))) (λ v. both_written w v) second) first

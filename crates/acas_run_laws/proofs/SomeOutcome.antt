@@ -71,13 +71,13 @@ abbrev pub HasText : (ℕ → List ℕ → Type 0) → Type 0
 HasText R = (r : ℕ) × (t : List ℕ) × R r t
 
 some-report : (looks : Files → Outcome) (R : Files → ℕ → List ℕ → Type 0) (B : Files → Option (List ℕ) → Option (List ℕ) → Type 0) (files : Files)
-    → (MayPrint (looks files).cause → HasText (R files)) → (o : Outcome) × (calls_for_report looks R B).ends files o
+    → (MayPrint (looks files).cause → HasText (R files)) → (o : Outcome) × (calls_for_report [] looks R B).ends files o
 some-report looks R B files some = ⊎_elim written refused (prints_or_not (looks files).cause)
   where
-    written : MayPrint (looks files).cause → (o : Outcome) × (calls_for_report looks R B).ends files o
+    written : MayPrint (looks files).cause → (o : Outcome) × (calls_for_report [] looks R B).ends files o
     written may = let t = some may in (reports t.0 t.1, inr (record { reported = t.0; text = t.1; report = t.2; is = refl }))
 
-    refused : (¬ MayPrint (looks files).cause) → (o : Outcome) × (calls_for_report looks R B).ends files o
+    refused : (¬ MayPrint (looks files).cause) → (o : Outcome) × (calls_for_report [] looks R B).ends files o
     refused never = (looks files, inl (record { is = refl; refused = never }))
 
 -- ---- what stands in the files that are looked at

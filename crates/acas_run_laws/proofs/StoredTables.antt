@@ -1,5 +1,5 @@
 -- What `compile` and `migrate` leave under the name that they write, and what no form changes.
-use Rattle.std.proofs.Common.{◌≡◌, ℕ, ◌<◌, List, length, take, Option, Some, ◌⊎◌, inl, inr, ⊎_elim, refl, sym, ap, subst, ◌∙◌}
+use Rattle.std.proofs.Common.{◌≡◌, ℕ, ◌<◌, List, [], ◌∷◌, length, take, Option, Some, ◌⊎◌, inl, inr, ⊎_elim, refl, sym, ap, subst, ◌∙◌}
 use Rattle.std.specs.Prelude.{IsSomeAnd}
 use Rattle.std.specs.FinMap.{get, insert}
 use Rattle.sha2.specs.Sha256.{sha256}
@@ -55,7 +55,7 @@ module _ (model table : List ℕ) (files : Files) where
   pub compiled-whole : (cause : Cause) (before after : Outside) → Agrees (CallsForCompile model table) files cause before after → (code_of cause ≡ 0) ⊎ (code_of cause ≡ 8)
       → (digest : List ℕ) × (m : ModelData) × IsModelFile (get files model) digest m × (after.holds ≡ Some (insert files table (compiled_text digest m)))
   compiled-whole cause before after a e =
-      let h = written-whole table IsCompiledText (λ fs. compile_of (get fs model) table) files compile-goes_on compile-nothing cause before after a e in
+      let h = written-whole (model ∷ []) table IsCompiledText (λ fs. compile_of (get fs model) table) files compile-goes_on compile-nothing cause before after a e in
       (h.right.0, h.right.1, h.right.2, h.stored ∙ ap (λ (text : List ℕ). Some (insert files table text)) h.right.3)
 
   -- with that of the code 7
@@ -73,18 +73,18 @@ module _ (model table : List ℕ) (files : Files) where
         subst (λ (text : List ℕ). h.count < length text) h.right.3 h.proper,
         h.stored ∙ ap (λ (text : List ℕ). Some (insert files table (take h.count text))) h.right.3,
       ))
-      (written-part table IsCompiledText (λ fs. compile_of (get fs model) table) files compile-goes_on compile-nothing cause before after a e)
+      (written-part (model ∷ []) table IsCompiledText (λ fs. compile_of (get fs model) table) files compile-goes_on compile-nothing cause before after a e)
 
   -- with all other causes
   pub compiled-none : (cause : Cause) (before after : Outside) → Agrees (CallsForCompile model table) files cause before after
       → (code_of cause ≡ 0 → ⊥) → (code_of cause ≡ 7 → ⊥) → (code_of cause ≡ 8 → ⊥) → after.holds ≡ Some files
   compiled-none cause before after a done folder output =
-      written-none table IsCompiledText (λ fs. compile_of (get fs model) table) files compile-goes_on compile-nothing cause before after a done folder output
+      written-none (model ∷ []) table IsCompiledText (λ fs. compile_of (get fs model) table) files compile-goes_on compile-nothing cause before after a done folder output
 
   compiled-other : (cause : Cause) (before after : Outside) (name : List ℕ) → Agrees (CallsForCompile model table) files cause before after → (name ≡ table → ⊥)
       → IsSomeAnd after.holds (λ now. get now name ≡ get files name)
   compiled-other cause before after name a apart =
-      written-other table IsCompiledText (λ fs. compile_of (get fs model) table) files compile-goes_on compile-nothing cause before after name a apart
+      written-other (model ∷ []) table IsCompiledText (λ fs. compile_of (get fs model) table) files compile-goes_on compile-nothing cause before after name a apart
 
 -- ---- `migrate`
 
@@ -120,7 +120,7 @@ module _ (model table target : List ℕ) (files : Files) where
   pub migrated-whole : (cause : Cause) (before after : Outside) → Agrees (CallsForMigrate model table target) files cause before after → (code_of cause ≡ 0) ⊎ (code_of cause ≡ 8)
       → (text : List ℕ) × IsMigratedText model table files text × (after.holds ≡ Some (insert files target text))
   migrated-whole cause before after a e =
-      let h = written-whole target (IsMigratedText model table files) (λ fs. migrate_of (get fs model) (get fs table) target) files migrate-goes_on migrate-nothing cause before after a e in
+      let h = written-whole (model ∷ table ∷ []) target (IsMigratedText model table files) (λ fs. migrate_of (get fs model) (get fs table) target) files migrate-goes_on migrate-nothing cause before after a e in
       (h.text, h.right, h.stored)
 
   pub migrated-part : (cause : Cause) (before after : Outside) → Agrees (CallsForMigrate model table target) files cause before after → code_of cause ≡ 7
@@ -129,17 +129,17 @@ module _ (model table target : List ℕ) (files : Files) where
   migrated-part cause before after a e =
       ⊎_elim (λ same. inl same)
       (λ (h : HoldsPart target (IsMigratedText model table files) files after.holds). inr (h.text, h.right, h.count, h.proper, h.stored))
-      (written-part target (IsMigratedText model table files) (λ fs. migrate_of (get fs model) (get fs table) target) files migrate-goes_on migrate-nothing cause before after a e)
+      (written-part (model ∷ table ∷ []) target (IsMigratedText model table files) (λ fs. migrate_of (get fs model) (get fs table) target) files migrate-goes_on migrate-nothing cause before after a e)
 
   pub migrated-none : (cause : Cause) (before after : Outside) → Agrees (CallsForMigrate model table target) files cause before after
       → (code_of cause ≡ 0 → ⊥) → (code_of cause ≡ 7 → ⊥) → (code_of cause ≡ 8 → ⊥) → after.holds ≡ Some files
   migrated-none cause before after a done folder output =
-      written-none target (IsMigratedText model table files) (λ fs. migrate_of (get fs model) (get fs table) target) files migrate-goes_on migrate-nothing cause before after a done folder output
+      written-none (model ∷ table ∷ []) target (IsMigratedText model table files) (λ fs. migrate_of (get fs model) (get fs table) target) files migrate-goes_on migrate-nothing cause before after a done folder output
 
   migrated-other : (cause : Cause) (before after : Outside) (name : List ℕ) → Agrees (CallsForMigrate model table target) files cause before after → (name ≡ target → ⊥)
       → IsSomeAnd after.holds (λ now. get now name ≡ get files name)
   migrated-other cause before after name a apart =
-      written-other target (IsMigratedText model table files) (λ fs. migrate_of (get fs model) (get fs table) target) files migrate-goes_on migrate-nothing cause before after name a apart
+      written-other (model ∷ table ∷ []) target (IsMigratedText model table files) (λ fs. migrate_of (get fs model) (get fs table) target) files migrate-goes_on migrate-nothing cause before after name a apart
 
 -- ---- every form
 

@@ -84,7 +84,7 @@ pub record HoldsPart (name : List ℕ) (IsText : List ℕ → Type 0) (files : F
   pub proper : count < length text
   pub stored : now ≡ Some (insert files name (take count text))
 
-module _ (name : List ℕ) (IsText : List ℕ → Type 0) (outcome_of : Files → Outcome) (files : Files)
+module _ (names : List (List ℕ)) (name : List ℕ) (IsText : List ℕ → Type 0) (outcome_of : Files → Outcome) (files : Files)
     (goes_on : MayPrint (outcome_of files).cause → GoesOn name IsText (outcome_of files)) (nothing : StoresNothing (outcome_of files)) where
   whole : (now : Option Files) (o : Outcome) → o ≡ outcome_of files → MayPrint o.cause → now ≡ Some (with_file o.file files) → HoldsWhole name IsText files now
   whole now o called may stored =
@@ -92,7 +92,7 @@ module _ (name : List ℕ) (IsText : List ℕ → Type 0) (outcome_of : Files �
       record { text = g.text; right = g.right; stored = stored ∙ ap (λ (p : Outcome). Some (with_file p.file files)) (called ∙ g.is) }
 
   -- with the causes of the codes 0 and 8
-  pub written-whole : (cause : Cause) (before after : Outside) → Agrees (calls_for outcome_of) files cause before after → (code_of cause ≡ 0) ⊎ (code_of cause ≡ 8)
+  pub written-whole : (cause : Cause) (before after : Outside) → Agrees (calls_for names outcome_of) files cause before after → (code_of cause ≡ 0) ⊎ (code_of cause ≡ 8)
       → HoldsWhole name IsText files after.holds
   written-whole Done before after a e = whole after.holds a.outcome a.may (subst MayPrint (sym a.ends) tt) a.stored
   written-whole Reported before after a e = absurd (omega arith)
@@ -122,7 +122,7 @@ module _ (name : List ℕ) (IsText : List ℕ → Type 0) (outcome_of : Files �
       kept none = none_stored (subst (λ (f : Option (List ℕ × List ℕ)). MayStorePart f files now) none stored)
 
   -- with that of the code 7
-  pub written-part : (cause : Cause) (before after : Outside) → Agrees (calls_for outcome_of) files cause before after → code_of cause ≡ 7
+  pub written-part : (cause : Cause) (before after : Outside) → Agrees (calls_for names outcome_of) files cause before after → code_of cause ≡ 7
       → (after.holds ≡ Some files) ⊎ HoldsPart name IsText files after.holds
   written-part Done before after a e = absurd (omega arith)
   written-part Reported before after a e = absurd (omega arith)
@@ -137,7 +137,7 @@ module _ (name : List ℕ) (IsText : List ℕ → Type 0) (outcome_of : Files �
   written-part Memory before after a e = absurd (omega arith)
 
   -- with all other causes
-  pub written-none : (cause : Cause) (before after : Outside) → Agrees (calls_for outcome_of) files cause before after
+  pub written-none : (cause : Cause) (before after : Outside) → Agrees (calls_for names outcome_of) files cause before after
       → (code_of cause ≡ 0 → ⊥) → (code_of cause ≡ 7 → ⊥) → (code_of cause ≡ 8 → ⊥) → after.holds ≡ Some files
   written-none Done before after a done folder output = absurd (done refl)
   written-none Reported before after a done folder output =
@@ -155,7 +155,7 @@ module _ (name : List ℕ) (IsText : List ℕ → Type 0) (outcome_of : Files �
   written-none Memory before after a done folder output = a
 
   -- whatever it answers, no other name holds anything else
-  pub written-other : (cause : Cause) (before after : Outside) (other : List ℕ) → Agrees (calls_for outcome_of) files cause before after → (other ≡ name → ⊥)
+  pub written-other : (cause : Cause) (before after : Outside) (other : List ℕ) → Agrees (calls_for names outcome_of) files cause before after → (other ≡ name → ⊥)
       → IsSomeAnd after.holds (λ now. get now other ≡ get files other)
   written-other cause before after other a apart = by_cause cause a
     where
@@ -172,7 +172,7 @@ module _ (name : List ℕ) (IsText : List ℕ → Type 0) (outcome_of : Files �
       part_there : HoldsPart name IsText files after.holds → IsSomeAnd after.holds (λ now. get now other ≡ get files other)
       part_there h = changed (take h.count h.text) h.stored
 
-      by_cause : (c : Cause) → Agrees (calls_for outcome_of) files c before after → IsSomeAnd after.holds (λ now. get now other ≡ get files other)
+      by_cause : (c : Cause) → Agrees (calls_for names outcome_of) files c before after → IsSomeAnd after.holds (λ now. get now other ≡ get files other)
       by_cause Done a = whole_there (written-whole Done before after a (inl refl))
       by_cause Reported a = same (written-none Reported before after a (λ e. omega arith) (λ e. omega arith) (λ e. omega arith))
       by_cause Words a = absurd a

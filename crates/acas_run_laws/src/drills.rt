@@ -12,7 +12,7 @@ ghost use Rattle.acas_cli_words.specs.Words.{Drill};
 
 /// A drill leaves the folder and its counts as they were. Whatever the folder tells, one that ends with the exit code 0 or 1 has printed
 /// the text of its number, and the code says whether a cell is reported; and one whose output failed has printed fewer bytes of it than
-/// all, and those the first.
+/// all, and those the first. It ends with the exit code 0, 1, 8 or 12, whatever stands in the folder's counts.
 pub fn drills_need_no_folder()
     ensures folder { (number : ℕ) (cause : Cause) (before after : Outside)
         → AnswersForm (Some (Drill number)) cause before after
@@ -28,4 +28,7 @@ pub fn drills_need_no_folder()
         → (reported : ℕ) × (text : List ℕ) × IsDrillText number reported text
         × (count : ℕ) × (count < length text)
         × (after.written ≡ append_known before.written (take count text)) }
+    ensures ends { (number : ℕ) (cause : Cause) (before after : Outside)
+        → AnswersForm (Some (Drill number)) cause before after
+        → (code_of cause ≡ 0) ⊎ ((code_of cause ≡ 1) ⊎ ((code_of cause ≡ 8) ⊎ (code_of cause ≡ 12))) }
 {}

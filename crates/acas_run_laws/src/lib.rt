@@ -11,10 +11,13 @@ mod folder;
 mod line;
 mod memory;
 mod numbers;
+mod once;
 mod outcomes;
 mod outside;
 mod quiet;
+mod reading;
 mod reports;
+mod taken;
 mod texts;
 mod two_runs;
 mod verdicts;
@@ -43,6 +46,7 @@ pub use numbers::{
     counts_stand_at_their_end, millionths_have_six_digits, missing_places_are_counted_once,
     parts_go_from_0_up, tables_are_too_long_by_one_byte, texts_have_the_length_of_their_shape,
 };
+pub use once::files_are_read_once;
 pub use outcomes::{
     done_runs_agree, done_runs_end_as_called_for, failed_outputs_hold_a_part, outcomes_are_one,
 };
@@ -55,11 +59,13 @@ pub use outside::{
 pub use quiet::{
     forms_are_not_refused_as_words, refused_runs_print_nothing, refused_words_change_nothing,
 };
+pub use reading::tables_are_taken_once;
 pub use reports::{
     audits_print_their_report, drills_print_their_counts, files_beside_a_model_say_what_they_hold,
     manoeuvres_print_their_report, regions_print_their_report, replays_print_their_course,
     reports_end_by_what_they_report, safeable_prints_what_is_found,
 };
+pub use taken::files_taken_once_give_their_bytes;
 pub use texts::{lines_say_how_large_a_table_is, states_are_said_in_feet};
 pub use two_runs::{
     accepted_tables_are_audited, migrated_tables_are_accepted, migrating_again_changes_no_byte,
@@ -70,7 +76,10 @@ pub use words::{
     forms_are_of_their_words, forms_have_their_numbers, forms_name_files,
     nothing_is_written_over_what_is_read, words_have_their_forms,
 };
-pub use work::{done_runs_are_counted, what_is_not_named_is_not_counted};
+pub use work::{
+    done_runs_are_counted, refused_runs_count_nothing, what_is_not_named_is_not_counted,
+    work_is_counted_over_every_folder,
+};
 pub use worth::{
     check_accepts_a_sound_table, compile_stores_a_tight_table, files_say_what_they_hold,
     migrate_stores_the_same_table, only_reports_report, other_words_end_with_2,

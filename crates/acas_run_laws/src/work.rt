@@ -1,8 +1,9 @@
 //! What a run counts.
-ghost use Rattle.std.specs.Prelude.{◌≡◌, ◌⊎◌, ◌+◌, ℕ, List, Option, Some, None};
+ghost use Rattle.std.specs.Prelude.{◌≡◌, ◌≢◌, ◌⊎◌, ◌+◌, ℕ, List, Option, Some, None};
 ghost use Rattle.std.specs.FinMap.{get};
+ghost use Rattle.acas_spec.specs.Limits.{IsModel};
 ghost use Rattle.acas_spec.specs.Model.{ModelData, entries};
-ghost use Rattle.acas_base.specs.Advices.{AdvicesData};
+ghost use Rattle.acas_base.specs.Advices.{AdvicesData, AreAdvicesOf};
 ghost use Rattle.acas_outside.specs.Files.{Files};
 ghost use Rattle.acas_audit_blocks.specs.Decisions.{AreAuditsDecisions};
 ghost use Rattle.acas_report_lines.specs.declared.counts.Which.{Which};
@@ -74,4 +75,41 @@ pub fn done_runs_are_counted()
         → (code_of cause ≡ 0) ⊎ (code_of cause ≡ 1)
         → (m : ModelData) × (advices : AdvicesData) × IsTableOf model table files m advices
         × (number : ℕ) × AreAuditsDecisions m advices number × (new.decisions ≡ old.decisions + number) }
+{}
+
+/// Over every folder, told or not, a run that ends with the exit code 0 has counted the whole of some model within its limits: `values`
+/// and `compile` the backups and the entries of its table, and an audit, with 1 too, the decisions of its cells under some advices.
+pub fn work_is_counted_over_every_folder()
+    ensures values { (model : List ℕ) (holds : Option Files) (cause : Cause) (old new : Work)
+        → CountsForm (Some (Values model)) holds cause old new → code_of cause ≡ 0
+        → (m : ModelData) × IsModel m
+        × (new.backups ≡ old.backups + backup_count m) × (new.turned ≡ old.turned + entries m.grid) }
+    ensures compile { (model table : List ℕ) (holds : Option Files) (cause : Cause) (old new : Work)
+        → CountsForm (Some (Compile model table)) holds cause old new → code_of cause ≡ 0
+        → (m : ModelData) × IsModel m
+        × (new.backups ≡ old.backups + backup_count m) × (new.turned ≡ old.turned + entries m.grid) }
+    ensures audit { (model table : List ℕ) (which : Which) (holds : Option Files) (cause : Cause)
+        (old new : Work)
+        → CountsForm (Some (Audit model table which)) holds cause old new
+        → (code_of cause ≡ 0) ⊎ (code_of cause ≡ 1)
+        → (m : ModelData) × (advices : AdvicesData) × IsModel m × AreAdvicesOf m advices
+        × (number : ℕ) × AreAuditsDecisions m advices number × (new.decisions ≡ old.decisions + number) }
+{}
+
+/// A run that a file refuses, or that ends for want of memory, has counted nothing, over every folder: with every exit code but 0, 1, 2
+/// and 8, and with `compile` but 7, all three counts are as they were.
+pub fn refused_runs_count_nothing()
+    ensures values { (model : List ℕ) (holds : Option Files) (cause : Cause) (old new : Work)
+        → CountsForm (Some (Values model)) holds cause old new
+        → code_of cause ≢ 0 → code_of cause ≢ 1 → code_of cause ≢ 2 → code_of cause ≢ 8
+        → (new.backups ≡ old.backups) × (new.turned ≡ old.turned) × (new.decisions ≡ old.decisions) }
+    ensures compile { (model table : List ℕ) (holds : Option Files) (cause : Cause) (old new : Work)
+        → CountsForm (Some (Compile model table)) holds cause old new → code_of cause ≢ 7
+        → code_of cause ≢ 0 → code_of cause ≢ 1 → code_of cause ≢ 2 → code_of cause ≢ 8
+        → (new.backups ≡ old.backups) × (new.turned ≡ old.turned) × (new.decisions ≡ old.decisions) }
+    ensures audit { (model table : List ℕ) (which : Which) (holds : Option Files) (cause : Cause)
+        (old new : Work)
+        → CountsForm (Some (Audit model table which)) holds cause old new
+        → code_of cause ≢ 0 → code_of cause ≢ 1 → code_of cause ≢ 2 → code_of cause ≢ 8
+        → (new.backups ≡ old.backups) × (new.turned ≡ old.turned) × (new.decisions ≡ old.decisions) }
 {}

@@ -1,7 +1,7 @@
 use Rattle.std.proofs.Common.{ap}
 use Rattle.acas_outside.specs.Outside.{Outside}
 use Rattle.acas_run_laws.proofs.Causes.{may_print-code}
-use Rattle.acas_run_laws.proofs.DrillsAlone.{drill-begun, drill-printed}
+use Rattle.acas_run_laws.proofs.DrillsAlone.{drill-begun, drill-codes, drill-printed}
 use Rattle.acas_run_laws.proofs.drills.drills_need_no_folder.Goals as goal
 
 pub returns : goal.returns
@@ -18,4 +18,5 @@ returns c = record {
   cut = λ number before after a.
       let b = drill-begun number before after a in
       (b.reported, b.text, b.drilled, b.part.count, b.part.proper, b.part.appended);
+  ends = λ number cause before after a. drill-codes cause a.ends;
 }
